@@ -1,0 +1,4 @@
+pub mod Value
+pub mod Steps
+pub mod Words
+pub mod Examples

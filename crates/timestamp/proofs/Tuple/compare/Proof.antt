@@ -1,0 +1,22 @@
+-- `Tuple::compare` answers what the order of tuples says: sites, the higher one first, then counts.
+use mathlib.Core.Path.{ap₂, _∙_}
+use Rattle.timestamp.specs.Order.{thenBy, pairOrder}
+use borrow.Author.Needs.{needs}
+use Rattle.timestamp.proofs.Tuple.compare.Statement.{statement}
+use Rattle.timestamp.proofs.Tuple.compare.Tie as tie
+
+number-order-requires : tie.Need-number-order-requires
+number-order-requires c κs = search needs
+
+compare-requires : tie.Need-compare-requires
+compare-requires c κs = search needs
+
+then-by-requires : tie.Need-then-by-requires
+then-by-requires c κs = search needs
+
+returns : tie.Need-returns
+unfolding pairOrder
+returns c = c .then-by .ensures ∙ ap₂ thenBy (c .before .before .before .before .number-order .ensures) (c .before .compare .ensures)
+
+pub compare-spec : {M : Type 1} → statement M
+compare-spec = tie.close (tie.spec number-order-requires compare-requires then-by-requires returns)

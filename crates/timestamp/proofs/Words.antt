@@ -1,0 +1,34 @@
+-- A timestamp in words: what is read from them, what is written, and that one undoes the other.
+use mathlib.Core.Path.{_≡_, refl, sym, ap, ap₂, _∙_}
+use mathlib.Core.List.{List, [], _∷_, map}
+use Prim.Native.Nat.{ℕ, _+_, _≤_}
+use native.Mathlib.Omega.{arith}
+use lib.ListN.{length, getD, take}
+use Rattle.words.specs.Words.{overlaid}
+use Rattle.words.proofs.Walks.{spell, spelled, map-take, overlaid-same}
+use Rattle.timestamp.specs.declared.Tuple.{Tuple}
+use Rattle.timestamp.specs.declared.Epoch.{Epoch}
+use Rattle.timestamp.specs.declared.Timestamp.{Timestamp}
+use Rattle.timestamp.specs.Timestamp.{Pair, Stamp, pairOf, stampOf, none, room}
+use Rattle.timestamp.specs.InWords.{pairAt, pairsAt, stampIn, wordsFrom, stampWords, stampSize}
+
+-- ---- read
+pub in-law : (w : List ℕ) (e : Epoch) (len : ℕ) (l : List Tuple) → e .0 ≡ getD w 0 0 → len ≡ getD w 1 0 → map pairOf l ≡ pairsAt w 2 room
+    → stampOf (record { epoch = e; len = len; tuples = l }) ≡ stampIn w
+unfolding stampIn
+in-law w e len l p q r =
+    ap₂ (λ (a : ℕ) (ps : List Pair). record { epoch = a; tuples = ps }) p (map-take pairOf len l ∙ ap₂ (λ (n : ℕ) (ps : List Pair). take n ps) q r)
+
+-- ---- written
+pub words-length : (s : Stamp) → length (stampWords s) ≡ stampSize
+unfolding stampWords
+words-length s = refl
+
+-- what was written is read back
+pub words-back : (s : Stamp) → length (s .tuples) ≤ room → stampIn (stampWords s) ≡ s
+unfolding stampIn stampWords
+words-back s h = ap (λ (ps : List Pair). record { epoch = s .epoch; tuples = ps }) (spelled none room (s .tuples) h)
+
+-- also from the slice that it was written to
+pub written-back : (w : List ℕ) (s : Stamp) → length w ≡ stampSize → length (s .tuples) ≤ room → stampIn (overlaid w (stampWords s)) ≡ s
+written-back w s size h = ap stampIn (overlaid-same w (stampWords s) (words-length s ∙ sym size)) ∙ words-back s h

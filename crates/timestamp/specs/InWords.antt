@@ -1,0 +1,30 @@
+-- A timestamp in 18 words: its epoch, how many tuples it has, and eight places of site and count.
+use mathlib.Core.List.{List, [], _∷_}
+use Prim.Native.Nat.{ℕ, zero, suc, _+_, _*_}
+use lib.ListN.{length, take, getD}
+use Rattle.timestamp.specs.Timestamp.{Pair, Stamp, none, room}
+
+abbrev pub stampSize : ℕ
+stampSize = 2 + 2 * room
+
+-- ---- read
+-- the tuple whose words start at a place
+abbrev pub pairAt : List ℕ → ℕ → Pair
+pairAt w at = record { site = getD w at 0; count = getD w (at + 1) 0 }
+
+-- n tuples, one after another from a place on
+abbrev pub pairsAt : List ℕ → ℕ → ℕ → List Pair
+pairsAt w at zero = []
+pairsAt w at (suc n) = pairAt w at ∷ pairsAt w (at + 2) n
+
+unfoldable pub stampIn : List ℕ → Stamp
+stampIn w = record { epoch = getD w 0 0; tuples = take (getD w 1 0) (pairsAt w 2 room) }
+
+-- ---- written
+-- the words of n tuples from number i on, zeros where there is none
+abbrev pub wordsFrom : List Pair → ℕ → ℕ → List ℕ
+wordsFrom ps i zero = []
+wordsFrom ps i (suc n) = getD ps i none .site ∷ (getD ps i none .count ∷ wordsFrom ps (suc i) n)
+
+unfoldable pub stampWords : Stamp → List ℕ
+stampWords s = s .epoch ∷ (length (s .tuples) ∷ wordsFrom (s .tuples) 0 room)

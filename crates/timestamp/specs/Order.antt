@@ -1,0 +1,41 @@
+-- The order of timestamps: Definition 3.3, with epochs.
+use mathlib.Core.Path.{_≡_}
+use mathlib.Core.Bool.{cond}
+use mathlib.Core.List.{List, [], _∷_}
+use Prim.Native.Nat.{ℕ, _<_}
+use lib.Dec.{ltb}
+use Rattle.timestamp.specs.declared.Order.{Order}
+use Rattle.timestamp.specs.declared.Order.the-variants.{Earlier, Equal, Later}
+use Rattle.timestamp.specs.Timestamp.{Pair, Stamp}
+
+-- the first comparison decides; where it finds no difference, the second
+abbrev pub thenBy : Order → Order → Order
+thenBy Earlier second = Earlier
+thenBy Equal second = second
+thenBy Later second = Later
+
+-- the lower number is earlier
+unfoldable pub numberOrder : ℕ → ℕ → Order
+numberOrder m n = cond (ltb m n) Earlier (cond (ltb n m) Later Equal)
+
+-- the HIGHER site is earlier; for the same site the lower count. A site's rank is its `place`.
+unfoldable pub pairOrder : (ℕ → ℕ) → Pair → Pair → Order
+pairOrder place x y = thenBy (numberOrder (place (y .site)) (place (x .site))) (numberOrder (x .count) (y .count))
+
+-- a proper prefix is earlier; else the first differing tuple decides
+unfoldable pub tuplesOrder : (ℕ → ℕ) → List Pair → List Pair → Order
+tuplesOrder place [] [] = Equal
+tuplesOrder place [] (y ∷ ys) = Earlier
+tuplesOrder place (x ∷ xs) [] = Later
+tuplesOrder place (x ∷ xs) (y ∷ ys) = thenBy (pairOrder place x y) (tuplesOrder place xs ys)
+
+-- the lower epoch is earlier; with equal epochs the tuples decide
+unfoldable pub orderBy : (ℕ → ℕ) → Stamp → Stamp → Order
+orderBy place a b = thenBy (numberOrder (a .epoch) (b .epoch)) (tuplesOrder place (a .tuples) (b .tuples))
+
+-- a site's place is its number
+abbrev pub byNumber : ℕ → ℕ
+byNumber n = n
+
+abbrev pub order : Stamp → Stamp → Order
+order a b = orderBy byNumber a b

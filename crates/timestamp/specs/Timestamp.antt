@@ -1,0 +1,69 @@
+-- What a timestamp is, an epoch and a list of tuples of site and count, and the three ways to make a new one of it.
+use mathlib.Core.Bool.{cond}
+use mathlib.Core.List.{List, [], _∷_, _++_, map}
+use Prim.Native.Nat.{ℕ, _+_}
+use lib.ListN.{length, take}
+use lib.Dec.{ltb}
+use Rattle.timestamp.specs.declared.Tuple.{Tuple}
+use Rattle.timestamp.specs.declared.Timestamp.{Timestamp}
+
+-- a tuple of a timestamp
+pub record Pair : Type 0 where
+  pub site : ℕ
+  pub count : ℕ
+
+-- a timestamp
+pub record Stamp : Type 0 where
+  pub epoch : ℕ
+  pub tuples : List Pair
+
+-- ---- what the values of the code mean: of eight places the first `len` are tuples, all eight where `len` is more
+abbrev pub pairOf : Tuple → Pair
+pairOf t = record { site = t .site; count = t .count .0 }
+
+abbrev pub stampOf : Timestamp → Stamp
+stampOf t = record { epoch = t .epoch .0; tuples = map pairOf (take (t .len) (t .tuples)) }
+
+-- ---- the most tuples that a value holds, and the largest count
+abbrev pub room : ℕ
+room = 8
+
+abbrev pub greatest : ℕ
+greatest = 4294967295
+
+-- what stands where there is no tuple
+abbrev pub none : Pair
+none = record { site = 0; count = 0 }
+
+-- ---- another epoch
+abbrev pub withEpoch : Stamp → ℕ → Stamp
+withEpoch s e = record { epoch = e; tuples = s .tuples }
+
+-- ---- a tuple added at the end
+abbrev pub appended : Stamp → ℕ → ℕ → Stamp
+appended s j c = record { epoch = s .epoch; tuples = s .tuples ++ (record { site = j; count = c } ∷ []) }
+
+-- at the edge: a value that has eight tuples stays as it is
+unfoldable pub appendedOrSame : Stamp → ℕ → ℕ → Stamp
+appendedOrSame s j c = cond (ltb (length (s .tuples)) room) (appended s j c) s
+
+-- ---- the own count, which is that of the last tuple, one higher
+abbrev pub lastCount : List Pair → ℕ
+lastCount [] = 0
+lastCount (x ∷ []) = x .count
+lastCount (x ∷ (y ∷ ys)) = lastCount (y ∷ ys)
+
+abbrev pub ownCount : Stamp → ℕ
+ownCount s = lastCount (s .tuples)
+
+abbrev pub raisedLast : List Pair → List Pair
+raisedLast [] = []
+raisedLast (x ∷ []) = record { site = x .site; count = x .count + 1 } ∷ []
+raisedLast (x ∷ (y ∷ ys)) = x ∷ raisedLast (y ∷ ys)
+
+abbrev pub raised : Stamp → Stamp
+raised s = record { epoch = s .epoch; tuples = raisedLast (s .tuples) }
+
+-- at the edge: the largest count stays as it is (and a timestamp without tuples has none to raise)
+unfoldable pub raisedOrSame : Stamp → Stamp
+raisedOrSame s = cond (ltb (ownCount s) greatest) (raised s) s

@@ -1,0 +1,4 @@
+pub mod Parts
+pub mod Chunks
+pub mod Walks
+pub mod Signed

@@ -1,0 +1,31 @@
+-- Lists of words: parts of them, chunks of one size, and what copying and moving words leaves.
+use mathlib.Core.Bool.{Bool, true, _&&_}
+use mathlib.Core.List.{List, [], _∷_, _++_}
+use Prim.Native.Nat.{ℕ, zero, suc, _-_}
+use lib.ListN.{take, drop, length}
+
+-- n words from a place on
+abbrev pub part : List ℕ → ℕ → ℕ → List ℕ
+part w at n = take n (drop at w)
+
+-- the words with the n from a place on replaced by ys
+abbrev pub put : List ℕ → ℕ → ℕ → List ℕ → List ℕ
+put w at n ys = take at w ++ (ys ++ drop n (drop at w))
+
+-- the first k chunks of m words each
+unfoldable pub chunks : ℕ → ℕ → List ℕ → List (List ℕ)
+chunks m zero w = []
+chunks m (suc k) w = take m w ∷ chunks m k (drop m w)
+
+-- the words with ys over the front of them, as far as both reach
+abbrev pub overlaid : List ℕ → List ℕ → List ℕ
+overlaid w ys = take (length w) ys ++ drop (length ys) w
+
+-- every word k places further to the front; the last k stay as they are
+abbrev pub shifted : List ℕ → ℕ → List ℕ
+shifted w k = drop k w ++ drop (length w - k) w
+
+-- each element passes the test
+abbrev pub every : {A : Type 0} → (A → Bool) → List A → Bool
+every p [] = true
+every p (x ∷ xs) = p x && every p xs
