@@ -1,4 +1,6 @@
 pub mod Value
 pub mod Steps
+pub mod Comparisons
+pub mod OrderLaws
 pub mod Words
 pub mod Examples

@@ -1,6 +1,6 @@
 -- The order of timestamps: Definition 3.3, with epochs.
 use mathlib.Core.Path.{_≡_}
-use mathlib.Core.Bool.{cond}
+use mathlib.Core.Bool.{Bool, true, false, cond}
 use mathlib.Core.List.{List, [], _∷_}
 use Prim.Native.Nat.{ℕ, _<_}
 use lib.Dec.{ltb}
@@ -39,3 +39,20 @@ byNumber n = n
 
 abbrev pub order : Stamp → Stamp → Order
 order a b = orderBy byNumber a b
+
+-- ---- earlier, and not later: the two relations that everything above speaks of
+abbrev pub notLater : Order → Bool
+notLater Earlier = true
+notLater Equal = true
+notLater Later = false
+
+abbrev pub IsEarlier : (ℕ → ℕ) → Stamp → Stamp → Type 0
+IsEarlier place s t = orderBy place s t ≡ Earlier
+
+abbrev pub NotLater : (ℕ → ℕ) → Stamp → Stamp → Type 0
+NotLater place s t = notLater (orderBy place s t) ≡ true
+
+-- every site of the list stands before j
+abbrev pub Below : (ℕ → ℕ) → ℕ → List Pair → Type 0
+Below place j [] = Unit {0}
+Below place j (x ∷ xs) = (place (x .site) < place j) × Below place j xs
