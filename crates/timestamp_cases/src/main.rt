@@ -1,0 +1,132 @@
+// Cases of the timestamp layer, run: the printed comparisons, the edges of each method, a value with an odd length field.
+use libc::STDOUT_FILENO;
+use timestamp::Count;
+use timestamp::Epoch;
+use timestamp::Order;
+use timestamp::Timestamp;
+use timestamp::Tuple;
+
+fn main() {
+    let start = Timestamp {
+        epoch: Epoch(0),
+        len: 0,
+        tuples: [Tuple {
+            site: 9,
+            count: Count(9),
+        }; 8],
+    };
+    let a = start.append(1, Count(1));
+    comparisons(a);
+    epochs(a);
+    edges(start);
+    odd_lengths(start);
+    words_and_back(a);
+}
+
+// The three comparisons printed under Definition 3.3, each in both directions.
+fn comparisons(a: Timestamp) {
+    let b = a.append(2, Count(1));
+    let c = a.append(3, Count(1));
+    let d = a.append(2, Count(2));
+    compared(a, b);
+    compared(c, b);
+    compared(b, d);
+}
+
+// A lower epoch is earlier, whatever the tuples.
+fn epochs(a: Timestamp) {
+    let low = a.append(2, Count(7));
+    let high = a.at_epoch(Epoch(4294967295));
+    compared(low, high);
+}
+
+// No tuple to raise, the largest count, and a ninth tuple: the value as it was.
+fn edges(start: Timestamp) {
+    show(start.raise());
+    let top = start.append(5, Count(4294967294));
+    show(top);
+    show(top.raise());
+    show(top.raise().raise());
+    let four = start
+        .append(0, Count(1))
+        .append(1, Count(2))
+        .append(2, Count(3))
+        .append(3, Count(4));
+    let eight = four.append(4, Count(5))
+        .append(5, Count(6))
+        .append(6, Count(7))
+        .append(7, Count(8));
+    show(eight);
+    show(eight.append(8, Count(9)));
+    show(eight.raise());
+}
+
+// What stands in unused places, and a length field above eight, make no difference.
+fn odd_lengths(start: Timestamp) {
+    let mut long = start;
+    long.len = 77;
+    let mut full = start;
+    full.len = 8;
+    compared(long, full);
+    show(long.raise());
+    let mut other = start;
+    other.tuples = [Tuple {
+        site: 1,
+        count: Count(2),
+    }; 8];
+    compared(start, other);
+}
+
+// A timestamp written to words, read again, and read from too few words.
+fn words_and_back(a: Timestamp) {
+    let b = a.append(2, Count(4294967295)).at_epoch(Epoch(3));
+    let mut w = [7u32; 18];
+    b.write_to(&mut w);
+    show(timestamp::from_words(&w));
+    let few = [3u32, 2, 1];
+    show(timestamp::from_words(&few));
+    compared(timestamp::from_words(&w), b);
+}
+
+// What the comparison finds, in both directions.
+fn compared(s: Timestamp, t: Timestamp) {
+    verdict(s.compare(t));
+    io::write_all(STDOUT_FILENO, b" ");
+    verdict(t.compare(s));
+    io::write_all(STDOUT_FILENO, b"\n");
+}
+
+fn verdict(o: Order) {
+    match o {
+        Order::Earlier => {
+            io::write_all(STDOUT_FILENO, b"earlier");
+        }
+        Order::Equal => {
+            io::write_all(STDOUT_FILENO, b"equal");
+        }
+        Order::Later => {
+            io::write_all(STDOUT_FILENO, b"later");
+        }
+    }
+}
+
+// The epoch, then each tuple as site.count.
+fn show(t: Timestamp) {
+    let e = t.epoch;
+    number(e.0);
+    let n = t.size();
+    let mut i = 0;
+    while i < n {
+        io::write_all(STDOUT_FILENO, b" ");
+        let x = t.tuple(i);
+        number(x.site);
+        io::write_all(STDOUT_FILENO, b".");
+        number(x.count.0);
+        i += 1;
+    }
+    io::write_all(STDOUT_FILENO, b"\n");
+}
+
+fn number(n: u32) {
+    io::print_decimal(STDOUT_FILENO, n as u64);
+}
