@@ -11,7 +11,7 @@ use borrow.Author.Tests.{lt-ltb, le-ltb}
 use Rattle.words.proofs.Walks.{take-min}
 use Rattle.timestamp.specs.declared.Tuple.{Tuple}
 use Rattle.timestamp.specs.declared.Epoch.{Epoch}
-use Rattle.timestamp.specs.Timestamp.{Pair, Stamp, pairOf, stampOf, none, room, greatest, appended, appendedOrSame, lastCount, ownCount, raisedLast, raised, raisedOrSame}
+use Rattle.timestamp.specs.Timestamp.{Pair, Stamp, pairOf, stampOf, none, room, greatest, appended, appendedOrSame, lastPair, ownCount, raisedLast, raised, raisedOrSame}
 
 -- the tuples of the first n places
 abbrev pub pairs : ℕ → List Tuple → List Pair
@@ -21,15 +21,15 @@ abbrev pub noTuple : Tuple
 noTuple = record { site = 0; count = record { 0 = 0 } }
 
 -- ---- laws of the definitions
--- the last count is that of the last place
-pub last-at : (ps : List Pair) → lastCount ps ≡ getD ps (length ps - 1) none .count
+-- the last tuple stands at the last place
+pub last-at : (ps : List Pair) → lastPair ps ≡ getD ps (length ps - 1) none
 last-at [] = refl
 last-at (x ∷ []) = refl
 last-at (x ∷ (y ∷ ys)) =
     let e : suc (suc (length ys) - 1) ≡ suc (suc (length ys)) - 1 = omega arith in
-    last-at (y ∷ ys) ∙ ap (λ (k : ℕ). getD (x ∷ (y ∷ ys)) k none .count) e
+    last-at (y ∷ ys) ∙ ap (λ (k : ℕ). getD (x ∷ (y ∷ ys)) k none) e
 
-pub last-snoc : (ps : List Pair) (p : Pair) → lastCount (ps ++ (p ∷ [])) ≡ p .count
+pub last-snoc : (ps : List Pair) (p : Pair) → lastPair (ps ++ (p ∷ [])) ≡ p
 last-snoc [] p = refl
 last-snoc (x ∷ []) p = refl
 last-snoc (x ∷ (y ∷ ys)) p = last-snoc (y ∷ ys) p
@@ -72,16 +72,13 @@ module _ (e : Epoch) (l : List Tuple) (len : ℕ) (eight : length l ≡ 8) where
   pub past-law : (i : ℕ) → min len room ≤ i → none ≡ getD (pairs len l) i none
   past-law i h = sym (List·getD-eq-default (pairs len l) none {n = i} (omega (arith, size-law)))
 
-  pub own-law : (n : ℕ) → n ≡ min len room → (n ≡ 0 → ⊥) → getD l (n - 1) noTuple .count .0 ≡ lastCount (pairs len l)
+  pub own-law : (n : ℕ) → n ≡ min len room → (n ≡ 0 → ⊥) → pairOf (getD l (n - 1) noTuple) ≡ lastPair (pairs len l)
   own-law n f z =
       let g : length (pairs len l) - 1 ≡ n - 1 = omega (arith, size-law) in
-      ap (λ (p : Pair). p .count) (tuple-law (n - 1) (omega arith))
-      ∙ ap (λ (k : ℕ). getD (pairs len l) k none .count) (sym g)
-      ∙ sym (last-at (pairs len l))
+      tuple-law (n - 1) (omega arith) ∙ ap (λ (k : ℕ). getD (pairs len l) k none) (sym g) ∙ sym (last-at (pairs len l))
 
-  pub no-own-law : min len room ≡ 0 → 0 ≡ lastCount (pairs len l)
-  no-own-law z =
-      ap (λ (p : Pair). p .count) (past-law (length (pairs len l) - 1) (omega arith)) ∙ sym (last-at (pairs len l))
+  pub no-own-law : min len room ≡ 0 → none ≡ lastPair (pairs len l)
+  no-own-law z = past-law (length (pairs len l) - 1) (omega arith) ∙ sym (last-at (pairs len l))
 
   pub append-law : (n : ℕ) (x : Tuple) → n ≡ min len room → n < 8 → stampOf (record { epoch = e; len = n + 1; tuples = set l n x }) ≡ appendedOrSame value (x .site) (x .count .0)
   append-law n x f h =
@@ -125,14 +122,14 @@ module _ (e : Epoch) (l : List Tuple) (len : ℕ) (eight : length l ≡ 8) (n : 
       ∙ raise-list l k (omega arith)
       ∙ ap (λ (i : ℕ). raisedLast (pairs i l)) (sym s)
       ∙ ap raisedLast (sym (pairs-min len l eight)))
-      ∙ sym (raise-room (value e l len eight) (omega (arith, own-law e l len eight n f z)))
+      ∙ sym (raise-room (value e l len eight) (omega (arith, ap (λ (p : Pair). p .count) (own-law e l len eight n f z))))
 
   pub raise-full-law : (n ≡ 0 → ⊥) → greatest ≤ getD l (n - 1) noTuple .count .0 → value e l len eight ≡ raisedOrSame (value e l len eight)
-  raise-full-law z h = sym (raise-full (value e l len eight) (omega (arith, own-law e l len eight n f z)))
+  raise-full-law z h = sym (raise-full (value e l len eight) (omega (arith, ap (λ (p : Pair). p .count) (own-law e l len eight n f z))))
 
   -- no tuple to raise
   pub raise-none-law : n ≡ 0 → value e l len eight ≡ raisedOrSame (value e l len eight)
   raise-none-law z =
       let nil : pairs len l ≡ [] = pairs-min len l eight ∙ ap (λ (i : ℕ). pairs i l) (sym f ∙ z) in
       ap (λ (ps : List Pair). record { epoch = e .0; tuples = ps }) (nil ∙ ap raisedLast (sym nil))
-      ∙ sym (raise-room (value e l len eight) (omega (arith, no-own-law e l len eight (omega arith))))
+      ∙ sym (raise-room (value e l len eight) (omega (arith, ap (λ (p : Pair). p .count) (no-own-law e l len eight (omega arith)))))

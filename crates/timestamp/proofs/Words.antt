@@ -1,9 +1,10 @@
 -- A timestamp in words: what is read from them, what is written, and that one undoes the other.
 use mathlib.Core.Path.{_≡_, refl, sym, ap, ap₂, _∙_}
 use mathlib.Core.List.{List, [], _∷_, map}
-use Prim.Native.Nat.{ℕ, _+_, _≤_}
+use Prim.Native.Nat.{ℕ, zero, suc, _+_, _*_, _≤_}
 use native.Mathlib.Omega.{arith}
 use lib.ListN.{length, getD, take}
+use lib.Seq.{getD-take}
 use Rattle.words.specs.Words.{overlaid}
 use Rattle.words.proofs.Walks.{spell, spelled, map-take, overlaid-same}
 use Rattle.timestamp.specs.declared.Tuple.{Tuple}
@@ -18,6 +19,20 @@ pub in-law : (w : List ℕ) (e : Epoch) (len : ℕ) (l : List Tuple) → e .0 �
 unfolding stampIn
 in-law w e len l p q r =
     ap₂ (λ (a : ℕ) (ps : List Pair). record { epoch = a; tuples = ps }) p (map-take pairOf len l ∙ ap₂ (λ (n : ℕ) (ps : List Pair). take n ps) q r)
+
+-- only the first 18 words count
+pairs-front : (w : List ℕ) (at n k : ℕ) → at + 2 * n ≤ k → pairsAt (take k w) at n ≡ pairsAt w at n
+pairs-front w at zero k h = refl
+pairs-front w at (suc n) k h =
+    ap₂ {C = List Pair} (λ p ps. p ∷ ps)
+    (ap₂ (λ (a b : ℕ). record { site = a; count = b }) (getD-take k w at 0 (omega arith)) (getD-take k w (at + 1) 0 (omega arith)))
+    (pairs-front w (at + 2) n k (omega arith))
+
+pub stamp-front : (w : List ℕ) → stampIn (take stampSize w) ≡ stampIn w
+unfolding stampIn
+stamp-front w =
+    ap₂ (λ (a : ℕ) (ps : List Pair). record { epoch = a; tuples = ps }) (getD-take stampSize w 0 0 (omega arith))
+    (ap₂ (λ (n : ℕ) (ps : List Pair). take n ps) (getD-take stampSize w 1 0 (omega arith)) (pairs-front w 2 room stampSize (omega arith)))
 
 -- ---- written
 pub words-length : (s : Stamp) → length (stampWords s) ≡ stampSize

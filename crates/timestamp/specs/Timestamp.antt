@@ -47,14 +47,18 @@ appended s j c = record { epoch = s .epoch; tuples = s .tuples ++ (record { site
 unfoldable pub appendedOrSame : Stamp → ℕ → ℕ → Stamp
 appendedOrSame s j c = cond (ltb (length (s .tuples)) room) (appended s j c) s
 
--- ---- the own count, which is that of the last tuple, one higher
-abbrev pub lastCount : List Pair → ℕ
-lastCount [] = 0
-lastCount (x ∷ []) = x .count
-lastCount (x ∷ (y ∷ ys)) = lastCount (y ∷ ys)
+-- ---- the own tuple, which is the last one, and its count one higher
+abbrev pub lastPair : List Pair → Pair
+lastPair [] = none
+lastPair (x ∷ []) = x
+lastPair (x ∷ (y ∷ ys)) = lastPair (y ∷ ys)
+
+-- the site whose timestamp it is, and its count
+abbrev pub ownSite : Stamp → ℕ
+ownSite s = lastPair (s .tuples) .site
 
 abbrev pub ownCount : Stamp → ℕ
-ownCount s = lastCount (s .tuples)
+ownCount s = lastPair (s .tuples) .count
 
 abbrev pub raisedLast : List Pair → List Pair
 raisedLast [] = []

@@ -5,7 +5,8 @@ use crate::Timestamp;
 use crate::Tuple;
 ghost use mathlib.Core.Path.{_≡_};
 ghost use mathlib.Core.List.{map};
-ghost use Prim.Native.Nat.{_<_};
+ghost use Prim.Native.Nat.{_<_, _≤_};
+ghost use lib.ListN.{length};
 ghost use Rattle.words.specs.Words.{overlaid};
 ghost use Rattle.timestamp.specs.Timestamp.{stampOf, pairOf, room};
 ghost use Rattle.timestamp.specs.InWords.{stampIn, stampWords, pairAt, pairsAt, stampSize};
@@ -24,7 +25,7 @@ pub fn from_words(w: &[u32]) -> Timestamp
 impl Timestamp {
     // The words of a timestamp; the places past its last tuple are 0.
     pub fn to_words(self) -> [u32; 18]
-        ensures { λ r. ⌜ r ≡ stampWords (stampOf self) ⌝ }
+        ensures { λ r. ⌜ (r ≡ stampWords (stampOf self)) × (length (stampOf self .tuples) ≤ room) ⌝ }
     {
         let a = self.tuple(0);
         let b = self.tuple(1);
@@ -58,7 +59,7 @@ impl Timestamp {
 
     // The words of a timestamp over the front of a slice, as far as it reaches.
     pub fn write_to(self, w: &mut [u32])
-        ensures { λ r. ⌜ now (w .exit) ≡ overlaid (now (w .entry)) (stampWords (stampOf self)) ⌝ }
+        ensures { λ r. ⌜ (now (w .exit) ≡ overlaid (now (w .entry)) (stampWords (stampOf self))) × (length (stampOf self .tuples) ≤ room) ⌝ }
     {
         let a = self.to_words();
         words::copy(w, &a);

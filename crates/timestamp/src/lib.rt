@@ -6,7 +6,7 @@ pub use in_words::from_words;
 ghost use mathlib.Core.Path.{_≡_};
 ghost use Prim.Native.Nat.{min, _≤_};
 ghost use lib.ListN.{length, getD};
-ghost use Rattle.timestamp.specs.Timestamp.{stampOf, pairOf, none, withEpoch, appendedOrSame, raisedOrSame, ownCount, room};
+ghost use Rattle.timestamp.specs.Timestamp.{stampOf, pairOf, none, withEpoch, appendedOrSame, raisedOrSame, lastPair, room};
 
 // An epoch number. It is a type of its own, so that no count is compared with it.
 pub struct Epoch(pub u32);
@@ -54,16 +54,18 @@ impl Timestamp {
         }
     }
 
-    // The count of the last tuple, which is that of the site itself; 0 where there is none.
-    pub fn own_count(self) -> Count
-        ensures { λ r. ⌜ r .0 ≡ ownCount (stampOf self) ⌝ }
+    // The last tuple, which is that of the site itself; zeros where there is none.
+    pub fn own(self) -> Tuple
+        ensures { λ r. ⌜ pairOf r ≡ lastPair (stampOf self .tuples) ⌝ }
     {
         let n = used(self.len);
         if n == 0 {
-            return Count(0);
+            return Tuple {
+                site: 0,
+                count: Count(0),
+            };
         }
-        let last = self.tuples[n - 1];
-        last.count
+        self.tuples[n - 1]
     }
 
     // The same tuples in another epoch.

@@ -61,3 +61,24 @@ unfolding chunks
 chunks-shift m k w h =
     let g : length w ≡ k * m + m = h ∙ suc-mul k m in
     chunks-snoc m k (drop m w) (drop (length w - m) w) (omega (arith, length-drop m w)) (omega (arith, length-drop (length w - m) w))
+
+-- the last of some chunks, behind the others
+pub chunks-last : (m k : ℕ) (w : List ℕ) → chunks m (suc k) w ≡ chunks m k w ++ (part w (k * m) m ∷ [])
+unfolding chunks
+chunks-last m zero w = ap (λ (j : ℕ). take m (drop j w) ∷ []) (sym (zero-mul m))
+chunks-last m (suc k) w =
+    let e : m + k * m ≡ suc k * m = simp suc-mul (omega arith) in
+    ap (λ (x : List (List ℕ)). take m w ∷ x) (chunks-last m k (drop m w))
+    ∙ ap (λ (x : List ℕ). take m w ∷ (chunks m k (drop m w) ++ (x ∷ []))) (ap (take m) (drop-drop (k * m) m w ∙ ap (λ (j : ℕ). drop j w) e))
+
+-- what is put behind some chunks leaves them as they are
+pub chunks-below : (m k : ℕ) (w : List ℕ) (at n : ℕ) (ys : List ℕ) → k * m ≤ at → at + n ≤ length w → length ys ≡ n → chunks m k (put w at n ys) ≡ chunks m k w
+unfolding chunks
+chunks-below m zero w at n ys h g s = refl
+chunks-below m (suc k) w at n ys h g s =
+    let h′ : k * m + m ≤ at = simp suc-mul at h in
+    let e : at ≡ m + (at - m) = omega arith in
+    ap (λ (x : List ℕ). x ∷ chunks m k (drop m (put w at n ys))) (put-below w at n ys g s 0 m (omega arith))
+    ∙ ap (λ (j : ℕ). take m w ∷ chunks m k (drop m (put w j n ys))) e
+    ∙ ap (λ (x : List ℕ). take m w ∷ chunks m k x) (drop-put m w (at - m) n ys (omega arith))
+    ∙ ap (λ (x : List (List ℕ)). take m w ∷ x) (chunks-below m k (drop m w) (at - m) n ys (omega arith) (omega (arith, length-drop m w)) s)

@@ -8,7 +8,9 @@ use native.Mathlib.Numerals.{add-one}
 use native.Mathlib.Nat.{zero-min, suc-min-suc}
 use lib.ListN.{length, getD, set, take, drop, drop-of-length-le, length-drop}
 use lib.Seq.{getD-append-add, set-at, append-snoc, take-suc, drop-cons, take-all, length-take-le, take-nil, drop-nil, getD-drop}
-use Rattle.words.specs.Words.{shifted, overlaid, every}
+use borrow.Author.Tests.{le-leb, lt-leb}
+use Rattle.words.specs.Words.{part, put, shifted, overlaid, laid, every}
+use Rattle.words.proofs.Parts.{part-length, lent-part, lent-put}
 
 -- ---- the first i of s before the rest of d, and one more of s
 pub laid-next : (s d : List ℕ) (i : ℕ) → i < length s → i < length d → set (take i s ++ drop i d) i (getD s i 0) ≡ take (i + 1) s ++ drop (i + 1) d
@@ -116,3 +118,18 @@ module _ {A : Type 0} (p : A → Bool) (l : List A) (i : ℕ) (d : A) (e : every
 
   pub every-done : length l ≤ i → every p l ≡ true
   every-done h = e ∙ ap (every p) (drop-of-length-le l {i = i} h)
+
+-- ---- words laid at a place
+module _ (w : List ℕ) (at : ℕ) (ys : List ℕ) where
+  pub laid-in : at + length ys ≤ length w → laid w at ys ≡ put w at (length ys) ys
+  laid-in h = rw (le-leb (at + length ys) (length w) h)
+
+  pub laid-out : length w < at + length ys → laid w at ys ≡ w
+  laid-out h = rw (lt-leb (at + length ys) (length w) h)
+
+  -- by a copy into the part
+  pub laid-by : (zs : List ℕ) → at + length ys ≤ length w → zs ≡ overlaid (part w at (at + length ys - at)) ys → put w at (at + length ys - at) zs ≡ laid w at ys
+  laid-by zs h e =
+      let n = length ys in
+      let same : overlaid (part w at (at + n - at)) ys ≡ ys = overlaid-same (part w at (at + n - at)) ys (sym (ap length (lent-part w at n) ∙ part-length w at n h)) in
+      lent-put w at n zs ∙ ap (put w at n) (e ∙ same) ∙ sym (laid-in h)

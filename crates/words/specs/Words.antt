@@ -1,8 +1,9 @@
 -- Lists of words: parts of them, chunks of one size, and what copying and moving words leaves.
-use mathlib.Core.Bool.{Bool, true, _&&_}
+use mathlib.Core.Bool.{Bool, true, cond, _&&_}
 use mathlib.Core.List.{List, [], _∷_, _++_}
-use Prim.Native.Nat.{ℕ, zero, suc, _-_}
+use Prim.Native.Nat.{ℕ, zero, suc, _+_, _-_}
 use lib.ListN.{take, drop, length}
+use lib.Dec.{leb}
 
 -- n words from a place on
 abbrev pub part : List ℕ → ℕ → ℕ → List ℕ
@@ -20,6 +21,10 @@ chunks m (suc k) w = take m w ∷ chunks m k (drop m w)
 -- the words with ys over the front of them, as far as both reach
 abbrev pub overlaid : List ℕ → List ℕ → List ℕ
 overlaid w ys = take (length w) ys ++ drop (length ys) w
+
+-- the words with ys from a place on, where they fit; else as they are
+abbrev pub laid : List ℕ → ℕ → List ℕ → List ℕ
+laid w at ys = cond (leb (at + length ys) (length w)) (put w at (length ys) ys) w
 
 -- every word k places further to the front; the last k stay as they are
 abbrev pub shifted : List ℕ → ℕ → List ℕ

@@ -1,10 +1,10 @@
 // Words of 32 bits in lent slices: one read, many copied or moved, and a signed value kept as a word.
 ghost use mathlib.Core.Path.{_≡_};
 ghost use Prim.Native.Nat.{min};
-ghost use lib.ListN.{getD};
+ghost use lib.ListN.{getD, set};
 ghost use mir.Val.{toZ, ofZ};
 ghost use mir.Syntax.{w32};
-ghost use Rattle.words.specs.Words.{overlaid, shifted};
+ghost use Rattle.words.specs.Words.{overlaid, laid, shifted};
 
 // A word as an index.
 pub fn wide(x: u32) -> usize
@@ -32,6 +32,28 @@ pub fn copy(w: &mut [u32], from: &[u32])
     while i < n {
         w[i] = from[i];
         i += 1;
+    }
+}
+
+// One word at a place; past the end nothing.
+pub fn store(w: &mut [u32], i: usize, v: u32)
+    ensures { λ r. ⌜ now (w .exit) ≡ set (now (w .entry)) i v ⌝ }
+{
+    if i < w.len() {
+        w[i] = v;
+    }
+}
+
+// The words of a slice at a place of another, where they fit; elsewhere nothing.
+pub fn lay(w: &mut [u32], at: usize, from: &[u32])
+    ensures { λ r. ⌜ now (w .exit) ≡ laid (now (w .entry)) at (now (from .entry)) ⌝ }
+{
+    if at <= w.len() {
+        let room = w.len() - at;
+        if from.len() <= room {
+            let end = at + from.len();
+            copy(&mut w[at..end], from);
+        }
     }
 }
 

@@ -1,6 +1,7 @@
 -- `Timestamp::to_words` lists the epoch, the number of tuples, and the site and count at each of the eight places.
 use mathlib.Core.Path.{_∙_}
 use mathlib.Core.List.{[], _∷_}
+use native.Mathlib.Omega.{arith}
 use Rattle.timestamp.specs.InWords.{stampWords}
 use borrow.Author.Needs.{needs}
 use Rattle.timestamp.proofs.Timestamp.to_words.Statement.{statement}
@@ -41,16 +42,18 @@ unfolding stampWords
 returns c = let s = c .before in
     let h = s .before in
     let e = h .before .before .before in
-    let a = e .before .before .before .before in
-    λ i. a .before .args .self .epoch .0 ∷ ((c .few .ensures ∙ s .size .ensures .0) i
-    ∷ (a .tuple .ensures i .site ∷ (a .tuple .ensures i .count
-    ∷ (e .before .before .before .tuple2 .ensures i .site ∷ (e .before .before .before .tuple2 .ensures i .count
-    ∷ (e .before .before .tuple3 .ensures i .site ∷ (e .before .before .tuple3 .ensures i .count
-    ∷ (e .before .tuple4 .ensures i .site ∷ (e .before .tuple4 .ensures i .count
-    ∷ (e .tuple5 .ensures i .site ∷ (e .tuple5 .ensures i .count
-    ∷ (h .before .before .tuple6 .ensures i .site ∷ (h .before .before .tuple6 .ensures i .count
-    ∷ (h .before .tuple7 .ensures i .site ∷ (h .before .tuple7 .ensures i .count
-    ∷ (h .tuple8 .ensures i .site ∷ (h .tuple8 .ensures i .count ∷ [])))))))))))))))))
+    let a = e .before .before .before .before in (
+      λ i. a .before .args .self .epoch .0 ∷ ((c .few .ensures ∙ s .size .ensures .0) i
+          ∷ (a .tuple .ensures i .site ∷ (a .tuple .ensures i .count
+          ∷ (e .before .before .before .tuple2 .ensures i .site ∷ (e .before .before .before .tuple2 .ensures i .count
+          ∷ (e .before .before .tuple3 .ensures i .site ∷ (e .before .before .tuple3 .ensures i .count
+          ∷ (e .before .tuple4 .ensures i .site ∷ (e .before .tuple4 .ensures i .count
+          ∷ (e .tuple5 .ensures i .site ∷ (e .tuple5 .ensures i .count
+          ∷ (h .before .before .tuple6 .ensures i .site ∷ (h .before .before .tuple6 .ensures i .count
+          ∷ (h .before .tuple7 .ensures i .site ∷ (h .before .tuple7 .ensures i .count
+          ∷ (h .tuple8 .ensures i .site ∷ (h .tuple8 .ensures i .count ∷ []))))))))))))))))),
+      omega (arith, s .size .ensures .0, s .size .ensures .1),
+    )
 
 pub to-words-spec : {M : Type 1} → statement M
 to-words-spec =

@@ -21,7 +21,7 @@ returns : tie.Need-returns
 returns c =
     let d = c .before .before in
     let s = d .before .before .before in
-    d .copy .ensures ∙ ap (overlaid (s .before .before .args .w .now)) (s .to-words .ensures)
+    (d .copy .ensures ∙ ap (overlaid (s .before .before .args .w .now)) (s .to-words .ensures .0), s .to-words .ensures .1)
 
 pub write-to-spec : {M : Type 1} → statement M
 write-to-spec =
