@@ -1,4 +1,5 @@
 pub mod Timestamp
 pub mod Order
 pub mod InWords
+pub mod Made
 pub mod Examples

@@ -6,9 +6,11 @@ use crate::Tuple;
 ghost use mathlib.Core.Path.{_≡_};
 ghost use mathlib.Core.List.{map};
 ghost use Prim.Native.Nat.{_<_, _≤_};
-ghost use lib.ListN.{length};
+ghost use lib.ListN.{length, take};
 ghost use Rattle.words.specs.Words.{overlaid};
 ghost use Rattle.timestamp.specs.Timestamp.{stampOf, pairOf, room};
+ghost use Rattle.timestamp.specs.Order.{byNumber};
+ghost use Rattle.timestamp.specs.Made.{rising as risingOf, stampShaped};
 ghost use Rattle.timestamp.specs.InWords.{stampIn, stampWords, pairAt, pairsAt, stampSize};
 
 // The timestamp that words stand for. Words past the end count as 0, and more than eight tuples as eight.
@@ -20,6 +22,38 @@ pub fn from_words(w: &[u32]) -> Timestamp
         len: words::wide(words::word(w, 1)),
         tuples: tuples_in(w),
     }
+}
+
+// Whether the words are those of a timestamp that the site made: sites rising, the last its own.
+pub fn made_by(w: &[u32], site: u32) -> bool
+    ensures { λ r. ⌜ r ≡ stampShaped site (now (w .entry)) ⌝ }
+{
+    let n = words::wide(words::word(w, 1));
+    if 8 < n {
+        return false;
+    }
+    if n == 0 {
+        return false;
+    }
+    if !rising(w, n) {
+        return false;
+    }
+    words::word(w, 2 * n) == site
+}
+
+// Whether the sites of the first n tuples rise.
+fn rising(w: &[u32], n: usize) -> bool
+    requires { ⌜ n ≤ room ⌝ }
+    ensures { λ r. ⌜ r ≡ risingOf byNumber (take n (pairsAt (now (w .entry)) 2 room)) ⌝ }
+{
+    let mut i = 1;
+    while i < n {
+        if words::word(w, 2 * i + 2) <= words::word(w, 2 * i) {
+            return false;
+        }
+        i += 1;
+    }
+    true
 }
 
 impl Timestamp {

@@ -3,6 +3,7 @@ mod comparison; // comparison.rt: the order of timestamps
 mod in_words; // in_words.rt: a timestamp in words of a lent slice
 
 pub use in_words::from_words;
+pub use in_words::made_by;
 ghost use mathlib.Core.Path.{_≡_};
 ghost use Prim.Native.Nat.{min, _≤_};
 ghost use lib.ListN.{length, getD};

@@ -1,0 +1,23 @@
+-- Which timestamps a site makes: sites rising, the last its own.
+use mathlib.Core.Bool.{Bool, true, _&&_}
+use mathlib.Core.List.{List, [], _∷_}
+use Prim.Native.Nat.{ℕ}
+use lib.ListN.{length, getD}
+use lib.Dec.{eqb, ltb, leb}
+use Rattle.timestamp.specs.Timestamp.{Pair, Stamp, ownSite, room}
+use Rattle.timestamp.specs.Order.{byNumber}
+use Rattle.timestamp.specs.InWords.{stampIn}
+
+-- each site stands before the next
+unfoldable pub rising : (ℕ → ℕ) → List Pair → Bool
+rising place [] = true
+rising place (x ∷ []) = true
+rising place (x ∷ (y ∷ ys)) = ltb (place (x .site)) (place (y .site)) && rising place (y ∷ ys)
+
+-- a timestamp that site j made: it has a tuple, its sites rise, and it ends with j
+unfoldable pub madeBy : (ℕ → ℕ) → ℕ → Stamp → Bool
+madeBy place j s = ltb 0 (length (s .tuples)) && (rising place (s .tuples) && eqb (ownSite s) j)
+
+-- words of such a timestamp: at most eight tuples, as many as they say
+unfoldable pub stampShaped : ℕ → List ℕ → Bool
+stampShaped j w = leb (getD w 1 0) room && madeBy byNumber j (stampIn w)
