@@ -100,3 +100,133 @@ module _ (j : ℕ) (w : List ℕ) where
       pub shaped-by-site : r ≡ true → (x : ℕ) → x ≡ getD w (2 * n) 0 → eqb x j ≡ stampShaped j w
       shaped-by-site f x g =
           sym (shaped-is ∙ rw (lt-ltb 0 n some, sym e ∙ f) (ap (λ (s : ℕ). eqb s j) (held-own w n few some ∙ sym g)))
+
+-- ---- what a timestamp made by a site is like
+pub record Made (place : ℕ → ℕ) (j : ℕ) (ps : List Pair) : Type 0 where
+  pub some : 0 < length ps
+  pub rises : rising place ps ≡ true
+  pub last : lastPair ps .site ≡ j
+
+module _ (place : ℕ → ℕ) (j : ℕ) (s : Stamp) where
+  pub made-parts : madeBy place j s ≡ true → Made place j (s .tuples)
+  unfolding madeBy
+  made-parts e =
+      let p = and-true (ltb 0 (length (s .tuples))) (rising place (s .tuples) && eqb (ownSite s) j) e in
+      let q = and-true (rising place (s .tuples)) (eqb (ownSite s) j) (p .1) in
+      record { some = ltb-true 0 (length (s .tuples)) (p .0); rises = q .0; last = eqb-true (ownSite s) j (q .1) }
+
+  pub made-whole : Made place j (s .tuples) → madeBy place j s ≡ true
+  unfolding madeBy
+  made-whole m = rw (lt-ltb 0 (length (s .tuples)) (m .some), m .rises) (eq-eqb (ownSite s) j (m .last))
+
+-- the first timestamp of a site
+pub made-start : (place : ℕ → ℕ) (j e c : ℕ) → madeBy place j (record { epoch = e; tuples = record { site = j; count = c } ∷ [] }) ≡ true
+unfolding rising
+made-start place j e c =
+    made-whole place j (record { epoch = e; tuples = record { site = j; count = c } ∷ [] }) (record { some = omega arith; rises = refl; last = refl })
+
+-- a raised count changes no site
+module _ (place : ℕ → ℕ) where
+  raised-rising : (ps : List Pair) → rising place (raisedLast ps) ≡ rising place ps
+  unfolding rising
+  raised-rising [] = refl
+  raised-rising (x ∷ []) = refl
+  raised-rising (x ∷ (y ∷ [])) = refl
+  raised-rising (x ∷ (y ∷ (z ∷ zs))) = ap (λ (b : Bool). ltb (place (x .site)) (place (y .site)) && b) (raised-rising (y ∷ (z ∷ zs)))
+
+  raised-length : (ps : List Pair) → length (raisedLast ps) ≡ length ps
+  raised-length [] = refl
+  raised-length (x ∷ []) = refl
+  raised-length (x ∷ (y ∷ ys)) = ap suc (raised-length (y ∷ ys))
+
+  raised-site : (ps : List Pair) → lastPair (raisedLast ps) .site ≡ lastPair ps .site
+  raised-site [] = refl
+  raised-site (x ∷ []) = refl
+  raised-site (x ∷ (y ∷ [])) = refl
+  raised-site (x ∷ (y ∷ (z ∷ zs))) = raised-site (y ∷ (z ∷ zs))
+
+  pub made-raised : (j : ℕ) (s : Stamp) → madeBy place j s ≡ true → madeBy place j (raised s) ≡ true
+  made-raised j s e =
+      let m = made-parts place j s e in
+      made-whole place j (raised s)
+      (record {
+        some = omega (arith, raised-length (s .tuples), m .some);
+        rises = raised-rising (s .tuples) ∙ m .rises;
+        last = raised-site (s .tuples) ∙ m .last;
+      })
+
+  -- a tuple of a later site added
+  rising-snoc : (ps : List Pair) (x : Pair) → 0 < length ps → rising place ps ≡ true → place (lastPair ps .site) < place (x .site) → rising place (ps ++ (x ∷ [])) ≡ true
+  unfolding rising
+  rising-snoc [] x h r b = absurd (omega arith)
+  rising-snoc (y ∷ []) x h r b = rw (lt-ltb (place (y .site)) (place (x .site)) b)
+  rising-snoc (y ∷ (z ∷ zs)) x h r b =
+      let p = and-true (ltb (place (y .site)) (place (z .site))) (rising place (z ∷ zs)) r in
+      rw (p .0) (rising-snoc (z ∷ zs) x (omega arith) (p .1) b)
+
+  pub made-appended : (p j c : ℕ) (s : Stamp) → madeBy place p s ≡ true → place p < place j → madeBy place j (appended s j c) ≡ true
+  made-appended p j c s e b =
+      let m = made-parts place p s e in
+      let x : Pair = record { site = j; count = c } in
+      let f : place (lastPair (s .tuples) .site) < place j = rw (m .last) b in
+      made-whole place j (appended s j c)
+      (record {
+        some = omega (arith, length-append (s .tuples) (x ∷ []));
+        rises = rising-snoc (s .tuples) x (m .some) (m .rises) f;
+        last = ap (λ (y : Pair). y .site) (last-snoc (s .tuples) x);
+      })
+
+  -- all but the last site stand before it
+  rising-first : (x y : Pair) (ys : List Pair) → rising place (x ∷ (y ∷ ys)) ≡ true → (place (x .site) < place (y .site)) × (rising place (y ∷ ys) ≡ true)
+  unfolding rising
+  rising-first x y ys r =
+      let p = and-true (ltb (place (x .site)) (place (y .site))) (rising place (y ∷ ys)) r in
+      (ltb-true (place (x .site)) (place (y .site)) (p .0), p .1)
+
+  before-last : (x : Pair) (ps : List Pair) (z : Pair) → rising place (x ∷ (ps ++ (z ∷ []))) ≡ true → (place (x .site) < place (z .site)) × Below place (z .site) ps
+  before-last x [] z r = (rising-first x z [] r .0, tt)
+  before-last x (y ∷ ys) z r =
+      let p = rising-first x y (ys ++ (z ∷ [])) r in
+      let q = before-last y ys z (p .1) in
+      (omega (arith, p .0, q .0), q)
+
+  rising-below : (ps : List Pair) (z : Pair) → rising place (ps ++ (z ∷ [])) ≡ true → Below place (z .site) ps
+  rising-below [] z r = tt
+  rising-below (x ∷ ps) z r = before-last x ps z r
+
+  pub made-below : (j c : ℕ) (s : Stamp) → madeBy place j (appended s j c) ≡ true → Below place j (s .tuples)
+  made-below j c s e = rising-below (s .tuples) (record { site = j; count = c }) (made-parts place j (appended s j c) e .rises)
+
+-- ---- a timestamp is what it was before its last tuple, and that tuple
+abbrev pub withoutLast : List Pair → List Pair
+withoutLast [] = []
+withoutLast (x ∷ []) = []
+withoutLast (x ∷ (y ∷ ys)) = x ∷ withoutLast (y ∷ ys)
+
+last-split : (ps : List Pair) → 0 < length ps → ps ≡ withoutLast ps ++ (lastPair ps ∷ [])
+last-split [] h = absurd (omega arith)
+last-split (x ∷ []) h = refl
+last-split (x ∷ (y ∷ ys)) h = ap {B = List Pair} (λ r. x ∷ r) (last-split (y ∷ ys) (omega arith))
+
+abbrev pub without : Stamp → Stamp
+without s = record { epoch = s .epoch; tuples = withoutLast (s .tuples) }
+
+pub made-split : (place : ℕ → ℕ) (j : ℕ) (s : Stamp) → madeBy place j s ≡ true → s ≡ appended (without s) j (lastPair (s .tuples) .count)
+made-split place j s e =
+    let m = made-parts place j s e in
+    ap (λ (ps : List Pair). record { epoch = s .epoch; tuples = ps }) (last-split (s .tuples) (m .some))
+    ∙ ap (λ (i : ℕ). appended (without s) i (lastPair (s .tuples) .count)) (m .last)
+
+-- ---- no more tuples than sites up to the last
+rising-from : (x : Pair) (ps : List Pair) → rising byNumber (x ∷ ps) ≡ true → x .site + length ps ≤ lastPair (x ∷ ps) .site
+rising-from x [] r = omega arith
+rising-from x (y ∷ ys) r =
+    let p = rising-first byNumber x y ys r in
+    omega (arith, p .0, rising-from y ys (p .1))
+
+pub made-length : (j : ℕ) (s : Stamp) → madeBy byNumber j s ≡ true → length (s .tuples) ≤ suc j
+made-length j s e = go (s .tuples) (made-parts byNumber j s e)
+  where
+    go : (ps : List Pair) → Made byNumber j ps → length ps ≤ suc j
+    go [] m = omega arith
+    go (x ∷ ps) m = omega (arith, rising-from x ps (m .rises), m .last)
