@@ -1,6 +1,6 @@
 -- Items in words: each one's two words, the number of one item, and loops over the items.
-use mathlib.Core.Path.{_≡_, refl, sym, ap, _∙_}
-use mathlib.Core.Bool.{Bool, true, false, _&&_}
+use mathlib.Core.Path.{_≡_, sym, ap, _∙_}
+use mathlib.Core.Bool.{Bool, true, false, cond, _&&_, _||_}
 use mathlib.Core.List.{List, []}
 use Prim.Native.Nat.{ℕ, _+_, _*_, _/_, _%_, _^_, _≤_, _<_}
 use native.Mathlib.Omega.{arith}
@@ -11,7 +11,7 @@ use Rattle.words.specs.Words.{chunks}
 use Rattle.words.proofs.Parts.{part-getD}
 use Rattle.words.proofs.Chunks.{chunks-length, chunks-at}
 use Rattle.placement.specs.Masks.{bit}
-use Rattle.placement.specs.Placement.{Item, some, itemNumber, itemsNumber, noItem}
+use Rattle.placement.specs.Placement.{Item, some, namesMissing, namesBelow, itemNumber, itemsNumber, noItem}
 use Rattle.placement.specs.InWords.{itemSize, itemIn, itemAt, itemsIn}
 use Rattle.placement.proofs.Walks.{some-true, some-next, some-done, first-here, first-next, first-done}
 
@@ -33,18 +33,21 @@ module _ (w : List ℕ) (k : ℕ) where
   pub mask-past : length w ≤ k → 0 ≡ itemAt w k .mask
   mask-past h = sym (List·getD-eq-default w 0 {n = 2 * k + 1} (omega arith)) ∙ mask-at
 
--- ---- the line that an item gives
+-- ---- the tests of an item: it has a copy at c, and its primary at p
+abbrev pub copied : ℕ → Item → Bool
+copied c x = bit (x .mask) c
+
 abbrev pub joined : ℕ → ℕ → Item → Bool
-joined p c x = eqb (x .primary) p && bit (x .mask) c
+joined p c x = eqb (x .primary) p && copied c x
 
 module _ (x : Item) (p c : ℕ) where
   pub not-joined : (x .primary ≡ p → ⊥) → false ≡ joined p c x
-  not-joined h = sym (ap (λ (b : Bool). b && bit (x .mask) c) (ne-eqb (x .primary) p h))
+  not-joined h = sym (ap (λ (b : Bool). b && copied c x) (ne-eqb (x .primary) p h))
 
-  pub joined-by : x .primary ≡ p → bit (x .mask) c ≡ joined p c x
-  joined-by h = sym (ap (λ (b : Bool). b && bit (x .mask) c) (eq-eqb (x .primary) p h))
+  pub joined-by : x .primary ≡ p → copied c x ≡ joined p c x
+  joined-by h = sym (ap (λ (b : Bool). b && copied c x) (eq-eqb (x .primary) p h))
 
--- ---- the number of one item
+-- ---- the number of one item, test by test
 module _ (sites : ℕ) (x : Item) where
   pub primary-missing : sites ≤ x .primary → 3 ≡ itemNumber sites x
   unfolding itemNumber
@@ -52,30 +55,31 @@ module _ (sites : ℕ) (x : Item) where
 
   -- its primary is a site
   module _ (site : x .primary < sites) where
-    pub copy-missing : (x .mask / 2 ^ sites ≡ 0 → ⊥) → 4 ≡ itemNumber sites x
+    of-mask : itemNumber sites x ≡ cond (namesMissing sites (x .mask) || bit (x .mask) (x .primary)) 4 (cond (namesBelow (x .primary) (x .mask)) 5 0)
     unfolding itemNumber
-    copy-missing h = let g : 0 < x .mask / 2 ^ sites = omega arith in simp (lt-leb sites (x .primary) site, lt-ltb 0 (x .mask / 2 ^ sites) g)
+    of-mask = simp (lt-leb sites (x .primary) site)
+
+    pub copy-missing : (x .mask / 2 ^ sites ≡ 0 → ⊥) → 4 ≡ itemNumber sites x
+    copy-missing h = sym (of-mask ∙ simp (lt-ltb 0 (x .mask / 2 ^ sites) (omega arith)))
 
     -- so are its copies
-    module _ (sound : x .mask / 2 ^ sites ≡ 0) where
-      none-missing : x .mask / 2 ^ sites ≤ 0
-      none-missing = omega arith
+    module _ (none : x .mask / 2 ^ sites ≡ 0) where
+      of-bit : itemNumber sites x ≡ cond (bit (x .mask) (x .primary)) 4 (cond (namesBelow (x .primary) (x .mask)) 5 0)
+      of-bit = of-mask ∙ simp (le-ltb 0 (x .mask / 2 ^ sites) (omega arith))
 
       pub copy-own : bit (x .mask) (x .primary) ≡ true → 4 ≡ itemNumber sites x
-      unfolding itemNumber
-      copy-own h = simp (lt-leb sites (x .primary) site, le-ltb 0 (x .mask / 2 ^ sites) none-missing, h)
+      copy-own h = sym (of-bit ∙ simp h)
 
-      pub copy-below : bit (x .mask) (x .primary) ≡ false → (x .mask % 2 ^ x .primary ≡ 0 → ⊥) → 5 ≡ itemNumber sites x
-      unfolding itemNumber
-      copy-below h g =
-          let b : 0 < x .mask % 2 ^ x .primary = omega arith in
-          simp (lt-leb sites (x .primary) site, le-ltb 0 (x .mask / 2 ^ sites) none-missing, h, lt-ltb 0 (x .mask % 2 ^ x .primary) b)
+      -- none is at its primary
+      module _ (other : bit (x .mask) (x .primary) ≡ false) where
+        of-below : itemNumber sites x ≡ cond (namesBelow (x .primary) (x .mask)) 5 0
+        of-below = of-bit ∙ simp other
 
-      pub none-faulty : bit (x .mask) (x .primary) ≡ false → x .mask % 2 ^ x .primary ≡ 0 → 0 ≡ itemNumber sites x
-      unfolding itemNumber
-      none-faulty h g =
-          let b : x .mask % 2 ^ x .primary ≤ 0 = omega arith in
-          simp (lt-leb sites (x .primary) site, le-ltb 0 (x .mask / 2 ^ sites) none-missing, h, le-ltb 0 (x .mask % 2 ^ x .primary) b)
+        pub copy-below : (x .mask % 2 ^ x .primary ≡ 0 → ⊥) → 5 ≡ itemNumber sites x
+        copy-below h = sym (of-below ∙ simp (lt-ltb 0 (x .mask % 2 ^ x .primary) (omega arith)))
+
+        pub none-faulty : x .mask % 2 ^ x .primary ≡ 0 → 0 ≡ itemNumber sites x
+        none-faulty h = sym (of-below ∙ simp (le-ltb 0 (x .mask % 2 ^ x .primary) (omega arith)))
 
 -- ---- the first n items
 module _ (n : ℕ) (w : List ℕ) where

@@ -1,5 +1,5 @@
 -- `item_number` answers what the definition says of an item, test by test.
-use mathlib.Core.Path.{_≡_, sym, _∙_}
+use mathlib.Core.Path.{sym, _∙_}
 use Rattle.placement.specs.Placement.{Item}
 use Rattle.placement.proofs.Items.{primary-missing, copy-missing, copy-own, copy-below, none-faulty}
 use borrow.Author.Needs.{needs}
@@ -18,7 +18,8 @@ above-requires c κs = search needs
 
 returns-2 : tie.Need-returns-2
 unfolding item
-returns-2 c = let s = c .before .before .before in
+returns-2 c =
+    let s = c .before .before .before in
     copy-missing (s .args .sites) (item s) (c .before .before .if1 .left) (λ z. c .if2 .taken (c .before .above .ensures ∙ z))
 
 bit-requires : tie.Need-bit-requires
@@ -26,7 +27,8 @@ bit-requires c κs = search needs
 
 returns-3 : tie.Need-returns-3
 unfolding item
-returns-3 c = let a = c .before .before .before in
+returns-3 c =
+    let a = c .before .before .before in
     let s = a .before .before in
     copy-own (s .args .sites) (item s) (a .before .if1 .left) (sym (a .above .ensures) ∙ c .before .before .if2 .left) (sym (c .before .bit .ensures) ∙ c .if3 .taken)
 
@@ -35,7 +37,8 @@ below-requires c κs = search needs
 
 returns-4 : tie.Need-returns-4
 unfolding item
-returns-4 c = let d = c .before in
+returns-4 c =
+    let d = c .before in
     let b = d .before .before in
     let a = b .before .before in
     let s = a .before .before in
@@ -43,7 +46,8 @@ returns-4 c = let d = c .before in
 
 returns-5 : tie.Need-returns-5
 unfolding item
-returns-5 c = let d = c .before in
+returns-5 c =
+    let d = c .before in
     let b = d .before .before in
     let a = b .before .before in
     let s = a .before .before in

@@ -1,5 +1,5 @@
 -- `below` takes the remainder by one bit, and answers the whole word where every bit is below.
-use mathlib.Core.Path.{_≡_, sym, ap, subst}
+use mathlib.Core.Path.{sym, ap, subst}
 use Prim.Native.Nat.{ℕ, _%_, _<_}
 use lib.Pow.{pow-pos}
 use Rattle.placement.proofs.Shifts.{all-below, one-bit}
