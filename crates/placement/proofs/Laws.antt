@@ -1,0 +1,138 @@
+-- Laws of placement: the bits of a mask, an item that set-up does not refuse, and where the lines go.
+use mathlib.Core.Path.{_≡_, refl, sym, ap, _∙_}
+use mathlib.Core.Bool.{Bool, true, false, cond, _||_, false≢true, or-true}
+use mathlib.Core.List.{List, [], _∷_}
+use Prim.Native.Nat.{ℕ, zero, suc, _+_, _-_, _*_, _/_, _%_, _^_, _≤_, _<_}
+use native.Mathlib.Omega.{arith}
+use native.Mathlib.Nat.{not-suc-le-zero, div-eq-of-lt, div-lt-iff-lt-mul, le-div-iff-mul-le, add-mul-div-right, add-mul-mod-self-right, pow-suc, zero-div}
+use lib.ListN.{length, getD}
+use lib.Pow.{pow-pos, pow-mono, pow-add, field, mod-mod-pow, high}
+use lib.Dec.{eqb, ltb, leb}
+use borrow.Author.Tests.{eqb-true, eqb-false, leb-false, ltb-true, ltb-false}
+use Rattle.words.proofs.Walks.{and-true}
+use Rattle.placement.specs.Masks.{bit, maskOf}
+use Rattle.placement.specs.Placement.{Item, some, namesMissing, namesBelow, itemNumber, itemsNumber, noItem, isLine}
+use Rattle.placement.proofs.Items.{joined, copied}
+
+-- ---- the bits of a mask
+-- a bit set: its weight is in the mask
+bit-weight : (m k : ℕ) → bit m k ≡ true → 2 ^ k ≤ m
+bit-weight m k t =
+    let odd : m / 2 ^ k % 2 ≡ 1 = eqb-true (m / 2 ^ k % 2) 1 t in
+    let h : 1 * 2 ^ k ≤ m = le-div-iff-mul-le {k = 2 ^ k} {x = 1} {y = m} (pow-pos k) .0 (omega arith) in
+    omega arith
+
+-- no bit below p is set: bit k, below p, is not
+bit-below : (m p k : ℕ) → m % 2 ^ p ≡ 0 → k < p → m / 2 ^ k % 2 ≡ 0
+bit-below m p k z h =
+    let j = p - suc k in
+    let e : j + 1 + k ≡ p = omega arith in
+    sym (mod-mod-pow (m / 2 ^ k) j 1)
+    ∙ ap (λ (x : ℕ). x % 2) (sym (field m (j + 1) k) ∙ ap (λ (i : ℕ). m % 2 ^ i / 2 ^ k) e ∙ ap (λ (x : ℕ). x / 2 ^ k) z ∙ zero-div (2 ^ k))
+
+-- a bit of weight 2 to the power n, or none, added to bits of less weight: it is there
+bit-added : (m n : ℕ) → m < 2 ^ n → (b : Bool) → bit (m + cond b (2 ^ n) 0) n ≡ b
+bit-added m n h true = let e : m + 2 ^ n ≡ 1 * 2 ^ n + m = omega arith in ap (λ (q : ℕ). eqb (q % 2) 1) (ap (λ (x : ℕ). x / 2 ^ n) e ∙ high 1 n h)
+bit-added m n h false = let e : m + 0 ≡ m = omega arith in ap (λ (q : ℕ). eqb (q % 2) 1) (ap (λ (x : ℕ). x / 2 ^ n) e ∙ div-eq-of-lt h)
+
+-- the bits of less weight are as they were
+bit-kept : (m n k : ℕ) → k < n → (b : Bool) → bit (m + cond b (2 ^ n) 0) k ≡ bit m k
+bit-kept m n k h true =
+    let y = 2 ^ (n - suc k) in
+    let e : n - suc k + 1 + k ≡ n = omega arith in
+    let p : 2 ^ n ≡ y * 2 * 2 ^ k = ap (λ (j : ℕ). 2 ^ j) (sym e) ∙ pow-add 2 (n - suc k + 1) k ∙ ap (λ (x : ℕ). x * 2 ^ k) (pow-add 2 (n - suc k) 1) in
+    ap (λ (q : ℕ). eqb q 1) (ap (λ (x : ℕ). (m + x) / 2 ^ k % 2) p ∙ ap (λ (x : ℕ). x % 2) (add-mul-div-right m (y * 2) (pow-pos k)) ∙ add-mul-mod-self-right (m / 2 ^ k) y 2)
+bit-kept m n k h false = let e : m + 0 ≡ m = omega arith in ap (λ (x : ℕ). bit x k) e
+
+module _ (f : ℕ → Bool) where
+  pub mask-of-below : (n : ℕ) → maskOf f n < 2 ^ n
+  unfolding maskOf
+  mask-of-below zero = omega arith
+  mask-of-below (suc n) = go (f n) (mask-of-below n)
+    where
+      go : (b : Bool) → maskOf f n < 2 ^ n → maskOf f n + cond b (2 ^ n) 0 < 2 ^ suc n
+      go true h = omega (arith, pow-suc 2 n)
+      go false h = omega (arith, pow-suc 2 n)
+
+  pub bit-mask-of : (n k : ℕ) → k < n → bit (maskOf f n) k ≡ f k
+  unfolding maskOf
+  bit-mask-of zero k h = absurd (not-suc-le-zero h)
+  bit-mask-of (suc n) k h = go (ltb k n) refl (bit-mask-of n k)
+    where
+      go : (b : Bool) → ltb k n ≡ b → (k < n → bit (maskOf f n) k ≡ f k) → bit (maskOf f (suc n)) k ≡ f k
+      go true e rest = bit-kept (maskOf f n) n k (ltb-true k n e) (f n) ∙ rest (ltb-true k n e)
+      go false e rest =
+          let q : k ≡ n = omega (arith, ltb-false k n e) in
+          ap (bit (maskOf f (suc n))) q ∙ bit-added (maskOf f n) n (mask-of-below n) (f n) ∙ ap f (sym q)
+
+-- ---- an item that set-up does not refuse
+no-test : (a b c d : Bool) → _≡_ {A = ℕ} (cond a 3 (cond (b || c) 4 (cond d 5 0))) 0 → (a ≡ false) × (b ≡ false) × (c ≡ false) × (d ≡ false)
+no-test true b c d e = absurd (omega arith)
+no-test false true c d e = absurd (omega arith)
+no-test false false true d e = absurd (omega arith)
+no-test false false false true e = absurd (omega arith)
+no-test false false false false e = (refl, refl, refl, refl)
+
+module _ (sites : ℕ) (x : Item) (z : itemNumber sites x ≡ 0) where
+  tests : (leb sites (x .primary) ≡ false) × (namesMissing sites (x .mask) ≡ false) × (bit (x .mask) (x .primary) ≡ false) × (namesBelow (x .primary) (x .mask) ≡ false)
+  unfolding itemNumber
+  tests = no-test (leb sites (x .primary)) (namesMissing sites (x .mask)) (bit (x .mask) (x .primary)) (namesBelow (x .primary) (x .mask)) z
+
+  pub item-primary : x .primary < sites
+  item-primary = leb-false sites (x .primary) (tests .0)
+
+-- its copies are at sites above its primary
+module _ (sites : ℕ) (x : Item) (k : ℕ) (z : itemNumber sites x ≡ 0) (b : bit (x .mask) k ≡ true) where
+  pub item-copy-site : k < sites
+  item-copy-site =
+      let none : x .mask / 2 ^ sites < 1 = omega (arith, ltb-false 0 (x .mask / 2 ^ sites) (tests sites x z .1)) in
+      let small : x .mask < 1 * 2 ^ sites = div-lt-iff-lt-mul {k = 2 ^ sites} {x = x .mask} {y = 1} (pow-pos sites) .0 none in
+      let far : sites ≤ k → ⊥ = λ h. omega (arith, bit-weight (x .mask) k b, pow-mono {i = sites} {j = k} h) in
+      omega arith
+
+  pub item-copy-above : x .primary < k
+  item-copy-above =
+      let p = x .primary in
+      let none : x .mask % 2 ^ p ≡ 0 = omega (arith, ltb-false 0 (x .mask % 2 ^ p) (tests sites x z .3)) in
+      let own : k ≡ p → ⊥ = λ e. false≢true (sym (tests sites x z .2) ∙ ap (bit (x .mask)) (sym e) ∙ b) in
+      let below : k < p → ⊥ = λ h. omega (arith, bit-below (x .mask) p k none h, eqb-true (x .mask / 2 ^ k % 2) 1 b) in
+      omega arith
+
+-- ---- some element, by its place
+module _ {A : Type 0} (p : A → Bool) where
+  pub some-at : (xs : List A) (i : ℕ) (d : A) → i < length xs → p (getD xs i d) ≡ true → some p xs ≡ true
+  some-at [] i d h q = absurd (not-suc-le-zero h)
+  some-at (x ∷ xs) zero d h q = ap (λ (b : Bool). b || some p xs) q
+  some-at (x ∷ xs) (suc i) d h q = ap (λ (b : Bool). p x || b) (some-at xs i d (omega arith) q) ∙ or-true (p x)
+
+  pub some-index : (xs : List A) (d : A) → some p xs ≡ true → (i : ℕ) × (i < length xs) × (p (getD xs i d) ≡ true)
+  some-index [] d e = absurd (false≢true e)
+  some-index (x ∷ xs) d e = go (p x) refl e (some-index xs d)
+    where
+      go : (b : Bool) → p x ≡ b → (b || some p xs) ≡ true → (some p xs ≡ true → (i : ℕ) × (i < length xs) × (p (getD xs i d) ≡ true)) → (i : ℕ) × (i < suc (length xs)) × (p (getD (x ∷ xs) i d) ≡ true)
+      go true q e rest = (0, omega arith, q)
+      go false q e rest = let s = rest e in (suc (s .0), omega arith, s .2)
+
+-- ---- a placement that set-up does not refuse
+no-number : (n r : ℕ) → cond (eqb n 0) r n ≡ 0 → (n ≡ 0) × (r ≡ 0)
+no-number n r = go (eqb n 0) refl
+  where
+    go : (b : Bool) → eqb n 0 ≡ b → cond b r n ≡ 0 → (n ≡ 0) × (r ≡ 0)
+    go true t e = (eqb-true n 0 t, e)
+    go false t e = absurd (eqb-false n 0 t e)
+
+pub items-number-zero : (sites : ℕ) (xs : List Item) (i : ℕ) → itemsNumber sites xs ≡ 0 → i < length xs → itemNumber sites (getD xs i noItem) ≡ 0
+items-number-zero sites [] i e h = absurd (not-suc-le-zero h)
+items-number-zero sites (x ∷ xs) zero e h = no-number (itemNumber sites x) (itemsNumber sites xs) e .0
+items-number-zero sites (x ∷ xs) (suc i) e h = items-number-zero sites xs i (no-number (itemNumber sites x) (itemsNumber sites xs) e .1) (omega arith)
+
+-- a line goes from a site to one above it
+pub line-upward : (sites : ℕ) (xs : List Item) (p c : ℕ) → itemsNumber sites xs ≡ 0 → isLine xs p c ≡ true → (p < c) × (c < sites)
+unfolding isLine
+line-upward sites xs p c z e =
+    let s = some-index (joined p c) xs noItem e in
+    let x = getD xs (s .0) noItem in
+    let t = and-true (eqb (x .primary) p) (copied c x) (s .2) in
+    let sound = items-number-zero sites xs (s .0) z (s .1) in
+    let own : x .primary ≡ p = eqb-true (x .primary) p (t .0) in
+    (omega (arith, item-copy-above sites x c sound (t .1)), item-copy-site sites x c sound (t .1))

@@ -1,0 +1,4 @@
+pub mod Shifts
+pub mod Walks
+pub mod Items
+pub mod Laws

@@ -1,0 +1,27 @@
+-- Placement in words, two for each item: its primary and its mask.
+use mathlib.Core.List.{List, map}
+use Prim.Native.Nat.{ℕ, _*_}
+use lib.ListN.{getD}
+use Rattle.words.specs.Words.{part, chunks}
+use Rattle.placement.specs.Placement.{Item}
+
+abbrev pub itemSize : ℕ
+itemSize = 2
+
+-- the most items of a group, and the most sites
+abbrev pub itemsMost : ℕ
+itemsMost = 64
+
+abbrev pub sitesMost : ℕ
+sitesMost = 8
+
+abbrev pub itemIn : List ℕ → Item
+itemIn w = record { primary = getD w 0 0; mask = getD w 1 0 }
+
+-- item k of the words
+abbrev pub itemAt : List ℕ → ℕ → Item
+itemAt w k = itemIn (part w (k * itemSize) itemSize)
+
+-- the first n items of the words
+abbrev pub itemsIn : ℕ → List ℕ → List Item
+itemsIn n w = map itemIn (chunks itemSize n w)

@@ -1,0 +1,60 @@
+-- Placement: each item's primary site and copy mask, what set-up refuses of it, and the lines that it gives.
+use mathlib.Core.Bool.{Bool, true, false, cond, _&&_, _||_}
+use mathlib.Core.List.{List, [], _∷_, map}
+use Prim.Native.Nat.{ℕ, _/_, _%_, _^_}
+use lib.ListN.{getD}
+use lib.Dec.{eqb, ltb, leb}
+use Rattle.placement.specs.Masks.{bit}
+
+pub record Item : Type 0 where
+  pub primary : ℕ
+  pub mask : ℕ
+
+-- some element passes the test
+abbrev pub some : {A : Type 0} → (A → Bool) → List A → Bool
+some p [] = false
+some p (x ∷ xs) = p x || some p xs
+
+-- the first number that is not 0, or 0
+abbrev pub firstNumber : List ℕ → ℕ
+firstNumber [] = 0
+firstNumber (n ∷ ns) = cond (eqb n 0) (firstNumber ns) n
+
+-- ---- what set-up refuses, in a group of `sites` sites
+-- the mask has a bit of weight 2 to the power `sites` or more
+abbrev pub namesMissing : ℕ → ℕ → Bool
+namesMissing sites mask = ltb 0 (mask / 2 ^ sites)
+
+-- the mask has a bit of a weight below that of the primary's
+abbrev pub namesBelow : ℕ → ℕ → Bool
+namesBelow primary mask = ltb 0 (mask % 2 ^ primary)
+
+-- the number for which set-up refuses an item, or 0
+unfoldable pub itemNumber : ℕ → Item → ℕ
+itemNumber sites x =
+    cond (leb sites (x .primary)) 3
+    (cond (namesMissing sites (x .mask) || bit (x .mask) (x .primary)) 4
+    (cond (namesBelow (x .primary) (x .mask)) 5 0))
+
+-- the number of the first faulty item, from item 0 on
+abbrev pub itemsNumber : ℕ → List Item → ℕ
+itemsNumber sites xs = firstNumber (map (itemNumber sites) xs)
+
+-- ---- what the placement gives
+abbrev pub noItem : Item
+noItem = record { primary = 0; mask = 0 }
+
+-- item k has its primary at site i; it has a copy there
+abbrev pub owns : List Item → ℕ → ℕ → Bool
+owns xs i k = eqb (getD xs k noItem .primary) i
+
+abbrev pub copies : List Item → ℕ → ℕ → Bool
+copies xs i k = bit (getD xs k noItem .mask) i
+
+-- there is a line from site p to site c: some item has its primary at p and a copy at c
+unfoldable pub isLine : List Item → ℕ → ℕ → Bool
+isLine xs p c = some (λ (x : Item). eqb (x .primary) p && bit (x .mask) c) xs
+
+-- site c has a parent: some item has a copy there
+unfoldable pub hasParents : List Item → ℕ → Bool
+hasParents xs c = some (λ (x : Item). bit (x .mask) c) xs

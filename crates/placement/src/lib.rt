@@ -1,0 +1,146 @@
+// Placement in words of a lent slice: what set-up refuses of it, and the lines, children and parents that it gives.
+mod masks; // masks.rt: masks of sites, tested and built by shifts
+
+pub use masks::bit;
+ghost use mathlib.Core.Path.{_≡_};
+ghost use mathlib.Core.Bool.{_&&_};
+ghost use Prim.Native.Nat.{min};
+ghost use lib.Dec.{eqb};
+ghost use Rattle.placement.specs.Masks.{maskOf, bit as bitOf};
+ghost use Rattle.placement.specs.Placement.{itemNumber, itemsNumber, isLine, hasParents};
+ghost use Rattle.placement.specs.InWords.{itemAt, itemsIn, itemsMost, sitesMost};
+
+// The number for which set-up refuses the first faulty of the items, or 0. More than 64 items count as 64.
+pub fn number(sites: u32, w: &[u32], items: usize) -> u32
+    ensures { λ r. ⌜ r ≡ itemsNumber sites (itemsIn (min items itemsMost) (now (w .entry))) ⌝ }
+{
+    let n = few(items);
+    let mut k = 0;
+    while k < n {
+        let x = item_number(sites, primary(w, k), mask(w, k));
+        if x != 0 {
+            return x;
+        }
+        k += 1;
+    }
+    0
+}
+
+// The number for which set-up refuses an item, or 0.
+fn item_number(sites: u32, primary: u32, mask: u32) -> u32
+    ensures { λ r. ⌜ r ≡ itemNumber sites (record { primary = primary; mask = mask }) ⌝ }
+{
+    if sites <= primary {
+        return 3;
+    }
+    if masks::above(mask, sites) != 0 {
+        return 4;
+    }
+    if bit(mask, primary) {
+        return 4;
+    }
+    if masks::below(mask, primary) != 0 {
+        return 5;
+    }
+    0
+}
+
+// The primary site of item k.
+pub fn primary(w: &[u32], k: usize) -> u32
+    ensures { λ r. ⌜ r ≡ itemAt (now (w .entry)) k .primary ⌝ }
+{
+    if k < w.len() {
+        return words::word(w, 2 * k);
+    }
+    0
+}
+
+// The copy mask of item k.
+pub fn mask(w: &[u32], k: usize) -> u32
+    ensures { λ r. ⌜ r ≡ itemAt (now (w .entry)) k .mask ⌝ }
+{
+    if k < w.len() {
+        return words::word(w, 2 * k + 1);
+    }
+    0
+}
+
+// Whether the placement gives a line from site p to site c.
+pub fn is_line(w: &[u32], items: usize, p: u32, c: u32) -> bool
+    ensures { λ r. ⌜ r ≡ isLine (itemsIn (min items itemsMost) (now (w .entry))) p c ⌝ }
+{
+    let n = few(items);
+    let mut k = 0;
+    while k < n {
+        if joins(w, k, p, c) {
+            return true;
+        }
+        k += 1;
+    }
+    false
+}
+
+// Whether site c has a parent.
+pub fn has_parents(w: &[u32], items: usize, c: u32) -> bool
+    ensures { λ r. ⌜ r ≡ hasParents (itemsIn (min items itemsMost) (now (w .entry))) c ⌝ }
+{
+    let n = few(items);
+    let mut k = 0;
+    while k < n {
+        if bit(mask(w, k), c) {
+            return true;
+        }
+        k += 1;
+    }
+    false
+}
+
+// The mask of the children of site p.
+pub fn children(w: &[u32], items: usize, p: u32) -> u32
+    ensures { λ r. ⌜ r ≡ maskOf (isLine (itemsIn (min items itemsMost) (now (w .entry))) p) sitesMost ⌝ }
+{
+    let mut m = 0;
+    let mut c = 0;
+    while c < 8 {
+        if is_line(w, items, p, c) {
+            m += 1u32 << c;
+        }
+        c += 1;
+    }
+    m
+}
+
+// The mask of the parents of site c.
+pub fn parents(w: &[u32], items: usize, c: u32) -> u32
+    ensures { λ r. ⌜ r ≡ maskOf (λ p. isLine (itemsIn (min items itemsMost) (now (w .entry))) p c) sitesMost ⌝ }
+{
+    let mut m = 0;
+    let mut p = 0;
+    while p < 8 {
+        if is_line(w, items, p, c) {
+            m += 1u32 << p;
+        }
+        p += 1;
+    }
+    m
+}
+
+// Whether item k has its primary at site p and a copy at site c.
+fn joins(w: &[u32], k: usize, p: u32, c: u32) -> bool
+    ensures { λ r. ⌜ r ≡ (eqb (itemAt (now (w .entry)) k .primary) p && bitOf (itemAt (now (w .entry)) k .mask) c) ⌝ }
+{
+    if primary(w, k) != p {
+        return false;
+    }
+    bit(mask(w, k), c)
+}
+
+// A number of items: 64 at most.
+fn few(items: usize) -> usize
+    ensures { λ r. ⌜ r ≡ min items itemsMost ⌝ }
+{
+    if items < 64 {
+        return items;
+    }
+    64
+}
