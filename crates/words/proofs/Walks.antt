@@ -133,3 +133,28 @@ module _ (w : List ℕ) (at : ℕ) (ys : List ℕ) where
       let n = length ys in
       let same : overlaid (part w at (at + n - at)) ys ≡ ys = overlaid-same (part w at (at + n - at)) ys (sym (ap length (lent-part w at n) ∙ part-length w at n h)) in
       lent-put w at n zs ∙ ap (put w at n) (e ∙ same) ∙ sym (laid-in h)
+
+-- ---- a test that each element of a list passes, of a longer and a shorter list
+module _ {A : Type 0} (p : A → Bool) where
+  pub every-snoc : (xs : List A) (y : A) → every p xs ≡ true → p y ≡ true → every p (xs ++ (y ∷ [])) ≡ true
+  every-snoc [] y e f = rw f
+  every-snoc (x ∷ xs) y e f = let q = and-true (p x) (every p xs) e in rw (q .0) (every-snoc xs y (q .1) f)
+
+  pub every-rest : (xs : List A) → every p xs ≡ true → every p (drop 1 xs) ≡ true
+  every-rest [] e = refl
+  every-rest (x ∷ xs) e = and-true (p x) (every p xs) e .1
+
+  pub every-at : (xs : List A) (i : ℕ) (d : A) → every p xs ≡ true → i < length xs → p (getD xs i d) ≡ true
+  every-at [] i d e h = absurd (omega arith)
+  every-at (x ∷ xs) zero d e h = and-true (p x) (every p xs) e .0
+  every-at (x ∷ xs) (suc i) d e h = every-at xs i d (and-true (p x) (every p xs) e .1) (omega arith)
+
+  pub every-set : (xs : List A) (i : ℕ) (y : A) → every p xs ≡ true → p y ≡ true → every p (set xs i y) ≡ true
+  every-set [] i y e f = refl
+  every-set (x ∷ xs) zero y e f = rw f (and-true (p x) (every p xs) e .1)
+  every-set (x ∷ xs) (suc i) y e f = let q = and-true (p x) (every p xs) e in rw (q .0) (every-set xs i y (q .1) f)
+
+-- ---- the first n of a list without its first element
+pub take-rest : {A : Type 0} (n : ℕ) (l : List A) → take n (drop 1 l) ≡ drop 1 (take (suc n) l)
+take-rest n [] = take-nil n
+take-rest n (x ∷ xs) = refl

@@ -1,4 +1,5 @@
 -- Lists of words: parts of them, chunks of one size, and what copying and moving words leaves.
+use mathlib.Core.Path.{_≡_}
 use mathlib.Core.Bool.{Bool, true, cond, _&&_}
 use mathlib.Core.List.{List, [], _∷_, _++_}
 use Prim.Native.Nat.{ℕ, zero, suc, _+_, _-_}
@@ -34,3 +35,9 @@ shifted w k = drop k w ++ drop (length w - k) w
 abbrev pub every : {A : Type 0} → (A → Bool) → List A → Bool
 every p [] = true
 every p (x ∷ xs) = p x && every p xs
+
+-- what a call leaves of the words of one thing: its meaning as the step says and what is in range still so, words of another size as they were
+pub record Stepped {A : Type 0} (size : ℕ) (meaning : List ℕ → A) (range : List ℕ → Bool) (step : A → A) (entry exit : List ℕ) : Type 0 where
+  pub meant : length entry ≡ size → meaning exit ≡ step (meaning entry)
+  pub ranged : length entry ≡ size → range entry ≡ true → range exit ≡ true
+  pub kept : (length entry ≡ size → ⊥) → exit ≡ entry

@@ -1,0 +1,56 @@
+-- A line in 306 words: how many messages it holds, how many have arrived, and 16 places of 19 words, a name and a timestamp.
+use mathlib.Core.Path.{_≡_}
+use mathlib.Core.Bool.{Bool, cond, _&&_, _||_}
+use mathlib.Core.List.{List, map}
+use Prim.Native.Nat.{ℕ, _+_, _*_}
+use lib.ListN.{length, take, getD}
+use lib.Dec.{ltb, leb}
+use Rattle.words.specs.Words.{part, chunks, every}
+use Rattle.timestamp.specs.Timestamp.{stampOf, room}
+use Rattle.timestamp.specs.InWords.{stampIn, stampSize}
+use Rattle.lines.specs.declared.Message.{Message as MessageValue}
+use Rattle.lines.specs.Lines.{Message, commit, dummy, Line, heldMost}
+
+-- a name below 256 is the number of a record; any other name is a dummy's
+abbrev pub recordsMost : ℕ
+recordsMost = 256
+
+abbrev pub messageSize : ℕ
+messageSize = 1 + stampSize
+
+abbrev pub messageIn : List ℕ → Message
+messageIn w = cond (ltb (getD w 0 0) recordsMost) (commit (getD w 0 0)) (dummy (stampIn (part w 1 stampSize)))
+
+-- a dummy's words say at most eight tuples
+abbrev pub messageRange : List ℕ → Bool
+messageRange w = ltb (getD w 0 0) recordsMost || leb (getD w 2 0) room
+
+-- what a value of the code means
+abbrev pub messageOf : MessageValue → Message
+messageOf m = cond (ltb (m .name) recordsMost) (commit (m .name)) (dummy (stampOf (m .stamp)))
+
+-- ---- the line
+abbrev pub boxesSize : ℕ
+boxesSize = heldMost * messageSize
+
+abbrev pub lineSize : ℕ
+lineSize = 2 + boxesSize
+
+-- the words of each message held
+abbrev pub boxesIn : List ℕ → List (List ℕ)
+boxesIn w = take (getD w 0 0) (chunks messageSize heldMost (part w 2 boxesSize))
+
+abbrev pub lineFrom : ℕ → List (List ℕ) → Line
+lineFrom arrived boxes = record { messages = map messageIn boxes; arrived = arrived }
+
+unfoldable pub lineIn : List ℕ → Line
+lineIn w = lineFrom (getD w 1 0) (boxesIn w)
+
+-- it says at most 16 messages, each of them in range
+unfoldable pub lineRange : List ℕ → Bool
+lineRange w = leb (getD w 0 0) heldMost && every messageRange (boxesIn w)
+
+-- the oldest message of a line; the commit of number 0 where there is none, or the words are no line
+pub record First (w : List ℕ) (m : Message) : Type 0 where
+  pub sized : length w ≡ lineSize → m ≡ getD (lineIn w .messages) 0 (commit 0)
+  pub unsized : (length w ≡ lineSize → ⊥) → m ≡ commit 0

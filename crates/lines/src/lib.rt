@@ -1,0 +1,152 @@
+// A line of messages in 306 words of a lent slice: sent at its end, delivered in order, taken off at its front.
+use timestamp::Count;
+use timestamp::Epoch;
+use timestamp::Timestamp;
+use timestamp::Tuple;
+ghost use mathlib.Core.Path.{_≡_};
+ghost use mathlib.Core.Bool.{true};
+ghost use Prim.Native.Nat.{min, _-_, _≤_};
+ghost use lib.ListN.{length, getD};
+ghost use Rattle.words.specs.Words.{Stepped};
+ghost use Rattle.lines.specs.Lines.{commit, sentOrSame, deliveredOrSame, takenOrSame, heldMost};
+ghost use Rattle.lines.specs.InWords.{messageIn, messageRange, messageOf, messageSize, lineIn, lineRange, lineSize, First};
+
+// A message: the number of the record that it names, or 256 and more for a dummy, which has its own timestamp.
+pub struct Message {
+    pub name: u32,
+    pub stamp: Timestamp,
+}
+
+const MESSAGE: usize = 19;
+
+const LINE: usize = 2 + 16 * MESSAGE;
+
+// How many messages the line holds: 16 at most.
+pub fn held(l: &[u32]) -> usize
+    ensures { λ r. ⌜ (r ≡ length (lineIn (now (l .entry)) .messages)) × (r ≤ heldMost) ⌝ }
+{
+    words::wide(held_word(l))
+}
+
+// How many messages have arrived.
+pub fn arrived(l: &[u32]) -> usize
+    ensures { λ r. ⌜ r ≡ lineIn (now (l .entry)) .arrived ⌝ }
+{
+    words::wide(words::word(l, 1))
+}
+
+// The oldest message; the name 0 where there is none, or the slice is no line.
+pub fn first(l: &[u32]) -> Message
+    ensures { λ r. ⌜ First (now (l .entry)) (messageOf r) ⌝ }
+{
+    if l.len() != LINE {
+        return nameless();
+    }
+    if held_word(l) == 0 {
+        return nameless();
+    }
+    message_in(&l[2..21])
+}
+
+// A message sent, where the line holds less than 16.
+pub fn send(l: &mut [u32], m: Message)
+    ensures { λ r. ⌜ Stepped lineSize lineIn lineRange (sentOrSame (messageOf m)) (now (l .entry)) (now (l .exit)) ⌝ }
+{
+    if l.len() != LINE {
+        return;
+    }
+    let n = held_word(l);
+    if 16 <= n {
+        return;
+    }
+    let a = 2 + words::wide(n) * MESSAGE;
+    let e = a + MESSAGE;
+    put_message(&mut l[a..e], m);
+    words::store(l, 0, n + 1);
+}
+
+// The oldest message on the way arrives, where there is one.
+pub fn deliver(l: &mut [u32])
+    ensures { λ r. ⌜ Stepped lineSize lineIn lineRange deliveredOrSame (now (l .entry)) (now (l .exit)) ⌝ }
+{
+    let n = words::word(l, 1);
+    if l.len() != LINE {
+        return;
+    }
+    if n < held_word(l) {
+        words::store(l, 1, n + 1);
+    }
+}
+
+// The oldest message taken off, where there is one.
+pub fn take(l: &mut [u32])
+    ensures { λ r. ⌜ Stepped lineSize lineIn lineRange takenOrSame (now (l .entry)) (now (l .exit)) ⌝ }
+{
+    if l.len() != LINE {
+        return;
+    }
+    let n = held_word(l);
+    if n == 0 {
+        return;
+    }
+    words::store(l, 0, n - 1);
+    words::store(l, 1, less(words::word(l, 1)));
+    words::shift(&mut l[2..LINE], MESSAGE);
+}
+
+// ---- one message, in 19 words
+fn message_in(w: &[u32]) -> Message
+    requires { ⌜ length (now w) ≡ messageSize ⌝ }
+    ensures { λ r. ⌜ messageOf r ≡ messageIn (now (w .entry)) ⌝ }
+{
+    Message {
+        name: words::word(w, 0),
+        stamp: timestamp::from_words(&w[1..MESSAGE]),
+    }
+}
+
+fn put_message(w: &mut [u32], m: Message)
+    requires { ⌜ length (now w) ≡ messageSize ⌝ }
+    ensures { λ r. ⌜ (messageIn (now (w .exit)) ≡ messageOf m) × (messageRange (now (w .exit)) ≡ true) ⌝ }
+{
+    w[0] = m.name;
+    let t = m.stamp;
+    t.write_to(&mut w[1..MESSAGE]);
+}
+
+// The message of name 0.
+fn nameless() -> Message
+    ensures { λ r. ⌜ messageOf r ≡ commit 0 ⌝ }
+{
+    let none = Tuple {
+        site: 0,
+        count: Count(0),
+    };
+    let t = Timestamp {
+        epoch: Epoch(0),
+        len: 0,
+        tuples: [none; 8],
+    };
+    Message { name: 0, stamp: t }
+}
+
+// The number of messages held, as a word.
+fn held_word(l: &[u32]) -> u32
+    ensures { λ r. ⌜ r ≡ min (getD (now (l .entry)) 0 0) heldMost ⌝ }
+{
+    let n = words::word(l, 0);
+    if n < 16 {
+        return n;
+    }
+    16
+}
+
+// One less, and 0 of 0.
+fn less(x: u32) -> u32
+    ensures { λ r. ⌜ r ≡ x - 1 ⌝ }
+{
+    if x == 0 {
+        return 0;
+    }
+    x - 1
+}
