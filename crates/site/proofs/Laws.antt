@@ -93,10 +93,13 @@ unfolding work
 work-ops b t [] = refl
 work-ops b t (o ∷ os) = ap {B = List Op} (λ l. recorded b b o ∷ l) (work-ops b (written t o) os)
 
-pub kept-next : (b : List ℤ) (ops out out′ : List ℕ) (i : ℕ) → opsIn i out ≡ map (recorded b b) (opsIn i ops)
-    → opsIn (i + 1) out′ ≡ opsIn i out ++ (recorded b b (opAt ops i) ∷ []) → opsIn (i + 1) out′ ≡ map (recorded b b) (opsIn (i + 1) ops)
-kept-next b ops out out′ i e f =
-    f ∙ ap (λ (l : List Op). l ++ (recorded b b (opAt ops i) ∷ [])) e ∙ sym (ap (map (recorded b b)) (ops-last i ops) ∙ map-append (recorded b b) (opsIn i ops) (opAt ops i ∷ []))
+module _ (b : List ℤ) (ops out : List ℕ) (i : ℕ) (e : opsIn i out ≡ map (recorded b b) (opsIn i ops)) where
+  pub kept-next : (out′ : List ℕ) → opsIn (i + 1) out′ ≡ opsIn i out ++ (recorded b b (opAt ops i) ∷ []) → opsIn (i + 1) out′ ≡ map (recorded b b) (opsIn (i + 1) ops)
+  kept-next out′ f =
+      f ∙ ap (λ (l : List Op). l ++ (recorded b b (opAt ops i) ∷ [])) e ∙ sym (ap (map (recorded b b)) (ops-last i ops) ∙ map-append (recorded b b) (opsIn i ops) (opAt ops i ∷ []))
+
+  pub kept-all : (m : ℕ) → i ≡ m → opsIn m out ≡ worked b (opsIn m ops) .ops
+  kept-all m f = ap (λ (k : ℕ). opsIn k out) (sym f) ∙ e ∙ ap (λ (k : ℕ). map (recorded b b) (opsIn k ops)) f ∙ sym (work-ops b b (opsIn m ops))
 
 -- the table after the operations from i on
 module _ (b : List ℤ) (t : List ℤ) (n : ℕ) (ops : List ℕ) (i : ℕ) where
