@@ -19,7 +19,7 @@ use Rattle.timestamp.specs.InWords.{stampIn, stampWords, stampSize}
 use Rattle.timestamp.proofs.Words.{stamp-front, written-back}
 use Rattle.site.specs.Operations.{Op, recorded, written, Work, work, worked}
 use Rattle.site.specs.Site.{Site}
-use Rattle.site.specs.InWords.{opIn, opAt, opsIn, opsMost, opsSize, opSize, tableIn, tableSize, siteIn, siteFrom, siteSize}
+use Rattle.site.specs.InWords.{opIn, opAt, opsIn, opsMost, opsSize, opSize, tableIn, tableSize, siteIn, siteFrom, siteSize, Changed}
 
 -- ---- one operation, word by word
 abbrev pub opOf : ℕ → ℕ → ℕ → Op
@@ -125,8 +125,28 @@ module _ (w : List ℕ) (size : length w ≡ siteSize) (ys : List ℕ) where
       ap₂ siteFrom (put-here w 0 stampSize ys (omega arith) n) (put-above w 0 stampSize ys (omega arith) n stampSize tableSize (omega arith))
       ∙ ap {B = Site} (λ (x : Stamp). record { table = siteIn w .table; stamp = x }) (ap stampIn e ∙ written-back (part w 0 stampSize) s (part-length w 0 stampSize (omega arith)) h)
 
-  pub table-put : (t : List ℤ) → length ys ≡ tableSize → tableIn ys ≡ t → siteIn (put w stampSize tableSize ys) ≡ record { table = t; stamp = siteIn w .stamp }
+  pub table-put : (os : List Op) → length ys ≡ tableSize → tableIn ys ≡ worked (tableIn (part w stampSize tableSize)) os .table
+      → siteIn (put w stampSize tableSize ys) ≡ record { table = worked (siteIn w .table) os .table; stamp = siteIn w .stamp }
   unfolding siteIn
-  table-put t n e =
+  table-put os n e =
       ap₂ siteFrom (put-below w stampSize tableSize ys (omega arith) n 0 stampSize (omega arith)) (put-here w stampSize tableSize ys (omega arith) n)
       ∙ ap {B = Site} (λ (x : List ℤ). record { table = x; stamp = siteIn w .stamp }) e
+
+-- the table of a site, as a part of its words
+pub table-law : (w : List ℕ) → tableIn (part w stampSize tableSize) ≡ siteIn w .table
+unfolding siteIn
+table-law w = refl
+
+-- a site x whose table is written, y, and whose timestamp is then read and replaced, z
+pub stepped : (x y z : Site) (t : List ℤ) (f : Stamp → Stamp) (s s′ : Stamp) → y ≡ record { table = t; stamp = x .stamp } → s ≡ y .stamp → s′ ≡ f s → z ≡ record { table = y .table; stamp = s′ }
+    → z ≡ record { table = t; stamp = f (x .stamp) }
+stepped x y z t f s s′ e g h k =
+    k ∙ ap₂ {C = Site} (λ (a : List ℤ) (b : Stamp). record { table = a; stamp = b }) (ap (λ (v : Site). v .table) e) (h ∙ ap f (g ∙ ap (λ (v : Site). v .stamp) e))
+
+-- ---- what a call leaves
+module _ (w : List ℕ) (step : Site → Site) where
+  pub changed : (w′ : List ℕ) → length w ≡ siteSize → siteIn w′ ≡ step (siteIn w) → Changed w w′ step
+  changed w′ h e = record { sized = λ _. e; unsized = λ n. absurd (n h) }
+
+  pub unchanged : (length w ≡ siteSize → ⊥) → Changed w w step
+  unchanged n = record { sized = λ h. absurd (n h); unsized = λ _. refl }
