@@ -17,7 +17,7 @@ use Rattle.words.proofs.Walks.{laid-in, map-set}
 use Rattle.timestamp.specs.Timestamp.{Stamp, room}
 use Rattle.timestamp.specs.InWords.{stampIn, stampWords, stampSize}
 use Rattle.timestamp.proofs.Words.{stamp-front, written-back}
-use Rattle.site.specs.Operations.{Op, recorded, written, Work, work, worked}
+use Rattle.site.specs.Operations.{Op, recorded, written, work, worked}
 use Rattle.site.specs.Site.{Site}
 use Rattle.site.specs.InWords.{opIn, opAt, opsIn, opsMost, opsSize, opSize, tableIn, tableSize, siteIn, siteFrom, siteSize, Changed}
 
@@ -25,44 +25,45 @@ use Rattle.site.specs.InWords.{opIn, opAt, opsIn, opsMost, opsSize, opSi
 abbrev pub opOf : ℕ → ℕ → ℕ → Op
 opOf kind item v = record { kind = kind; item = item; value = toZ w32 v }
 
-module _ (ops : List ℕ) (i kind item v : ℕ) (k : kind ≡ getD ops (3 * i) 0) (j : item ≡ getD ops (3 * i + 1) 0) where
+module _ (ops : List ℕ) (i : ℕ) where
   op-word : (p n : ℕ) → p ≡ 3 * i + n → n < opSize → getD ops p 0 ≡ getD (part ops (i * opSize) opSize) n 0
   op-word p n e h = let f : p ≡ i * 3 + n = omega arith in ap (λ (q : ℕ). getD ops q 0) f ∙ sym (part-getD ops (i * opSize) opSize n h)
 
-  op-kind : kind ≡ opAt ops i .kind
-  op-kind = k ∙ op-word (3 * i) 0 (omega arith) (omega arith)
+  module _ (kind : ℕ) (k : kind ≡ getD ops (3 * i) 0) where
+    op-kind : kind ≡ opAt ops i .kind
+    op-kind = k ∙ op-word (3 * i) 0 (omega arith) (omega arith)
 
-  op-item : item ≡ opAt ops i .item
-  op-item = j ∙ op-word (3 * i + 1) 1 refl (omega arith)
+    -- what is not a write leaves the table
+    pub write-none : (table : List ℤ) → (kind ≡ 1 → ⊥) → table ≡ written table (opAt ops i)
+    write-none table z = sym (rw (ne-eqb (opAt ops i .kind) 1 (λ f. z (op-kind ∙ f))))
 
-  op-at : v ≡ getD ops (3 * i + 2) 0 → opOf kind item v ≡ opAt ops i
-  op-at e = λ t. record { kind = op-kind t; item = op-item t; value = toZ w32 ((e ∙ op-word (3 * i + 2) 2 refl (omega arith)) t) }
+    module _ (item v : ℕ) (j : item ≡ getD ops (3 * i + 1) 0) where
+      op-item : item ≡ opAt ops i .item
+      op-item = j ∙ op-word (3 * i + 1) 1 refl (omega arith)
 
-  -- a read is kept with the value of the table, another operation as it is
-  pub kept-read : (table : List ℕ) → kind ≡ 0 → v ≡ getD table item 0 → opOf kind item v ≡ recorded (tableIn table) (tableIn table) (opAt ops i)
-  kept-read table z e =
-      let b = tableIn table in
-      let f : opAt ops i .kind ≡ 0 = sym op-kind ∙ z in
-      (λ t. record { kind = op-kind t; item = op-item t; value = (ap (toZ w32) e ∙ sym (List·getD-map (toZ w32) table item 0) ∙ ap (λ (n : ℕ). getD b n (pos 0)) op-item) t })
-      ∙ sym (rw (eq-eqb (opAt ops i .kind) 0 f))
+      -- a read is kept with the value of the table
+      pub kept-read : (table : List ℕ) → kind ≡ 0 → v ≡ getD table item 0 → opOf kind item v ≡ recorded (tableIn table) (tableIn table) (opAt ops i)
+      kept-read table z e =
+          let value = ap (toZ w32) e ∙ sym (List·getD-map (toZ w32) table item 0) ∙ ap (λ (n : ℕ). getD (tableIn table) n (pos 0)) op-item in
+          (λ t. record { kind = op-kind t; item = op-item t; value = value t }) ∙ sym (rw (eq-eqb (opAt ops i .kind) 0 (sym op-kind ∙ z)))
 
-  pub kept-other : (b : List ℤ) → (kind ≡ 0 → ⊥) → v ≡ getD ops (3 * i + 2) 0 → opOf kind item v ≡ recorded b b (opAt ops i)
-  kept-other b z e = op-at e ∙ sym (rw (ne-eqb (opAt ops i .kind) 0 (λ f. z (op-kind ∙ f))))
+      module _ (e : v ≡ getD ops (3 * i + 2) 0) where
+        op-value : toZ w32 v ≡ opAt ops i .value
+        op-value = ap (toZ w32) (e ∙ op-word (3 * i + 2) 2 refl (omega arith))
 
-  -- a write is done to the table
-  pub write-done : (table : List ℕ) → kind ≡ 1 → v ≡ getD ops (3 * i + 2) 0 → tableIn (set table item v) ≡ written (tableIn table) (opAt ops i)
-  write-done table z e =
-      map-set (toZ w32) table item v
-      ∙ ap₂ (set (tableIn table)) op-item (ap (λ (o : Op). o .value) (op-at e))
-      ∙ sym (rw (eq-eqb (opAt ops i .kind) 1 (sym op-kind ∙ z)))
+        -- another operation is kept as it is
+        pub kept-other : (b : List ℤ) → (kind ≡ 0 → ⊥) → opOf kind item v ≡ recorded b b (opAt ops i)
+        kept-other b z =
+            (λ t. record { kind = op-kind t; item = op-item t; value = op-value t }) ∙ sym (rw (ne-eqb (opAt ops i .kind) 0 (λ f. z (op-kind ∙ f))))
 
--- what is not a write leaves the table
-pub write-none : (ops : List ℕ) (i kind : ℕ) (table : List ℤ) → kind ≡ getD ops (3 * i) 0 → (kind ≡ 1 → ⊥) → table ≡ written table (opAt ops i)
-write-none ops i kind table k z = sym (rw (ne-eqb (opAt ops i .kind) 1 (λ f. z (op-kind ops i kind (getD ops (3 * i + 1) 0) 0 k refl ∙ f))))
+        -- a write is done to the table
+        pub write-done : (table : List ℕ) → kind ≡ 1 → tableIn (set table item v) ≡ written (tableIn table) (opAt ops i)
+        write-done table z =
+            map-set (toZ w32) table item v ∙ ap₂ (set (tableIn table)) op-item op-value ∙ sym (rw (eq-eqb (opAt ops i .kind) 1 (sym op-kind ∙ z)))
 
 -- operation i laid after the i before it
-pub laid-op : (out out′ : List ℕ) (i kind item v : ℕ) (o : Op) → length out ≡ opsSize → i < opsMost → out′ ≡ laid out (3 * i) (kind ∷ (item ∷ (v ∷ []))) → opOf kind item v ≡ o
-    → opsIn (i + 1) out′ ≡ opsIn i out ++ (o ∷ [])
+pub laid-op : (out out′ : List ℕ) (i kind item v : ℕ) (o : Op) → length out ≡ opsSize → i < opsMost
+    → out′ ≡ laid out (3 * i) (kind ∷ (item ∷ (v ∷ []))) → opOf kind item v ≡ o → opsIn (i + 1) out′ ≡ opsIn i out ++ (o ∷ [])
 laid-op out out′ i kind item v o size h e f =
     let ys : List ℕ = kind ∷ (item ∷ (v ∷ [])) in
     let at : 3 * i ≡ i * 3 = omega arith in
@@ -138,8 +139,8 @@ unfolding siteIn
 table-law w = refl
 
 -- a site x whose table is written, y, and whose timestamp is then read and replaced, z
-pub stepped : (x y z : Site) (t : List ℤ) (f : Stamp → Stamp) (s s′ : Stamp) → y ≡ record { table = t; stamp = x .stamp } → s ≡ y .stamp → s′ ≡ f s → z ≡ record { table = y .table; stamp = s′ }
-    → z ≡ record { table = t; stamp = f (x .stamp) }
+pub stepped : (x y z : Site) (t : List ℤ) (f : Stamp → Stamp) (s s′ : Stamp)
+    → y ≡ record { table = t; stamp = x .stamp } → s ≡ y .stamp → s′ ≡ f s → z ≡ record { table = y .table; stamp = s′ } → z ≡ record { table = t; stamp = f (x .stamp) }
 stepped x y z t f s s′ e g h k =
     k ∙ ap₂ {C = Site} (λ (a : List ℤ) (b : Stamp). record { table = a; stamp = b }) (ap (λ (v : Site). v .table) e) (h ∙ ap f (g ∙ ap (λ (v : Site). v .stamp) e))
 

@@ -70,10 +70,10 @@ returns-2 c =
     let os = opsIn (min (A .n) opsMost) (A .ops .now) in
     record {
       changed = changed w (committed os) (p .put-stamp .last .0) size
-        (stepped (siteIn w) (siteIn (put w stampSize tableSize ys)) (siteIn (p .put-stamp .last .0)) (worked (siteIn w .table) os .table)
-        raisedOrSame (stampOf (k .stamp .result)) (stampOf (p .before .raise .result))
-        (table-put w size ys os (q .write .kept .0 ∙ part-length w stampSize tableSize (omega arith)) (q .write .ensures))
-        (k .stamp .ensures) (p .before .raise .ensures) (p .put-stamp .ensures));
+          (stepped (siteIn w) (siteIn (put w stampSize tableSize ys)) (siteIn (p .put-stamp .last .0)) (worked (siteIn w .table) os .table)
+          raisedOrSame (stampOf (k .stamp .result)) (stampOf (p .before .raise .result))
+          (table-put w size ys os (q .write .kept .0 ∙ part-length w stampSize tableSize (omega arith)) (q .write .ensures))
+          (k .stamp .ensures) (p .before .raise .ensures) (p .put-stamp .ensures));
       sized = λ _. r .record .ensures ∙ ap (λ (b : List ℤ). worked b os .ops) (table-law w);
     }
 

@@ -52,7 +52,7 @@ returns c =
     let s = k .before .before .before .before in
     let A = s .args in
     laid-op (A .out .now) (c .lay .last .0) (A .i) (k .before .word .result) (k .word2 .result) (r .word3 .result) _ (omega arith) (s .pre) (c .lay .ensures)
-    (kept-read (A .ops .now) (A .i) (k .before .word .result) (k .word2 .result) (r .word3 .result) (k .before .word .ensures) (k .word2 .ensures)
+    (kept-read (A .ops .now) (A .i) (k .before .word .result) (k .before .word .ensures) (k .word2 .result) (r .word3 .result) (k .word2 .ensures)
     (A .table .now) (r .before .before .if1 .taken) (r .word3 .ensures ∙ ap (λ (n : ℕ). getD (A .table .now) n 0) (r .before .wide .ensures)))
 
 returns-2 : tie.Need-returns-2
@@ -62,8 +62,8 @@ returns-2 c =
     let s = k .before .before .before .before in
     let A = s .args in
     laid-op (A .out .now) (c .lay2 .last .0) (A .i) (k .before .word .result) (k .word2 .result) (r .word4 .result) _ (omega arith) (s .pre) (c .lay2 .ensures)
-    (kept-other (A .ops .now) (A .i) (k .before .word .result) (k .word2 .result) (r .word4 .result) (k .before .word .ensures) (k .word2 .ensures)
-    (tableIn (A .table .now)) (r .before .if1 .left) (r .word4 .ensures))
+    (kept-other (A .ops .now) (A .i) (k .before .word .result) (k .before .word .ensures) (k .word2 .result) (r .word4 .result) (k .word2 .ensures)
+    (r .word4 .ensures) (tableIn (A .table .now)) (r .before .if1 .left))
 
 pub record-one-spec : {M : Type 1} → statement M
 record-one-spec =

@@ -1,5 +1,5 @@
 -- `operations::write` does one operation after another: those from i on, done to the table as it is, give the table that all of them give.
-use mathlib.Core.Path.{_≡_, refl, sym, ap, _∙_}
+use mathlib.Core.Path.{_≡_, sym, ap, _∙_}
 use mathlib.Core.List.{List}
 use Prim.Native.Nat.{_≤_, _+_, _-_, min}
 use native.Mathlib.Omega.{arith}
@@ -44,7 +44,7 @@ loop-again c =
       h .loop .inv .1,
       q .kept .0 ∙ h .loop .inv .2,
       h .loop .inv .3 ∙ work-next b (tableIn (h .loop .table)) k (A .ops .now) (h .loop .i) (omega arith)
-      ∙ ap (λ (t : List ℤ). work b t (drop (h .loop .i + 1) (opsIn k (A .ops .now))) .table) (sym (q .ensures)),
+          ∙ ap (λ (t : List ℤ). work b t (drop (h .loop .i + 1) (opsIn k (A .ops .now))) .table) (sym (q .ensures)),
     )
 
 same-length : tie.Need-same-length Inv-loop μ-loop

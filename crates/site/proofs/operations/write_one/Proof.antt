@@ -1,6 +1,5 @@
 -- `operations::write_one` writes one operation's value to the table, where the operation writes.
-use mathlib.Core.Path.{ap, ap₂, _∙_}
-use mathlib.Core.List.{List}
+use mathlib.Core.Path.{ap, _∙_}
 use Prim.Native.Nat.{ℕ}
 use lib.ListN.{set}
 use Rattle.site.specs.InWords.{tableIn}
@@ -43,13 +42,13 @@ returns c =
     let s = k .before .before .before .before .before in
     let A = s .args in
     ap tableIn (c .before .before .store .ensures ∙ ap (λ (n : ℕ). set (A .table .now) n (v .word3 .result)) (v .before .before .wide .ensures))
-    ∙ write-done (A .ops .now) (A .i) (k .before .before .word .result) (k .word2 .result) (v .word3 .result) (k .before .before .word .ensures) (k .word2 .ensures)
-    (A .table .now) (k .before .if1 .taken) (v .word3 .ensures)
+    ∙ write-done (A .ops .now) (A .i) (k .before .before .word .result) (k .before .before .word .ensures) (k .word2 .result) (v .word3 .result) (k .word2 .ensures)
+    (v .word3 .ensures) (A .table .now) (k .before .if1 .taken)
 
 returns-2 : tie.Need-returns-2
 returns-2 c =
     let s = c .before .before .before .before in
-    write-none (s .args .ops .now) (s .args .i) (c .before .word .result) (tableIn (s .args .table .now)) (c .before .word .ensures) (c .if1 .left)
+    write-none (s .args .ops .now) (s .args .i) (c .before .word .result) (c .before .word .ensures) (tableIn (s .args .table .now)) (c .if1 .left)
 
 pub write-one-spec : {M : Type 1} → statement M
 write-one-spec =
