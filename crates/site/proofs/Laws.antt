@@ -1,0 +1,153 @@
+-- Laws of operations in words, of the table that they write, and of a site in words.
+use mathlib.Core.Path.{_≡_, refl, sym, ap, ap₂, _∙_}
+use mathlib.Core.List.{List, [], _∷_, _++_, map, map-append}
+use Prim.Native.Nat.{ℕ, suc, _+_, _*_, _≤_, _<_}
+use native.Mathlib.Omega.{arith}
+use native.Mathlib.Numerals.{add-one}
+use lib.IntN.{ℤ, pos}
+use lib.ListN.{length, getD, set, drop, length-map, drop-of-length-le, List·getD-map}
+use lib.Seq.{drop-cons}
+use borrow.Author.Tests.{eq-eqb, ne-eqb}
+use mir.Val.{toZ}
+use mir.Syntax.{w32}
+use Rattle.words.specs.Words.{part, put, chunks, laid, overlaid}
+use Rattle.words.proofs.Parts.{part-getD, part-length, put-here, put-below, put-above}
+use Rattle.words.proofs.Chunks.{chunks-length, chunks-at, chunks-last, chunks-below}
+use Rattle.words.proofs.Walks.{laid-in, map-set}
+use Rattle.timestamp.specs.Timestamp.{Stamp, room}
+use Rattle.timestamp.specs.InWords.{stampIn, stampWords, stampSize}
+use Rattle.timestamp.proofs.Words.{stamp-front, written-back}
+use Rattle.site.specs.Operations.{Op, recorded, written, work, worked}
+use Rattle.site.specs.Site.{Site}
+use Rattle.site.specs.InWords.{opIn, opAt, opsIn, opsMost, opsSize, opSize, tableIn, tableSize, siteIn, siteFrom, siteSize, Changed}
+
+-- ---- one operation, word by word
+abbrev pub opOf : ℕ → ℕ → ℕ → Op
+opOf kind item v = record { kind = kind; item = item; value = toZ w32 v }
+
+module _ (ops : List ℕ) (i : ℕ) where
+  op-word : (p n : ℕ) → p ≡ 3 * i + n → n < opSize → getD ops p 0 ≡ getD (part ops (i * opSize) opSize) n 0
+  op-word p n e h = let f : p ≡ i * 3 + n = omega arith in ap (λ (q : ℕ). getD ops q 0) f ∙ sym (part-getD ops (i * opSize) opSize n h)
+
+  module _ (kind : ℕ) (k : kind ≡ getD ops (3 * i) 0) where
+    op-kind : kind ≡ opAt ops i .kind
+    op-kind = k ∙ op-word (3 * i) 0 (omega arith) (omega arith)
+
+    -- what is not a write leaves the table
+    pub write-none : (table : List ℤ) → (kind ≡ 1 → ⊥) → table ≡ written table (opAt ops i)
+    write-none table z = sym (rw (ne-eqb (opAt ops i .kind) 1 (λ f. z (op-kind ∙ f))))
+
+    module _ (item v : ℕ) (j : item ≡ getD ops (3 * i + 1) 0) where
+      op-item : item ≡ opAt ops i .item
+      op-item = j ∙ op-word (3 * i + 1) 1 refl (omega arith)
+
+      -- a read is kept with the value of the table
+      pub kept-read : (table : List ℕ) → kind ≡ 0 → v ≡ getD table item 0 → opOf kind item v ≡ recorded (tableIn table) (tableIn table) (opAt ops i)
+      kept-read table z e =
+          let value = ap (toZ w32) e ∙ sym (List·getD-map (toZ w32) table item 0) ∙ ap (λ (n : ℕ). getD (tableIn table) n (pos 0)) op-item in
+          (λ t. record { kind = op-kind t; item = op-item t; value = value t }) ∙ sym (rw (eq-eqb (opAt ops i .kind) 0 (sym op-kind ∙ z)))
+
+      module _ (e : v ≡ getD ops (3 * i + 2) 0) where
+        op-value : toZ w32 v ≡ opAt ops i .value
+        op-value = ap (toZ w32) (e ∙ op-word (3 * i + 2) 2 refl (omega arith))
+
+        -- another operation is kept as it is
+        pub kept-other : (b : List ℤ) → (kind ≡ 0 → ⊥) → opOf kind item v ≡ recorded b b (opAt ops i)
+        kept-other b z =
+            (λ t. record { kind = op-kind t; item = op-item t; value = op-value t }) ∙ sym (rw (ne-eqb (opAt ops i .kind) 0 (λ f. z (op-kind ∙ f))))
+
+        -- a write is done to the table
+        pub write-done : (table : List ℕ) → kind ≡ 1 → tableIn (set table item v) ≡ written (tableIn table) (opAt ops i)
+        write-done table z =
+            map-set (toZ w32) table item v ∙ ap₂ (set (tableIn table)) op-item op-value ∙ sym (rw (eq-eqb (opAt ops i .kind) 1 (sym op-kind ∙ z)))
+
+-- operation i laid after the i before it
+pub laid-op : (out out′ : List ℕ) (i kind item v : ℕ) (o : Op) → length out ≡ opsSize → i < opsMost
+    → out′ ≡ laid out (3 * i) (kind ∷ (item ∷ (v ∷ []))) → opOf kind item v ≡ o → opsIn (i + 1) out′ ≡ opsIn i out ++ (o ∷ [])
+laid-op out out′ i kind item v o size h e f =
+    let ys : List ℕ = kind ∷ (item ∷ (v ∷ [])) in
+    let at : 3 * i ≡ i * 3 = omega arith in
+    let new : List ℕ = put out (i * opSize) opSize ys in
+    ap₂ opsIn (add-one i) (e ∙ laid-in out (3 * i) ys (omega arith) ∙ ap (λ (p : ℕ). put out p opSize ys) at)
+    ∙ ap (map opIn) (chunks-last opSize i new)
+    ∙ map-append opIn (chunks opSize i new) (part new (i * opSize) opSize ∷ [])
+    ∙ ap₂ {C = List Op} (λ (x : List (List ℕ)) (y : List ℕ). map opIn x ++ (opIn y ∷ []))
+    (chunks-below opSize i out (i * opSize) opSize ys (omega arith) (omega arith) refl)
+    (put-here out (i * opSize) opSize ys (omega arith) refl)
+    ∙ ap {B = List Op} (λ x. opsIn i out ++ (x ∷ [])) f
+
+-- ---- all operations
+pub ops-length : (n : ℕ) (w : List ℕ) → length (opsIn n w) ≡ n
+ops-length n w = length-map (chunks opSize n w) opIn ∙ chunks-length opSize n w
+
+ops-drop : (n : ℕ) (w : List ℕ) (i : ℕ) → i < n → drop i (opsIn n w) ≡ opAt w i ∷ drop (suc i) (opsIn n w)
+ops-drop n w i h =
+    drop-cons (opsIn n w) i (opIn []) (omega (arith, ops-length n w))
+    ∙ ap {B = List Op} (λ o. o ∷ drop (suc i) (opsIn n w)) (List·getD-map opIn (chunks opSize n w) i [] ∙ ap opIn (chunks-at opSize n w i h))
+
+pub ops-last : (n : ℕ) (w : List ℕ) → opsIn (n + 1) w ≡ opsIn n w ++ (opAt w n ∷ [])
+ops-last n w = ap (λ (k : ℕ). opsIn k w) (add-one n) ∙ ap (map opIn) (chunks-last opSize n w) ∙ map-append opIn (chunks opSize n w) (part w (n * opSize) opSize ∷ [])
+
+-- the operations as the history keeps them, one by one
+pub work-ops : (b t : List ℤ) (os : List Op) → work b t os .ops ≡ map (recorded b b) os
+unfolding work
+work-ops b t [] = refl
+work-ops b t (o ∷ os) = ap {B = List Op} (λ l. recorded b b o ∷ l) (work-ops b (written t o) os)
+
+module _ (b : List ℤ) (ops out : List ℕ) (i : ℕ) (e : opsIn i out ≡ map (recorded b b) (opsIn i ops)) where
+  pub kept-next : (out′ : List ℕ) → opsIn (i + 1) out′ ≡ opsIn i out ++ (recorded b b (opAt ops i) ∷ []) → opsIn (i + 1) out′ ≡ map (recorded b b) (opsIn (i + 1) ops)
+  kept-next out′ f =
+      f ∙ ap (λ (l : List Op). l ++ (recorded b b (opAt ops i) ∷ [])) e ∙ sym (ap (map (recorded b b)) (ops-last i ops) ∙ map-append (recorded b b) (opsIn i ops) (opAt ops i ∷ []))
+
+  pub kept-all : (m : ℕ) → i ≡ m → opsIn m out ≡ worked b (opsIn m ops) .ops
+  kept-all m f = ap (λ (k : ℕ). opsIn k out) (sym f) ∙ e ∙ ap (λ (k : ℕ). map (recorded b b) (opsIn k ops)) f ∙ sym (work-ops b b (opsIn m ops))
+
+-- the table after the operations from i on
+module _ (b : List ℤ) (t : List ℤ) (n : ℕ) (ops : List ℕ) (i : ℕ) where
+  pub work-next : i < n → work b t (drop i (opsIn n ops)) .table ≡ work b (written t (opAt ops i)) (drop (i + 1) (opsIn n ops)) .table
+  unfolding work
+  work-next h =
+      ap (λ (os : List Op). work b t os .table) (ops-drop n ops i h) ∙ ap (λ (k : ℕ). work b (written t (opAt ops i)) (drop k (opsIn n ops)) .table) (sym (add-one i))
+
+  pub work-end : n ≤ i → work b t (drop i (opsIn n ops)) .table ≡ t
+  unfolding work
+  work-end h = ap (λ (os : List Op). work b t os .table) (drop-of-length-le (opsIn n ops) {i = i} (omega (arith, ops-length n ops)))
+
+-- ---- a site in words
+pub stamp-law : (w : List ℕ) → stampIn w ≡ siteIn w .stamp
+unfolding siteIn
+stamp-law w = sym (stamp-front w)
+
+module _ (w : List ℕ) (size : length w ≡ siteSize) (ys : List ℕ) where
+  pub stamp-put : (s : Stamp) → length ys ≡ stampSize → ys ≡ overlaid (part w 0 stampSize) (stampWords s) → length (s .tuples) ≤ room
+      → siteIn (put w 0 stampSize ys) ≡ record { table = siteIn w .table; stamp = s }
+  unfolding siteIn
+  stamp-put s n e h =
+      ap₂ siteFrom (put-here w 0 stampSize ys (omega arith) n) (put-above w 0 stampSize ys (omega arith) n stampSize tableSize (omega arith))
+      ∙ ap {B = Site} (λ (x : Stamp). record { table = siteIn w .table; stamp = x }) (ap stampIn e ∙ written-back (part w 0 stampSize) s (part-length w 0 stampSize (omega arith)) h)
+
+  pub table-put : (os : List Op) → length ys ≡ tableSize → tableIn ys ≡ worked (tableIn (part w stampSize tableSize)) os .table
+      → siteIn (put w stampSize tableSize ys) ≡ record { table = worked (siteIn w .table) os .table; stamp = siteIn w .stamp }
+  unfolding siteIn
+  table-put os n e =
+      ap₂ siteFrom (put-below w stampSize tableSize ys (omega arith) n 0 stampSize (omega arith)) (put-here w stampSize tableSize ys (omega arith) n)
+      ∙ ap {B = Site} (λ (x : List ℤ). record { table = x; stamp = siteIn w .stamp }) e
+
+-- the table of a site, as a part of its words
+pub table-law : (w : List ℕ) → tableIn (part w stampSize tableSize) ≡ siteIn w .table
+unfolding siteIn
+table-law w = refl
+
+-- a site x whose table is written, y, and whose timestamp is then read and replaced, z
+pub stepped : (x y z : Site) (t : List ℤ) (f : Stamp → Stamp) (s s′ : Stamp)
+    → y ≡ record { table = t; stamp = x .stamp } → s ≡ y .stamp → s′ ≡ f s → z ≡ record { table = y .table; stamp = s′ } → z ≡ record { table = t; stamp = f (x .stamp) }
+stepped x y z t f s s′ e g h k =
+    k ∙ ap₂ {C = Site} (λ (a : List ℤ) (b : Stamp). record { table = a; stamp = b }) (ap (λ (v : Site). v .table) e) (h ∙ ap f (g ∙ ap (λ (v : Site). v .stamp) e))
+
+-- ---- what a call leaves
+module _ (w : List ℕ) (step : Site → Site) where
+  pub changed : (w′ : List ℕ) → length w ≡ siteSize → siteIn w′ ≡ step (siteIn w) → Changed w w′ step
+  changed w′ h e = record { sized = λ _. e; unsized = λ n. absurd (n h) }
+
+  pub unchanged : (length w ≡ siteSize → ⊥) → Changed w w step
+  unchanged n = record { sized = λ h. absurd (n h); unsized = λ _. refl }

@@ -1,0 +1,97 @@
+-- `site::commit` records the operations on the table as it was, writes it, and raises the own count.
+use mathlib.Core.Path.{ap, _∙_}
+use mathlib.Core.List.{List}
+use Prim.Native.Nat.{min}
+use native.Mathlib.Omega.{arith}
+use lib.IntN.{ℤ}
+use Rattle.words.specs.Words.{put}
+use Rattle.words.proofs.Parts.{part-length}
+use Rattle.timestamp.specs.Timestamp.{stampOf, raisedOrSame}
+use Rattle.timestamp.specs.InWords.{stampSize}
+use Rattle.site.specs.Operations.{worked}
+use Rattle.site.specs.Site.{committed}
+use Rattle.site.specs.InWords.{siteIn, opsIn, opsMost, tableSize}
+use Rattle.site.proofs.Laws.{table-law, table-put, stepped, changed, unchanged}
+use borrow.Author.Needs.{needs}
+use Rattle.site.proofs.commit.Statement.{statement}
+use Rattle.site.proofs.commit.Tie as tie
+
+returns : tie.Need-returns
+returns c =
+    let A = c .before .before .before .args in
+    record { changed = unchanged (A .part .now) (committed (opsIn (min (A .n) opsMost) (A .ops .now))) (c .if1 .taken); sized = λ h. absurd (c .if1 .taken h) }
+
+sub-record : tie.Need-sub-record
+sub-record c = search needs
+
+part-record-start : tie.Need-part-record-start
+part-record-start c = search needs
+
+part-record-end : tie.Need-part-record-end
+part-record-end c = search needs
+
+record-requires : tie.Need-record-requires
+record-requires c κs = search needs
+
+sub-write : tie.Need-sub-write
+sub-write c = search needs
+
+part-write-start : tie.Need-part-write-start
+part-write-start c = search needs
+
+part-write-end : tie.Need-part-write-end
+part-write-end c = search needs
+
+write-requires : tie.Need-write-requires
+write-requires c κs = search needs
+
+stamp-requires : tie.Need-stamp-requires
+stamp-requires c κs = search needs
+
+raise-requires : tie.Need-raise-requires
+raise-requires c κs = search needs
+
+put-stamp-requires : tie.Need-put-stamp-requires
+put-stamp-requires c κs = search needs
+
+same-length : tie.Need-same-length
+same-length c = search needs
+
+returns-2 : tie.Need-returns-2
+returns-2 c =
+    let p = c .before .before in
+    let k = p .before .before in
+    let q = k .before .before .before .before .before in
+    let r = q .before .before in
+    let A = r .before .before .before .before .before .before .args in
+    let size = r .before .before .before .if1 .left in
+    let w = A .part .now in
+    let ys = q .write .last .0 in
+    let os = opsIn (min (A .n) opsMost) (A .ops .now) in
+    record {
+      changed = changed w (committed os) (p .put-stamp .last .0) size
+          (stepped (siteIn w) (siteIn (put w stampSize tableSize ys)) (siteIn (p .put-stamp .last .0)) (worked (siteIn w .table) os .table)
+          raisedOrSame (stampOf (k .stamp .result)) (stampOf (p .before .raise .result))
+          (table-put w size ys os (q .write .kept .0 ∙ part-length w stampSize tableSize (omega arith)) (q .write .ensures))
+          (k .stamp .ensures) (p .before .raise .ensures) (p .put-stamp .ensures));
+      sized = λ _. r .record .ensures ∙ ap (λ (b : List ℤ). worked b os .ops) (table-law w);
+    }
+
+pub commit-spec : {M : Type 1} → statement M
+commit-spec =
+    tie.close
+    (tie.spec
+    returns
+    sub-record
+    part-record-start
+    part-record-end
+    record-requires
+    sub-write
+    part-write-start
+    part-write-end
+    write-requires
+    stamp-requires
+    raise-requires
+    put-stamp-requires
+    same-length
+    returns-2)

@@ -1,0 +1,60 @@
+-- A site in 82 words, its timestamp and its table; and operations in three words each: kind, item, value.
+use mathlib.Core.Path.{_≡_}
+use mathlib.Core.List.{List, map}
+use Prim.Native.Nat.{ℕ, _+_, _*_}
+use lib.IntN.{ℤ}
+use lib.ListN.{getD, length}
+use mir.Val.{toZ}
+use mir.Syntax.{w32}
+use Rattle.words.specs.Words.{part, chunks}
+use Rattle.timestamp.specs.InWords.{stampIn, stampSize}
+use Rattle.site.specs.Operations.{Op, worked}
+use Rattle.site.specs.Site.{Site, committed}
+
+-- ---- operations
+abbrev pub opSize : ℕ
+opSize = 3
+
+-- the most operations of a commit
+abbrev pub opsMost : ℕ
+opsMost = 8
+
+abbrev pub opsSize : ℕ
+opsSize = opsMost * opSize
+
+abbrev pub opIn : List ℕ → Op
+opIn w = record { kind = getD w 0 0; item = getD w 1 0; value = toZ w32 (getD w 2 0) }
+
+-- operation i of the words
+abbrev pub opAt : List ℕ → ℕ → Op
+opAt w i = opIn (part w (i * opSize) opSize)
+
+-- the first n operations of the words
+abbrev pub opsIn : ℕ → List ℕ → List Op
+opsIn n w = map opIn (chunks opSize n w)
+
+-- ---- a site
+abbrev pub tableSize : ℕ
+tableSize = 64
+
+abbrev pub siteSize : ℕ
+siteSize = stampSize + tableSize
+
+abbrev pub tableIn : List ℕ → List ℤ
+tableIn w = map (toZ w32) w
+
+abbrev pub siteFrom : List ℕ → List ℕ → Site
+siteFrom s t = record { stamp = stampIn s; table = tableIn t }
+
+unfoldable pub siteIn : List ℕ → Site
+siteIn w = siteFrom (part w 0 stampSize) (part w stampSize tableSize)
+
+-- what a call leaves: words of another size as they were, and a site's as the step says
+pub record Changed (entry exit : List ℕ) (step : Site → Site) : Type 0 where
+  pub sized : length entry ≡ siteSize → siteIn exit ≡ step (siteIn entry)
+  pub unsized : (length entry ≡ siteSize → ⊥) → exit ≡ entry
+
+-- what a commit of the operations `os` leaves, and the operations that it answers
+pub record Committed (entry exit : List ℕ) (os answered : List Op) : Type 0 where
+  pub changed : Changed entry exit (committed os)
+  pub sized : length entry ≡ siteSize → answered ≡ worked (siteIn entry .table) os .ops

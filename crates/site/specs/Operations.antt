@@ -1,0 +1,51 @@
+-- The operations of a commit: what each reads, and what they do to a table.
+use mathlib.Core.Bool.{Bool, cond}
+use mathlib.Core.List.{List, [], _∷_}
+use Prim.Native.Nat.{ℕ}
+use lib.IntN.{ℤ, pos}
+use lib.ListN.{set, getD}
+use lib.Dec.{eqb}
+
+-- an operation: kind 0 reads, kind 1 writes
+pub record Op : Type 0 where
+  pub kind : ℕ
+  pub item : ℕ
+  pub value : ℤ
+
+abbrev pub reads : Op → Bool
+reads o = eqb (o .kind) 0
+
+abbrev pub writes : Op → Bool
+writes o = eqb (o .kind) 1
+
+-- the value that a read gives: that of the table before the commit
+abbrev pub readValue : List ℤ → List ℤ → Op → ℤ
+readValue before table o = getD before (o .item) (pos 0)
+
+-- an operation as the history keeps it: a read with the value it gave
+abbrev pub recorded : List ℤ → List ℤ → Op → Op
+recorded before table o = cond (reads o) (record { kind = o .kind; item = o .item; value = readValue before table o }) o
+
+-- a table after an operation
+abbrev pub written : List ℤ → Op → List ℤ
+written table o = cond (writes o) (set table (o .item) (o .value)) table
+
+-- what a list of operations leaves: the table after them, and the operations as the history keeps them
+pub record Work : Type 0 where
+  pub table : List ℤ
+  pub ops : List Op
+
+-- the operations one after another, from the table before the commit and the table now
+unfoldable pub work : List ℤ → List ℤ → List Op → Work
+work before table [] = record { table = table; ops = [] }
+work before table (o ∷ os) =
+    let rest = work before (written table o) os in
+    record { table = rest .table; ops = recorded before table o ∷ rest .ops }
+
+abbrev pub worked : List ℤ → List Op → Work
+worked table os = work table table os
+
+-- the values of the reads, in order
+abbrev pub valuesRead : List Op → List ℤ
+valuesRead [] = []
+valuesRead (o ∷ os) = cond (reads o) (o .value ∷ valuesRead os) (valuesRead os)

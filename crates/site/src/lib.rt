@@ -1,0 +1,73 @@
+// One site on a part of the state that is its own: 18 words of its timestamp, then its table of signed values, a word each.
+pub mod operations; // operations.rt: what a commit's operations read and write
+
+use timestamp::Epoch;
+use timestamp::Timestamp;
+ghost use mathlib.Core.Path.{_≡_};
+ghost use Prim.Native.Nat.{min};
+ghost use lib.ListN.{length};
+ghost use Rattle.timestamp.specs.Timestamp.{stampOf};
+ghost use Rattle.site.specs.Site.{dummied, atEpoch, received};
+ghost use Rattle.site.specs.InWords.{siteIn, siteSize, opsIn, opsMost, Changed, Committed};
+
+const STAMP: usize = 18;
+
+const SITE: usize = STAMP + 64;
+
+// The timestamp of a site.
+pub fn stamp(part: &[u32]) -> Timestamp
+    ensures { λ r. ⌜ stampOf r ≡ siteIn (now (part .entry)) .stamp ⌝ }
+{
+    timestamp::from_words(part)
+}
+
+// A commit: the operations as the history keeps them, the table after their writes, the own count one higher.
+pub fn commit(part: &mut [u32], ops: &[u32], n: usize) -> [u32; 24]
+    ensures { λ r. ⌜ Committed (now (part .entry)) (now (part .exit)) (opsIn (min n opsMost) (now (ops .entry))) (opsIn (min n opsMost) r) ⌝ }
+{
+    if part.len() != SITE {
+        return [0u32; 24];
+    }
+    let done = operations::record(&part[STAMP..SITE], ops, n);
+    operations::write(&mut part[STAMP..SITE], ops, n);
+    put_stamp(part, stamp(part).raise());
+    done
+}
+
+// A dummy: the own count one higher.
+pub fn dummy(part: &mut [u32])
+    ensures { λ r. ⌜ Changed (now (part .entry)) (now (part .exit)) dummied ⌝ }
+{
+    if part.len() == SITE {
+        put_stamp(part, stamp(part).raise());
+    }
+}
+
+// Another epoch.
+pub fn epoch(part: &mut [u32], number: u32)
+    ensures { λ r. ⌜ Changed (now (part .entry)) (now (part .exit)) (atEpoch number) ⌝ }
+{
+    if part.len() == SITE {
+        put_stamp(part, stamp(part).at_epoch(Epoch(number)));
+    }
+}
+
+// An arriving message: its writes, and its timestamp with the site's own tuple added.
+pub fn receive(part: &mut [u32], ops: &[u32], n: usize, t: Timestamp)
+    ensures { λ r. ⌜ Changed (now (part .entry)) (now (part .exit)) (received (opsIn (min n opsMost) (now (ops .entry))) (stampOf t)) ⌝ }
+{
+    if part.len() == SITE {
+        operations::write(&mut part[STAMP..SITE], ops, n);
+        let own = stamp(part).own();
+        let count = own.count;
+        put_stamp(part, t.append(own.site, count));
+    }
+}
+
+// Another timestamp; the table stays.
+fn put_stamp(part: &mut [u32], t: Timestamp)
+    requires { ⌜ length (now part) ≡ siteSize ⌝ }
+    ensures { λ r. ⌜ siteIn (now (part .exit)) ≡ record { table = siteIn (now (part .entry)) .table; stamp = stampOf t } ⌝ }
+{
+    t.write_to(&mut part[0..STAMP]);
+}
