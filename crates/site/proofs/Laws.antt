@@ -7,19 +7,21 @@ use native.Mathlib.Numerals.{add-one}
 use lib.IntN.{ℤ, pos}
 use lib.ListN.{length, getD, set, drop, length-map, drop-of-length-le, List·getD-map}
 use lib.Seq.{drop-cons}
-use borrow.Author.Tests.{eq-eqb, ne-eqb}
+use mathlib.Core.Bool.{true}
+use borrow.Author.Tests.{eq-eqb, ne-eqb, le-leb}
 use mir.Val.{toZ}
 use mir.Syntax.{w32}
 use Rattle.words.specs.Words.{part, put, chunks, laid, overlaid}
 use Rattle.words.proofs.Parts.{part-getD, part-length, put-here, put-below, put-above}
 use Rattle.words.proofs.Chunks.{chunks-length, chunks-at, chunks-last, chunks-below}
-use Rattle.words.proofs.Walks.{laid-in, map-set}
+use Rattle.words.proofs.Steps.{not-stepped}
+use Rattle.words.proofs.Walks.{laid-in, map-set, overlaid-same}
 use Rattle.timestamp.specs.Timestamp.{Stamp, room}
 use Rattle.timestamp.specs.InWords.{stampIn, stampWords, stampSize}
-use Rattle.timestamp.proofs.Words.{stamp-front, written-back}
+use Rattle.timestamp.proofs.Words.{stamp-front, written-back, words-length}
 use Rattle.site.specs.Operations.{Op, recorded, written, work, worked}
 use Rattle.site.specs.Site.{Site}
-use Rattle.site.specs.InWords.{opIn, opAt, opsIn, opsMost, opsSize, opSize, tableIn, tableSize, siteIn, siteFrom, siteSize, Changed}
+use Rattle.site.specs.InWords.{opIn, opAt, opsIn, opsMost, opsSize, opSize, tableIn, tableSize, siteIn, siteFrom, siteSize, siteRange, Changed}
 
 -- ---- one operation, word by word
 abbrev pub opOf : ℕ → ℕ → ℕ → Op
@@ -144,10 +146,19 @@ pub stepped : (x y z : Site) (t : List ℤ) (f : Stamp → Stamp) (s s′ : Stam
 stepped x y z t f s s′ e g h k =
     k ∙ ap₂ {C = Site} (λ (a : List ℤ) (b : Stamp). record { table = a; stamp = b }) (ap (λ (v : Site). v .table) e) (h ∙ ap f (g ∙ ap (λ (v : Site). v .stamp) e))
 
+-- a timestamp's words, written to the front, say as many tuples as it has
+pub stamp-range : (w : List ℕ) → length w ≡ siteSize → (ys : List ℕ) (s : Stamp) → length ys ≡ stampSize → ys ≡ overlaid (part w 0 stampSize) (stampWords s) → length (s .tuples) ≤ room → siteRange (put w 0 stampSize ys) ≡ true
+unfolding siteRange stampWords
+stamp-range w size ys s n e h =
+    let same : ys ≡ stampWords s = e ∙ overlaid-same (part w 0 stampSize) (stampWords s) (words-length s ∙ sym (part-length w 0 stampSize (omega arith))) in
+    let count : getD (put w 0 stampSize ys) 1 0 ≡ length (s .tuples)
+    = sym (part-getD (put w 0 stampSize ys) 0 stampSize 1 (omega arith)) ∙ ap (λ (x : List ℕ). getD x 1 0) (put-here w 0 stampSize ys (omega arith) n ∙ same) in
+    le-leb (getD (put w 0 stampSize ys) 1 0) room (omega arith)
+
 -- ---- what a call leaves
 module _ (w : List ℕ) (step : Site → Site) where
-  pub changed : (w′ : List ℕ) → length w ≡ siteSize → siteIn w′ ≡ step (siteIn w) → Changed w w′ step
-  changed w′ h e = record { sized = λ _. e; unsized = λ n. absurd (n h) }
+  pub changed : (w′ : List ℕ) → length w ≡ siteSize → siteIn w′ ≡ step (siteIn w) → siteRange w′ ≡ true → Changed w w′ step
+  changed w′ h e r = record { meant = λ _. e; ranged = λ _ _. r; kept = λ n. absurd (n h) }
 
   pub unchanged : (length w ≡ siteSize → ⊥) → Changed w w step
-  unchanged n = record { sized = λ h. absurd (n h); unsized = λ _. refl }
+  unchanged n = not-stepped siteSize siteIn siteRange step w n

@@ -1,12 +1,15 @@
 -- A site in 82 words, its timestamp and its table; and operations in three words each: kind, item, value.
 use mathlib.Core.Path.{_≡_}
+use mathlib.Core.Bool.{Bool}
 use mathlib.Core.List.{List, map}
 use Prim.Native.Nat.{ℕ, _+_, _*_}
 use lib.IntN.{ℤ}
 use lib.ListN.{getD, length}
+use lib.Dec.{leb}
 use mir.Val.{toZ}
 use mir.Syntax.{w32}
-use Rattle.words.specs.Words.{part, chunks}
+use Rattle.words.specs.Words.{part, chunks, Stepped}
+use Rattle.timestamp.specs.Timestamp.{room}
 use Rattle.timestamp.specs.InWords.{stampIn, stampSize}
 use Rattle.site.specs.Operations.{Op, worked}
 use Rattle.site.specs.Site.{Site, committed}
@@ -49,10 +52,13 @@ siteFrom s t = record { stamp = stampIn s; table = tableIn t }
 unfoldable pub siteIn : List ℕ → Site
 siteIn w = siteFrom (part w 0 stampSize) (part w stampSize tableSize)
 
--- what a call leaves: words of another size as they were, and a site's as the step says
-pub record Changed (entry exit : List ℕ) (step : Site → Site) : Type 0 where
-  pub sized : length entry ≡ siteSize → siteIn exit ≡ step (siteIn entry)
-  pub unsized : (length entry ≡ siteSize → ⊥) → exit ≡ entry
+-- its timestamp's words say at most eight tuples
+unfoldable pub siteRange : List ℕ → Bool
+siteRange w = leb (getD w 1 0) room
+
+-- what a call leaves of a site's words
+abbrev pub Changed : List ℕ → List ℕ → (Site → Site) → Type 0
+Changed entry exit step = Stepped siteSize siteIn siteRange step entry exit
 
 -- what a commit of the operations `os` leaves, and the operations that it answers
 pub record Committed (entry exit : List ℕ) (os answered : List Op) : Type 0 where

@@ -4,11 +4,12 @@ pub mod operations; // operations.rt: what a commit's operations read and write
 use timestamp::Epoch;
 use timestamp::Timestamp;
 ghost use mathlib.Core.Path.{_≡_};
+ghost use mathlib.Core.Bool.{true};
 ghost use Prim.Native.Nat.{min};
 ghost use lib.ListN.{length};
 ghost use Rattle.timestamp.specs.Timestamp.{stampOf};
 ghost use Rattle.site.specs.Site.{dummied, atEpoch, received};
-ghost use Rattle.site.specs.InWords.{siteIn, siteSize, opsIn, opsMost, Changed, Committed};
+ghost use Rattle.site.specs.InWords.{siteIn, siteRange, siteSize, opsIn, opsMost, Changed, Committed};
 
 const STAMP: usize = 18;
 
@@ -67,7 +68,7 @@ pub fn receive(part: &mut [u32], ops: &[u32], n: usize, t: Timestamp)
 // Another timestamp; the table stays.
 fn put_stamp(part: &mut [u32], t: Timestamp)
     requires { ⌜ length (now part) ≡ siteSize ⌝ }
-    ensures { λ r. ⌜ siteIn (now (part .exit)) ≡ record { table = siteIn (now (part .entry)) .table; stamp = stampOf t } ⌝ }
+    ensures { λ r. ⌜ (siteIn (now (part .exit)) ≡ record { table = siteIn (now (part .entry)) .table; stamp = stampOf t }) × (siteRange (now (part .exit)) ≡ true) ⌝ }
 {
     t.write_to(&mut part[0..STAMP]);
 }

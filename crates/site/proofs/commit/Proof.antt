@@ -73,7 +73,7 @@ returns-2 c =
           (stepped (siteIn w) (siteIn (put w stampSize tableSize ys)) (siteIn (p .put-stamp .last .0)) (worked (siteIn w .table) os .table)
           raisedOrSame (stampOf (k .stamp .result)) (stampOf (p .before .raise .result))
           (table-put w size ys os (q .write .kept .0 ∙ part-length w stampSize tableSize (omega arith)) (q .write .ensures))
-          (k .stamp .ensures) (p .before .raise .ensures) (p .put-stamp .ensures));
+          (k .stamp .ensures) (p .before .raise .ensures) (p .put-stamp .ensures .0)) (p .put-stamp .ensures .1);
       sized = λ _. r .record .ensures ∙ ap (λ (b : List ℤ). worked b os .ops) (table-law w);
     }
 

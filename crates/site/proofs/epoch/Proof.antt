@@ -28,7 +28,7 @@ returns c =
     let w = A .part .now in
     changed w (atEpoch (A .number)) (p .put-stamp .last .0) (k .before .before .before .if1 .taken)
     (stepped (siteIn w) (siteIn w) (siteIn (p .put-stamp .last .0)) (siteIn w .table) (λ (s : Stamp). withEpoch s (A .number)) (stampOf (k .stamp .result)) (stampOf (p .before .at-epoch .result))
-    refl (k .stamp .ensures) (p .before .at-epoch .ensures) (p .put-stamp .ensures))
+    refl (k .stamp .ensures) (p .before .at-epoch .ensures) (p .put-stamp .ensures .0)) (p .put-stamp .ensures .1)
 
 returns-2 : tie.Need-returns-2
 returns-2 c = unchanged (c .before .before .args .part .now) (atEpoch (c .before .before .args .number)) (c .if1 .left)

@@ -4,7 +4,7 @@ use native.Mathlib.Omega.{arith}
 use Rattle.words.proofs.Parts.{part-length}
 use Rattle.timestamp.specs.Timestamp.{stampOf}
 use Rattle.timestamp.specs.InWords.{stampSize}
-use Rattle.site.proofs.Laws.{stamp-put}
+use Rattle.site.proofs.Laws.{stamp-put, stamp-range}
 use borrow.Author.Needs.{needs}
 use Rattle.site.proofs.put_stamp.Statement.{statement}
 use Rattle.site.proofs.put_stamp.Tie as tie
@@ -29,7 +29,8 @@ returns c =
     let q = c .before .before .write-to in
     let s = c .before .before .before .before .before in
     let w = s .args .part .now in
-    stamp-put w (s .pre) (q .last .1 .0) (stampOf (s .args .t)) (q .kept .1 .0 ∙ part-length w 0 stampSize (omega arith)) (q .ensures .0) (q .ensures .1)
+    let fits = q .kept .1 .0 ∙ part-length w 0 stampSize (omega arith) in
+    (stamp-put w (s .pre) (q .last .1 .0) (stampOf (s .args .t)) fits (q .ensures .0) (q .ensures .1), stamp-range w (s .pre) (q .last .1 .0) (stampOf (s .args .t)) fits (q .ensures .0) (q .ensures .1))
 
 pub put-stamp-spec : {M : Type 1} → statement M
 put-stamp-spec =
