@@ -28,7 +28,7 @@ abbrev pub opOf : ℕ → ℕ → ℕ → Op
 opOf kind item v = record { kind = kind; item = item; value = toZ w32 v }
 
 module _ (ops : List ℕ) (i : ℕ) where
-  op-word : (p n : ℕ) → p ≡ 3 * i + n → n < opSize → getD ops p 0 ≡ getD (part ops (i * opSize) opSize) n 0
+  pub op-word : (p n : ℕ) → p ≡ 3 * i + n → n < opSize → getD ops p 0 ≡ getD (part ops (i * opSize) opSize) n 0
   op-word p n e h = let f : p ≡ i * 3 + n = omega arith in ap (λ (q : ℕ). getD ops q 0) f ∙ sym (part-getD ops (i * opSize) opSize n h)
 
   module _ (kind : ℕ) (k : kind ≡ getD ops (3 * i) 0) where
@@ -82,10 +82,13 @@ laid-op out out′ i kind item v o size h e f =
 pub ops-length : (n : ℕ) (w : List ℕ) → length (opsIn n w) ≡ n
 ops-length n w = length-map (chunks opSize n w) opIn ∙ chunks-length opSize n w
 
+pub ops-at : (n : ℕ) (w : List ℕ) (i : ℕ) → i < n → getD (opsIn n w) i (opIn []) ≡ opAt w i
+ops-at n w i h = List·getD-map opIn (chunks opSize n w) i [] ∙ ap opIn (chunks-at opSize n w i h)
+
 ops-drop : (n : ℕ) (w : List ℕ) (i : ℕ) → i < n → drop i (opsIn n w) ≡ opAt w i ∷ drop (suc i) (opsIn n w)
 ops-drop n w i h =
     drop-cons (opsIn n w) i (opIn []) (omega (arith, ops-length n w))
-    ∙ ap {B = List Op} (λ o. o ∷ drop (suc i) (opsIn n w)) (List·getD-map opIn (chunks opSize n w) i [] ∙ ap opIn (chunks-at opSize n w i h))
+    ∙ ap {B = List Op} (λ o. o ∷ drop (suc i) (opsIn n w)) (ops-at n w i h)
 
 pub ops-last : (n : ℕ) (w : List ℕ) → opsIn (n + 1) w ≡ opsIn n w ++ (opAt w n ∷ [])
 ops-last n w = ap (λ (k : ℕ). opsIn k w) (add-one n) ∙ ap (map opIn) (chunks-last opSize n w) ∙ map-append opIn (chunks opSize n w) (part w (n * opSize) opSize ∷ [])

@@ -46,6 +46,11 @@ notLater Earlier = true
 notLater Equal = true
 notLater Later = false
 
+abbrev pub isEarlier : Order → Bool
+isEarlier Earlier = true
+isEarlier Equal = false
+isEarlier Later = false
+
 abbrev pub IsEarlier : (ℕ → ℕ) → Stamp → Stamp → Type 0
 IsEarlier place s t = orderBy place s t ≡ Earlier
 

@@ -1,0 +1,31 @@
+-- A record in 44 words: its site, how many operations it has, its timestamp, and eight places of operations.
+use mathlib.Core.Path.{_≡_}
+use mathlib.Core.Bool.{Bool, true, _&&_}
+use mathlib.Core.List.{List}
+use Prim.Native.Nat.{ℕ, _+_, _≤_, min}
+use lib.ListN.{length, getD}
+use lib.Dec.{leb}
+use Rattle.words.specs.Words.{part}
+use Rattle.timestamp.specs.Timestamp.{Stamp, room}
+use Rattle.timestamp.specs.InWords.{stampIn, stampSize}
+use Rattle.site.specs.InWords.{opsIn, opsMost, opsSize}
+use Rattle.records.specs.Records.{Record}
+
+abbrev pub opsAt : ℕ
+opsAt = 2 + stampSize
+
+abbrev pub recordSize : ℕ
+recordSize = opsAt + opsSize
+
+unfoldable pub recordIn : List ℕ → Record
+recordIn w = record { site = getD w 0 0; stamp = stampIn (part w 2 stampSize); ops = opsIn (min (getD w 1 0) opsMost) (part w opsAt opsSize) }
+
+-- it says 1 to 8 operations, and at most eight tuples
+unfoldable pub recordRange : List ℕ → Bool
+recordRange w = leb 1 (getD w 1 0) && (leb (getD w 1 0) opsMost && leb (getD w 3 0) room)
+
+-- what writing a record leaves: words of another size as they were, and so where the operations' words are of another size
+pub record Written (entry exit : List ℕ) (site count : ℕ) (stamp : Stamp) (ops : List ℕ) : Type 0 where
+  pub meant : length entry ≡ recordSize → length ops ≡ opsSize → recordIn exit ≡ record { site = site; stamp = stamp; ops = opsIn (min count opsMost) ops }
+  pub ranged : length entry ≡ recordSize → length ops ≡ opsSize → 1 ≤ count → count ≤ opsMost → recordRange exit ≡ true
+  pub kept : (length entry ≡ recordSize → length ops ≡ opsSize → ⊥) → exit ≡ entry
