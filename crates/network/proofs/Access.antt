@@ -1,0 +1,98 @@
+-- A site, a line or a record lent as a part of the state: what is read of it, and what a step on it does to the network.
+use mathlib.Core.Path.{_≡_, refl, sym, ap, _∙_}
+use mathlib.Core.Bool.{Bool, true}
+use mathlib.Core.List.{List, []}
+use Prim.Native.Nat.{ℕ, _+_, _-_, _*_, _≤_, _<_}
+use native.Mathlib.Omega.{arith}
+use lib.ListN.{length, getD}
+use Rattle.words.specs.Words.{part, put, every, Stepped}
+use Rattle.words.proofs.Parts.{part-length, lent-part, lent-put, lent-size}
+use Rattle.words.proofs.Chunks.{chunks-length}
+use Rattle.words.proofs.Walks.{every-at}
+use Rattle.site.specs.Site.{Site}
+use Rattle.site.specs.InWords.{siteIn, siteRange, siteSize}
+use Rattle.placement.specs.InWords.{sitesMost}
+use Rattle.lines.specs.Lines.{Line, noLine}
+use Rattle.lines.specs.InWords.{lineIn, lineRange, lineSize, recordsMost}
+use Rattle.records.specs.Records.{Record}
+use Rattle.records.specs.InWords.{recordIn, recordSize}
+use Rattle.network.specs.Layout.{sitesAt, sitesSize, linesAt, linesSize, linesMost, historyAt, stateSize}
+use Rattle.network.specs.Network.{Network, siteAt, withSite, withLine, noRecord}
+use Rattle.network.specs.InWords.{siteWords, lineWords, networkIn, inRange, SiteStep, LineStep}
+use Rattle.network.proofs.Assembled.{Range, partsOf, range-parts, line-words, line-read, line-put, line-range, site-words, site-read, site-put, site-range, record-read}
+
+-- ---- a part from a place on, as it is lent
+module _ (w : List ℕ) (a k : ℕ) (fits : a + k ≤ length w) where
+  lent-has : length (part w a (a + k - a)) ≡ k
+  lent-has = ap length (lent-part w a k) ∙ part-length w a k fits
+
+module _ (w : List ℕ) (size : length w ≡ stateSize) where
+  -- ---- a line
+  module _ (k : ℕ) (b : k < linesMost) where
+    abbrev pub lineStart : ℕ
+    lineStart = linesAt + k * lineSize
+
+    pub line-lent : lineIn (part w lineStart (lineStart + lineSize - lineStart)) ≡ getD (networkIn w .lines) k noLine
+    line-lent = ap lineIn (lent-part w lineStart lineSize) ∙ sym (line-read w size k b)
+
+    pub line-long : length (part w lineStart (lineStart + lineSize - lineStart)) ≡ lineSize
+    line-long = lent-has w lineStart lineSize (omega arith)
+
+    pub line-stepped : inRange w ≡ true → (step : Line → Line) (ys : List ℕ) → length ys ≡ length (part w lineStart (lineStart + lineSize - lineStart))
+        → Stepped lineSize lineIn lineRange step (part w lineStart (lineStart + lineSize - lineStart)) ys
+        → LineStep w (put w lineStart (lineStart + lineSize - lineStart) ys) k step
+    unfolding partsOf
+    line-stepped e step ys long s =
+        let fits : length ys ≡ lineSize = lent-size w lineStart lineSize ys (omega arith) long in
+        let held : lineRange (part w lineStart (lineStart + lineSize - lineStart)) ≡ true
+        = ap lineRange (lent-part w lineStart lineSize ∙ sym (line-words w size k b)) ∙ every-at lineRange (lineWords w) k [] (range-parts w e .line-ranges) (omega (arith, chunks-length lineSize linesMost (part w linesAt linesSize))) in
+        record {
+          meant =
+              ap networkIn (lent-put w lineStart lineSize ys)
+              ∙ line-put w size k b ys fits
+              ∙ ap (withLine (networkIn w) k) (s .meant line-long ∙ ap step line-lent);
+          ranged = ap inRange (lent-put w lineStart lineSize ys) ∙ line-range w size k b ys fits e (s .ranged line-long held);
+        }
+
+  -- ---- a site
+  module _ (e : inRange w ≡ true) (i : ℕ) (b : i < getD w 0 0) where
+    abbrev pub siteStart : ℕ
+    siteStart = sitesAt + i * siteSize
+
+    few : getD w 0 0 ≤ sitesMost
+    unfolding partsOf
+    few = range-parts w e .few-sites
+
+    inside : siteStart + siteSize ≤ length w
+    inside = omega (arith, few)
+
+    pub site-lent : siteIn (part w siteStart (siteStart + siteSize - siteStart)) ≡ siteAt (networkIn w) i
+    site-lent = ap siteIn (lent-part w siteStart siteSize) ∙ sym (site-read w size few i b)
+
+    pub site-long : length (part w siteStart (siteStart + siteSize - siteStart)) ≡ siteSize
+    site-long = lent-has w siteStart siteSize inside
+
+    pub site-stepped : (step : Site → Site) (ys : List ℕ) → length ys ≡ length (part w siteStart (siteStart + siteSize - siteStart))
+        → Stepped siteSize siteIn siteRange step (part w siteStart (siteStart + siteSize - siteStart)) ys
+        → SiteStep w (put w siteStart (siteStart + siteSize - siteStart) ys) i step
+    unfolding partsOf
+    site-stepped step ys long s =
+        let fits : length ys ≡ siteSize = lent-size w siteStart siteSize ys inside long in
+        let held : siteRange (part w siteStart (siteStart + siteSize - siteStart)) ≡ true
+        = ap siteRange (lent-part w siteStart siteSize ∙ sym (site-words w size few i b)) ∙ every-at siteRange (siteWords w) i [] (range-parts w e .site-ranges) (omega (arith, chunks-length siteSize (getD w 0 0) (part w sitesAt sitesSize))) in
+        record {
+          meant =
+              ap networkIn (lent-put w siteStart siteSize ys)
+              ∙ site-put w size few i b ys fits
+              ∙ ap (withSite (networkIn w) i) (s .meant site-long ∙ ap step site-lent);
+          ranged = ap inRange (lent-put w siteStart siteSize ys) ∙ site-range w size few i b ys fits e (s .ranged site-long held);
+        }
+
+  -- ---- a record
+  module _ (e : inRange w ≡ true) (k : ℕ) (b : k < getD w 2 0) where
+    abbrev pub recordStart : ℕ
+    recordStart = historyAt + k * recordSize
+
+    pub record-lent : recordIn (part w recordStart (recordStart + recordSize - recordStart)) ≡ getD (networkIn w .history) k noRecord
+    unfolding partsOf
+    record-lent = ap recordIn (lent-part w recordStart recordSize) ∙ sym (record-read w size (range-parts w e .few-records) k b)

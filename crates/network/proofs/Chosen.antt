@@ -1,0 +1,189 @@
+-- The parent that a schedule chooses has a message that has arrived, and taking it keeps a network well shaped.
+use mathlib.Core.Path.{_≡_, refl, sym, ap, _∙_}
+use mathlib.Core.Bool.{Bool, true, false, cond, not, _&&_, _||_, true≢false}
+use mathlib.Core.List.{List, [], _∷_}
+use Prim.Native.Nat.{ℕ, zero, suc, _/_, _%_, _≤_, _<_}
+use native.Mathlib.Omega.{arith}
+use lib.ListN.{length, getD, drop, length-drop, List·getD-eq-default}
+use lib.Dec.{eqb, ltb, leb}
+use borrow.Author.Tests.{leb-true, leb-false, ltb-true, ltb-false, eqb-true, eqb-false, eq-eqb, not-false}
+use Rattle.words.proofs.Walks.{and-true, every-at, every-rest}
+use Rattle.timestamp.specs.Timestamp.{appendedOrSame, ownSite, ownCount}
+use Rattle.timestamp.specs.Order.{byNumber, order, isEarlier}
+use Rattle.timestamp.specs.Made.{madeBy}
+use Rattle.timestamp.proofs.Made.{made-parts, made-length, made-appended}
+use Rattle.timestamp.proofs.Value.{append-room}
+use Rattle.site.specs.Site.{received}
+use Rattle.placement.specs.Masks.{bit}
+use Rattle.placement.specs.Placement.{Item, itemsNumber, noItem, isLine, hasParents}
+use Rattle.placement.specs.InWords.{sitesMost}
+use Rattle.placement.proofs.Laws.{some-at, some-index, line-upward}
+use Rattle.lines.specs.Lines.{Message, commit, dummy, Line, noLine, taken}
+use Rattle.records.specs.Records.{Record}
+use Rattle.network.specs.Layout.{linesMost}
+use Rattle.network.specs.Network.{Network, noRecord, siteAt, lineAt, lineNumber, messageStamp, messageFits, isEmpty, wellShaped}
+use Rattle.network.specs.Steps.{when, noSuchSite, someBelow, scheduleNumber, head, headStamp, earlierOf, earliest, chosen, writesFor, scheduleNetwork}
+use Rattle.network.proofs.Numbers.{none-holds, or-false}
+use Rattle.network.proofs.WellShaped.{set-each, LineShape, Shape, shape-parts, shape-whole}
+use Rattle.network.proofs.Keeps.{placed-set, stamps-set, records-set}
+
+-- ---- no number below k passes a test
+pub none-below : (f : ℕ → Bool) (k c : ℕ) → someBelow f k ≡ false → c < k → f c ≡ false
+none-below f zero c e h = absurd (omega arith)
+none-below f (suc k) c e h = go (ltb c k) refl (none-below f k c (or-false (f k) (someBelow f k) e .1))
+  where
+    go : (b : Bool) → ltb c k ≡ b → (c < k → f c ≡ false) → f c ≡ false
+    go true t rest = rest (ltb-true c k t)
+    go false t rest = let same : c ≡ k = omega (arith, ltb-false c k t) in ap f same ∙ or-false (f k) (someBelow f k) e .0
+
+either : (holds : ℕ → Type 0) (b : Bool) (p q : ℕ) → holds p → holds q → holds (cond b p q)
+either holds true p q x y = x
+either holds false p q x y = y
+
+-- ---- the parent with the earliest message
+module _ (n : Network) (j : ℕ) where
+  abbrev firstEarlier : ℕ → ℕ → Bool
+  firstEarlier p q = isEarlier (order (headStamp n p j) (headStamp n q j))
+
+  -- it is a parent, where it is a site
+  earliest-line : (k : ℕ) → earliest n j k < sitesMost → isLine (n .items) (earliest n j k) j ≡ true
+  unfolding earliest
+  earliest-line zero = λ h. absurd (omega arith)
+  earliest-line (suc p) = go (isLine (n .items) p j) refl (earliest n j p) (earliest-line p)
+    where
+      go : (b : Bool) → isLine (n .items) p j ≡ b → (best : ℕ) → (best < sitesMost → isLine (n .items) best j ≡ true)
+          → cond b (earlierOf n j p best) best < sitesMost → isLine (n .items) (cond b (earlierOf n j p best) best) j ≡ true
+      go true e best rest = either (λ q. q < sitesMost → isLine (n .items) q j ≡ true) (leb sitesMost best || firstEarlier p best) p best (λ h. e) rest
+      go false e best rest = rest
+
+  -- it is a site, where there is a parent
+  earliest-site : (k p : ℕ) → p < k → k ≤ sitesMost → isLine (n .items) p j ≡ true → earliest n j k < sitesMost
+  unfolding earliest
+  earliest-site zero p h few e = absurd (omega arith)
+  earliest-site (suc q) p h few e = go (isLine (n .items) q j) refl (earliest n j q) (earliest-site q p)
+    where
+      best-or : (best : ℕ) (b : Bool) → leb sitesMost best ≡ b → cond (b || firstEarlier q best) q best < sitesMost
+      best-or best true t = omega arith
+      best-or best false t = either (λ r. r < sitesMost) (firstEarlier q best) q best (omega arith) (leb-false sitesMost best t)
+
+      go : (b : Bool) → isLine (n .items) q j ≡ b → (best : ℕ) → (p < q → q ≤ sitesMost → isLine (n .items) p j ≡ true → best < sitesMost) → cond b (earlierOf n j q best) best < sitesMost
+      go true t best rest = best-or best (leb sitesMost best) refl
+      go false t best rest =
+          let other : p ≡ q → ⊥ = λ same. true≢false (sym e ∙ ap (λ (r : ℕ). isLine (n .items) r j) same ∙ t) in
+          rest (omega arith) (omega arith) e
+
+  pub chosen-parent : itemsNumber (length (n .sites)) (n .items) ≡ 0 → length (n .sites) ≤ sitesMost → hasParents (n .items) j ≡ true → (isLine (n .items) (chosen n j) j ≡ true) × (chosen n j < sitesMost)
+  unfolding hasParents isLine
+  chosen-parent z few e =
+      let f = some-index (λ (x : Item). bit (x .mask) j) (n .items) noItem e in
+      let p = getD (n .items) (f .0) noItem .primary in
+      let line : isLine (n .items) p j ≡ true
+      = some-at (λ (x : Item). eqb (x .primary) p && bit (x .mask) j) (n .items) (f .0) noItem (f .1) (rw (eq-eqb p p refl) (f .2)) in
+      let up = line-upward (length (n .sites)) (n .items) p j z line in
+      let site : chosen n j < sitesMost = earliest-site sitesMost p (omega (arith, up .0, up .1)) (omega arith) line in
+      (earliest-line sitesMost site, site)
+
+-- ---- the timestamp of a message that fits
+pub message-made : (n : Network) (s : Shape n) (p : ℕ) (m : Message) → messageFits (n .history) p m ≡ true → madeBy byNumber p (messageStamp (n .history) m) ≡ true
+message-made n s p (commit k) e =
+    let r = getD (n .history) k noRecord in
+    let q = and-true (ltb k (length (n .history))) (eqb (r .site) p) e in
+    ap (λ (i : ℕ). madeBy byNumber i (r .stamp)) (sym (eqb-true (r .site) p (q .1))) ∙ s .records k (ltb-true k (length (n .history)) (q .0)) .made
+message-made n s p (dummy t) e = e
+
+-- ---- a schedule that is not refused
+and-false : (a b : Bool) → (a && b) ≡ false → a ≡ true → b ≡ false
+and-false true b e f = e
+and-false false b e f = absurd (true≢false (sym f))
+
+module _ (n : Network) (j : ℕ) (few : length (n .sites) ≤ sitesMost) (s : Shape n) (z : scheduleNumber n j ≡ 0) where
+  causes : (noSuchSite n j ≡ false) × (hasParents (n .items) j ≡ true) × (someBelow (λ p. isLine (n .items) p j && eqb (lineAt n p j .arrived) 0) sitesMost ≡ false)
+  unfolding scheduleNumber
+  causes =
+      let orphan = not (hasParents (n .items) j) in
+      let waits = someBelow (λ p. isLine (n .items) p j && eqb (lineAt n p j .arrived) 0) sitesMost in
+      let a = none-holds (noSuchSite n j) 6 (when orphan 19 ∷ (when waits 20 ∷ [])) z in
+      let b = none-holds orphan 18 (when waits 20 ∷ []) (a .1) in
+      (a .0, not-false (hasParents (n .items) j) (b .0), none-holds waits 19 [] (b .1) .0)
+
+  pub chosen-line : isLine (n .items) (chosen n j) j ≡ true
+  chosen-line = chosen-parent n j (s .placed) few (causes .1) .0
+
+  pub chosen-up : (chosen n j < j) × (j < length (n .sites))
+  chosen-up = line-upward (length (n .sites)) (n .items) (chosen n j) j (s .placed) chosen-line
+
+  pub chosen-arrived : lineAt n (chosen n j) j .arrived ≡ 0 → ⊥
+  chosen-arrived =
+      let p = chosen n j in
+      let l = lineAt n p j in
+      eqb-false (l .arrived) 0
+      (and-false (isLine (n .items) p j) (eqb (l .arrived) 0)
+      (none-below (λ q. isLine (n .items) q j && eqb (lineAt n q j .arrived) 0) sitesMost p (causes .2) (omega (arith, chosen-up .0, chosen-up .1))) chosen-line)
+
+  pub chosen-number : lineNumber (chosen n j) j < length (n .lines)
+  chosen-number = go (leb (length (n .lines)) (lineNumber (chosen n j) j)) refl
+    where
+      go : (b : Bool) → leb (length (n .lines)) (lineNumber (chosen n j) j) ≡ b → lineNumber (chosen n j) j < length (n .lines)
+      go true t =
+          let past = leb-true (length (n .lines)) (lineNumber (chosen n j) j) t in
+          absurd (chosen-arrived (ap (λ (l : Line). l .arrived) (List·getD-eq-default (n .lines) noLine {n = lineNumber (chosen n j) j} past)))
+      go false t = leb-false (length (n .lines)) (lineNumber (chosen n j) j) t
+
+  pub chosen-shape : LineShape (n .items) (n .history) (lineNumber (chosen n j) j) (lineAt n (chosen n j) j)
+  chosen-shape = s .lined (lineNumber (chosen n j) j) chosen-number
+
+  -- its oldest message is one of its line's
+  pub chosen-held : 0 < length (lineAt n (chosen n j) j .messages)
+  chosen-held = let some : lineAt n (chosen n j) j .arrived ≡ 0 → ⊥ = chosen-arrived in omega (arith, chosen-shape .held)
+
+  pub head-fits : messageFits (n .history) (chosen n j) (head n (chosen n j) j) ≡ true
+  head-fits =
+      let p = chosen n j in
+      let from : lineNumber p j / sitesMost ≡ p = omega (arith, chosen-up .1) in
+      ap (λ (q : ℕ). messageFits (n .history) q (head n p j)) (sym from)
+      ∙ every-at (messageFits (n .history) (lineNumber p j / sitesMost)) (lineAt n p j .messages) 0 (commit 0) (chosen-shape .fitting) chosen-held
+
+  pub head-made : madeBy byNumber (chosen n j) (headStamp n (chosen n j) j) ≡ true
+  head-made = message-made n s (chosen n j) (head n (chosen n j) j) head-fits
+
+  -- the site's new timestamp
+  received-made : madeBy byNumber j (appendedOrSame (headStamp n (chosen n j) j) (ownSite (siteAt n j .stamp)) (ownCount (siteAt n j .stamp))) ≡ true
+  received-made =
+      let p = chosen n j in
+      let t = headStamp n p j in
+      let own = siteAt n j .stamp in
+      let c = ownCount own in
+      let last : ownSite own ≡ j = made-parts byNumber j own (s .stamps j (chosen-up .1)) .last in
+      ap (λ (i : ℕ). madeBy byNumber j (appendedOrSame t i c)) last
+      ∙ ap (madeBy byNumber j) (append-room t j c (omega (arith, made-length p t head-made, chosen-up .0, chosen-up .1)))
+      ∙ made-appended byNumber p j c t head-made (chosen-up .0)
+
+-- ---- the oldest message taken off a line
+rest-placed : (ms : List Message) (b : Bool) → (isEmpty ms || b) ≡ true → (isEmpty (drop 1 ms) || b) ≡ true
+rest-placed [] b e = refl
+rest-placed (m ∷ []) b e = refl
+rest-placed (m ∷ (m′ ∷ ms)) b e = e
+
+taken-shape : (xs : List Item) (h : List Record) (k : ℕ) (l : Line) → LineShape xs h k l → LineShape xs h k (taken l)
+taken-shape xs h k l s =
+    record {
+      held = omega (arith, length-drop 1 (l .messages), s .held);
+      placed = rest-placed (l .messages) (isLine xs (k / sitesMost) (k % sitesMost)) (s .placed);
+      fitting = every-rest (messageFits h (k / sitesMost)) (l .messages) (s .fitting);
+    }
+
+pub keeps-schedule : (n : Network) (j : ℕ) → length (n .lines) ≡ linesMost → length (n .sites) ≤ sitesMost → wellShaped n ≡ true → scheduleNumber n j ≡ 0 → wellShaped (scheduleNetwork n j) ≡ true
+unfolding scheduleNetwork
+keeps-schedule n j _ few e z =
+    let s = shape-parts n e in
+    let p = chosen n j in
+    let m = head n p j in
+    let new = received (writesFor n j m) (messageStamp (n .history) m) (siteAt n j) in
+    shape-whole (scheduleNetwork n j)
+    (record {
+      placed = placed-set n s j new;
+      stamps = stamps-set n s j new (received-made n j few s z);
+      records = records-set n s j new;
+      lined = set-each (LineShape (n .items) (n .history)) (n .lines) (lineNumber p j) (taken (lineAt n p j)) noLine (s .lined)
+          (λ b. taken-shape (n .items) (n .history) (lineNumber p j) (lineAt n p j) (s .lined (lineNumber p j) b));
+    })

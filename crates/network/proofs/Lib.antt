@@ -1,0 +1,9 @@
+pub mod Numbers
+pub mod Assembled
+pub mod Shaped
+pub mod Access
+pub mod Performs
+pub mod WellShaped
+pub mod Keeps
+pub mod Chosen
+pub mod Delivering

@@ -1,0 +1,47 @@
+-- A step's number is that of its first cause that holds: what it is, and what holds where it is 0.
+use mathlib.Core.Path.{_≡_, refl, sym, ap, _∙_}
+use mathlib.Core.Bool.{Bool, true, false, not, _||_, true≢false}
+use mathlib.Core.List.{List, [], _∷_}
+use Prim.Native.Nat.{ℕ, zero, suc}
+use native.Mathlib.Omega.{arith}
+use lib.Dec.{eqb}
+use borrow.Author.Tests.{eq-eqb, ne-eqb, eqb-true}
+use Rattle.placement.specs.Placement.{firstNumber}
+use Rattle.network.specs.Steps.{when}
+
+-- the first cause holds
+pub first-holds : (b : Bool) (k : ℕ) (ns : List ℕ) → b ≡ true → firstNumber (when b (suc k) ∷ ns) ≡ suc k
+first-holds b k ns e = rw (e, ne-eqb (suc k) 0 (λ z. omega arith))
+
+-- it does not
+pub first-fails : (b : Bool) (k : ℕ) (ns : List ℕ) → b ≡ false → firstNumber (when b k ∷ ns) ≡ firstNumber ns
+first-fails b k ns e = rw e
+
+-- a list of causes in a row, one of which may hold
+pub first-some : (n : ℕ) (ns : List ℕ) → (n ≡ 0 → ⊥) → firstNumber (n ∷ ns) ≡ n
+first-some n ns h = rw (ne-eqb n 0 h)
+
+pub first-none : (n : ℕ) (ns : List ℕ) → n ≡ 0 → firstNumber (n ∷ ns) ≡ firstNumber ns
+first-none n ns e = rw (eq-eqb n 0 e)
+
+-- no cause holds
+pub none-holds : (b : Bool) (k : ℕ) (ns : List ℕ) → firstNumber (when b (suc k) ∷ ns) ≡ 0 → (b ≡ false) × (firstNumber ns ≡ 0)
+none-holds true k ns e = absurd (let z : suc k ≡ 0 = sym (first-holds true k ns refl) ∙ e in omega arith)
+none-holds false k ns e = (refl, e)
+
+pub none-first : (n : ℕ) (ns : List ℕ) → firstNumber (n ∷ ns) ≡ 0 → (n ≡ 0) × (firstNumber ns ≡ 0)
+none-first zero ns e = (refl, e)
+none-first (suc n) ns e = absurd (let z : suc n ≡ 0 = sym (first-some (suc n) ns (λ z. omega arith)) ∙ e in omega arith)
+
+pub or-false : (a b : Bool) → (a || b) ≡ false → (a ≡ false) × (b ≡ false)
+or-false true b e = absurd (true≢false e)
+or-false false b e = (refl, e)
+
+-- a test that the code asks the other way round
+pub flip-false : (r b : Bool) → r ≡ not b → r ≡ false → b ≡ true
+flip-false r true e f = refl
+flip-false r false e f = absurd (true≢false (sym e ∙ f))
+
+pub flip-true : (r b : Bool) → r ≡ not b → r ≡ true → b ≡ false
+flip-true r true e f = absurd (true≢false (sym f ∙ e))
+flip-true r false e f = refl

@@ -1,0 +1,72 @@
+-- The network that a state's words stand for, or nothing where they are not well shaped.
+use mathlib.Core.Path.{_≡_}
+use mathlib.Core.Bool.{Bool, true, cond, _&&_}
+use mathlib.Core.List.{List, map}
+use mathlib.Core.Option.{Option, none, some}
+use Prim.Native.Nat.{ℕ}
+use lib.ListN.{length, getD}
+use lib.Dec.{leb, eqb}
+use Rattle.words.specs.Words.{part, chunks, every}
+use Rattle.site.specs.Site.{Site}
+use Rattle.site.specs.InWords.{siteIn, siteRange, siteSize}
+use Rattle.placement.specs.InWords.{itemsIn, sitesMost, itemsMost}
+use Rattle.lines.specs.Lines.{Line, noLine}
+use Rattle.lines.specs.InWords.{lineIn, lineRange, lineSize, recordsMost}
+use Rattle.records.specs.Records.{Record}
+use Rattle.records.specs.InWords.{recordIn, recordRange, recordSize}
+use Rattle.network.specs.Layout.{headSize, itemsAt, itemsSize, sitesAt, sitesSize, linesAt, linesSize, linesMost, historyAt, historySize, stateSize}
+use Rattle.network.specs.Network.{Network, siteAt, withSite, withLine, withRecord, wellShaped}
+
+-- ---- the words of each site, each line and each record held
+abbrev pub siteWords : List ℕ → List (List ℕ)
+siteWords w = chunks siteSize (getD w 0 0) (part w sitesAt sitesSize)
+
+abbrev pub lineWords : List ℕ → List (List ℕ)
+lineWords w = chunks lineSize linesMost (part w linesAt linesSize)
+
+abbrev pub recordWords : List ℕ → List (List ℕ)
+recordWords w = chunks recordSize (getD w 2 0) (part w historyAt historySize)
+
+unfoldable pub networkIn : List ℕ → Network
+networkIn w =
+    record {
+      sites = map siteIn (siteWords w);
+      items = itemsIn (getD w 1 0) (part w itemsAt itemsSize);
+      lines = map lineIn (lineWords w);
+      history = map recordIn (recordWords w);
+    }
+
+-- every number of things is in range: sites, items, records, and in each of them what it holds
+unfoldable pub inRange : List ℕ → Bool
+inRange w =
+    leb 1 (getD w 0 0)
+    && (leb (getD w 0 0) sitesMost
+    && (leb 1 (getD w 1 0)
+    && (leb (getD w 1 0) itemsMost
+    && (leb (getD w 2 0) recordsMost
+    && (every siteRange (siteWords w)
+    && (every lineRange (lineWords w)
+    && every recordRange (recordWords w)))))))
+
+unfoldable pub shaped : List ℕ → Bool
+shaped w = inRange w && wellShaped (networkIn w)
+
+unfoldable pub meaning : List ℕ → Option Network
+meaning w = cond (shaped w) (some (networkIn w)) none
+
+-- the number of a step on words: 6 where they are not well shaped, else that of the step on the network
+unfoldable pub numberIn : List ℕ → (Network → ℕ) → ℕ
+numberIn w number = cond (shaped w) (number (networkIn w)) 6
+
+-- ---- what the code's own steps leave of a state in range
+pub record SiteStep (entry exit : List ℕ) (i : ℕ) (step : Site → Site) : Type 0 where
+  pub meant : networkIn exit ≡ withSite (networkIn entry) i (step (siteAt (networkIn entry) i))
+  pub ranged : inRange exit ≡ true
+
+pub record LineStep (entry exit : List ℕ) (k : ℕ) (step : Line → Line) : Type 0 where
+  pub meant : networkIn exit ≡ withLine (networkIn entry) k (step (getD (networkIn entry .lines) k noLine))
+  pub ranged : inRange exit ≡ true
+
+pub record RecordStep (entry exit : List ℕ) (r : Record) : Type 0 where
+  pub meant : networkIn exit ≡ withRecord (networkIn entry) r
+  pub ranged : inRange exit ≡ true

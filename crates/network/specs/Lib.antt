@@ -1,0 +1,6 @@
+pub mod Layout
+pub mod Network
+pub mod Steps
+pub mod Calls
+pub mod InWords
+pub mod Promises

@@ -1,0 +1,16 @@
+-- What the contracts of the calls say: the answer and the state's words are those of `perform`, and where it refuses every word is as it came.
+use mathlib.Core.Path.{_≡_}
+use mathlib.Core.List.{List}
+use Prim.Native.Nat.{ℕ}
+use lib.IntN.{ℤ}
+use Rattle.timestamp.specs.Timestamp.{Stamp}
+use Rattle.network.specs.Calls.{Call, Outcome, perform}
+use Rattle.network.specs.InWords.{meaning}
+
+pub record Performed (call : Call) (entry exit : List ℕ) (number parent : ℕ) (stamp : Stamp) (values : List ℤ) : Type 0 where
+  pub number-is : number ≡ perform (meaning entry) call .number
+  pub parent-is : parent ≡ perform (meaning entry) call .parent
+  pub stamp-is : stamp ≡ perform (meaning entry) call .stamp
+  pub values-are : values ≡ perform (meaning entry) call .values
+  pub after-is : meaning exit ≡ perform (meaning entry) call .after
+  pub kept : (number ≡ 0 → ⊥) → exit ≡ entry

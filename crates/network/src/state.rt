@@ -1,0 +1,180 @@
+// The sites, lines and records of a state by their numbers: what stands above these knows no words.
+use crate::HISTORY;
+use crate::ITEMS;
+use crate::LINE;
+use crate::LINES;
+use crate::RECORD;
+use crate::SITE;
+use crate::SITES;
+use lines::Message;
+use timestamp::Timestamp;
+ghost use mathlib.Core.Path.{_≡_};
+ghost use mathlib.Core.Bool.{true, not};
+ghost use Prim.Native.Nat.{min, _<_, _≤_};
+ghost use lib.ListN.{length, getD};
+ghost use Rattle.timestamp.specs.Timestamp.{stampOf};
+ghost use Rattle.site.specs.Operations.{worked};
+ghost use Rattle.site.specs.Site.{committed, dummied, atEpoch, received};
+ghost use Rattle.site.specs.InWords.{opsIn, opsMost, opsSize};
+ghost use Rattle.placement.specs.Masks.{maskOf};
+ghost use Rattle.placement.specs.Placement.{isLine, hasParents};
+ghost use Rattle.placement.specs.InWords.{sitesMost};
+ghost use Rattle.lines.specs.Lines.{commit, noLine, heldMost, sentOrSame, deliveredOrSame, takenOrSame};
+ghost use Rattle.lines.specs.InWords.{messageOf, recordsMost};
+ghost use Rattle.network.specs.Layout.{stateSize, linesMost};
+ghost use Rattle.network.specs.Network.{siteAt, noRecord};
+ghost use Rattle.network.specs.Steps.{noSuchSite};
+ghost use Rattle.network.specs.InWords.{networkIn, inRange, SiteStep, LineStep, RecordStep};
+
+// ---- the placement
+// Whether there is a site of that number.
+pub(crate) fn is_site(state: &[u32], i: u32) -> bool
+    requires { ⌜ length (now state) ≡ stateSize ⌝ }
+    ensures { λ r. ⌜ r ≡ not (noSuchSite (networkIn (now (state .entry))) i) ⌝ }
+{
+    i < state[0]
+}
+
+pub(crate) fn is_line(state: &[u32], p: u32, c: u32) -> bool
+    requires { ⌜ (length (now state) ≡ stateSize) × (inRange (now state) ≡ true) ⌝ }
+    ensures { λ r. ⌜ r ≡ isLine (networkIn (now (state .entry)) .items) p c ⌝ }
+{
+    let items = words::wide(state[1]);
+    placement::is_line(&state[ITEMS..SITES], items, p, c)
+}
+
+pub(crate) fn has_parents(state: &[u32], c: u32) -> bool
+    requires { ⌜ (length (now state) ≡ stateSize) × (inRange (now state) ≡ true) ⌝ }
+    ensures { λ r. ⌜ r ≡ hasParents (networkIn (now (state .entry)) .items) c ⌝ }
+{
+    let items = words::wide(state[1]);
+    placement::has_parents(&state[ITEMS..SITES], items, c)
+}
+
+pub(crate) fn children(state: &[u32], p: u32) -> u32
+    requires { ⌜ (length (now state) ≡ stateSize) × (inRange (now state) ≡ true) ⌝ }
+    ensures { λ r. ⌜ r ≡ maskOf (isLine (networkIn (now (state .entry)) .items) p) sitesMost ⌝ }
+{
+    let items = words::wide(state[1]);
+    placement::children(&state[ITEMS..SITES], items, p)
+}
+
+pub(crate) fn parents(state: &[u32], c: u32) -> u32
+    requires { ⌜ (length (now state) ≡ stateSize) × (inRange (now state) ≡ true) ⌝ }
+    ensures { λ r. ⌜ r ≡ maskOf (λ p. isLine (networkIn (now (state .entry)) .items) p c) sitesMost ⌝ }
+{
+    let items = words::wide(state[1]);
+    placement::parents(&state[ITEMS..SITES], items, c)
+}
+
+// ---- lines
+pub(crate) fn line_held(state: &[u32], k: usize) -> usize
+    requires { ⌜ (length (now state) ≡ stateSize) × (k < linesMost) ⌝ }
+    ensures { λ r. ⌜ (r ≡ length (getD (networkIn (now (state .entry)) .lines) k noLine .messages)) × (r ≤ heldMost) ⌝ }
+{
+    let a = LINES + k * LINE;
+    let e = a + LINE;
+    lines::held(&state[a..e])
+}
+
+pub(crate) fn line_arrived(state: &[u32], k: usize) -> usize
+    requires { ⌜ (length (now state) ≡ stateSize) × (k < linesMost) ⌝ }
+    ensures { λ r. ⌜ r ≡ getD (networkIn (now (state .entry)) .lines) k noLine .arrived ⌝ }
+{
+    let a = LINES + k * LINE;
+    let e = a + LINE;
+    lines::arrived(&state[a..e])
+}
+
+pub(crate) fn line_first(state: &[u32], k: usize) -> Message
+    requires { ⌜ (length (now state) ≡ stateSize) × (k < linesMost) ⌝ }
+    ensures { λ r. ⌜ messageOf r ≡ getD (getD (networkIn (now (state .entry)) .lines) k noLine .messages) 0 (commit 0) ⌝ }
+{
+    let a = LINES + k * LINE;
+    let e = a + LINE;
+    lines::first(&state[a..e])
+}
+
+pub(crate) fn line_send(state: &mut [u32], k: usize, m: Message)
+    requires { ⌜ (length (now state) ≡ stateSize) × (k < linesMost) × (inRange (now state) ≡ true) ⌝ }
+    ensures { λ r. ⌜ LineStep (now (state .entry)) (now (state .exit)) k (sentOrSame (messageOf m)) ⌝ }
+{
+    let a = LINES + k * LINE;
+    let e = a + LINE;
+    lines::send(&mut state[a..e], m);
+}
+
+pub(crate) fn line_deliver(state: &mut [u32], k: usize)
+    requires { ⌜ (length (now state) ≡ stateSize) × (k < linesMost) × (inRange (now state) ≡ true) ⌝ }
+    ensures { λ r. ⌜ LineStep (now (state .entry)) (now (state .exit)) k deliveredOrSame ⌝ }
+{
+    let a = LINES + k * LINE;
+    let e = a + LINE;
+    lines::deliver(&mut state[a..e]);
+}
+
+pub(crate) fn line_take(state: &mut [u32], k: usize)
+    requires { ⌜ (length (now state) ≡ stateSize) × (k < linesMost) × (inRange (now state) ≡ true) ⌝ }
+    ensures { λ r. ⌜ LineStep (now (state .entry)) (now (state .exit)) k takenOrSame ⌝ }
+{
+    let a = LINES + k * LINE;
+    let e = a + LINE;
+    lines::take(&mut state[a..e]);
+}
+
+// ---- sites
+pub(crate) fn site_stamp(state: &[u32], i: usize) -> Timestamp
+    requires { ⌜ (length (now state) ≡ stateSize) × (inRange (now state) ≡ true) × (i < getD (now state) 0 0) × (i < sitesMost) ⌝ }
+    ensures { λ r. ⌜ stampOf r ≡ siteAt (networkIn (now (state .entry))) i .stamp ⌝ }
+{
+    let a = SITES + i * SITE;
+    let e = a + SITE;
+    site::stamp(&state[a..e])
+}
+
+pub(crate) fn site_dummy(state: &mut [u32], i: usize)
+    requires { ⌜ (length (now state) ≡ stateSize) × (inRange (now state) ≡ true) × (i < getD (now state) 0 0) × (i < sitesMost) ⌝ }
+    ensures { λ r. ⌜ SiteStep (now (state .entry)) (now (state .exit)) i dummied ⌝ }
+{
+    let a = SITES + i * SITE;
+    let e = a + SITE;
+    site::dummy(&mut state[a..e]);
+}
+
+pub(crate) fn site_epoch(state: &mut [u32], i: usize, number: u32)
+    requires { ⌜ (length (now state) ≡ stateSize) × (inRange (now state) ≡ true) × (i < getD (now state) 0 0) × (i < sitesMost) ⌝ }
+    ensures { λ r. ⌜ SiteStep (now (state .entry)) (now (state .exit)) i (atEpoch number) ⌝ }
+{
+    let a = SITES + i * SITE;
+    let e = a + SITE;
+    site::epoch(&mut state[a..e], number);
+}
+
+pub(crate) fn site_receive(state: &mut [u32], i: usize, ops: &[u32], n: usize, t: Timestamp)
+    requires { ⌜ (length (now state) ≡ stateSize) × (inRange (now state) ≡ true) × (i < getD (now state) 0 0) × (i < sitesMost) ⌝ }
+    ensures { λ r. ⌜ SiteStep (now (state .entry)) (now (state .exit)) i (received (opsIn (min n opsMost) (now (ops .entry))) (stampOf t)) ⌝ }
+{
+    let a = SITES + i * SITE;
+    let e = a + SITE;
+    site::receive(&mut state[a..e], ops, n, t);
+}
+
+pub(crate) fn site_commit(state: &mut [u32], i: usize, ops: &[u32], n: usize) -> [u32; 24]
+    requires { ⌜ (length (now state) ≡ stateSize) × (inRange (now state) ≡ true) × (i < getD (now state) 0 0) × (i < sitesMost) ⌝ }
+    ensures { λ r. ⌜ SiteStep (now (state .entry)) (now (state .exit)) i (committed (opsIn (min n opsMost) (now (ops .entry)))) ⌝ }
+    ensures { λ r. ⌜ opsIn (min n opsMost) r ≡ worked (siteAt (networkIn (now (state .entry))) i .table) (opsIn (min n opsMost) (now (ops .entry))) .ops ⌝ }
+{
+    let a = SITES + i * SITE;
+    let e = a + SITE;
+    site::commit(&mut state[a..e], ops, n)
+}
+
+// ---- records
+pub(crate) fn record_stamp(state: &[u32], k: usize) -> Timestamp
+    requires { ⌜ (length (now state) ≡ stateSize) × (inRange (now state) ≡ true) × (k < getD (now state) 2 0) × (k < recordsMost) ⌝ }
+    ensures { λ r. ⌜ stampOf r ≡ getD (networkIn (now (state .entry)) .history) k noRecord .stamp ⌝ }
+{
+    let a = HISTORY + k * RECORD;
+    let e = a + RECORD;
+    records::stamp(&state[a..e])
+}
