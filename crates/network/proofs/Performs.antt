@@ -1,7 +1,7 @@
 -- From a step's number and the network after it to what its contract promises; the placement as the code asks for it.
 use mathlib.Core.Path.{_≡_, refl, sym, ap, ap₂, _∙_}
 use mathlib.Core.Bool.{Bool, true, false, not, cond, _&&_}
-use mathlib.Core.List.{List, []}
+use mathlib.Core.List.{List, [], _∷_}
 use mathlib.Core.Option.{Option, none, some}
 use Prim.Native.Nat.{ℕ, _≤_, _<_, min}
 use native.Mathlib.Omega.{arith}
@@ -14,16 +14,17 @@ use Rattle.words.proofs.Chunks.{chunks-length}
 use Rattle.words.proofs.Walks.{and-true}
 use Rattle.timestamp.specs.Timestamp.{Stamp}
 use Rattle.site.specs.InWords.{siteIn, siteSize}
-use Rattle.placement.specs.Placement.{Item}
+use Rattle.placement.specs.Placement.{Item, firstNumber}
 use Rattle.placement.specs.InWords.{itemsIn, itemsMost, sitesMost}
 use Rattle.lines.specs.InWords.{lineIn, lineSize, recordsMost}
 use Rattle.records.specs.InWords.{recordIn, recordSize}
 use Rattle.network.specs.Layout.{itemsAt, itemsSize, sitesAt, sitesSize, linesAt, linesSize, linesMost, historyAt, historySize}
 use Rattle.network.specs.Network.{Network, noStamp, wellShaped}
-use Rattle.network.specs.Steps.{noSuchSite}
+use Rattle.network.specs.Steps.{when, noSuchSite}
 use Rattle.network.specs.Calls.{Call, Outcome, refused, judged, perform}
 use Rattle.network.specs.InWords.{siteWords, lineWords, recordWords, networkIn, inRange, shaped, meaning, numberIn}
 use Rattle.network.specs.Promises.{Performed}
+use Rattle.network.proofs.Numbers.{none-holds, first-some}
 use Rattle.network.proofs.Assembled.{Range, partsOf, range-parts}
 
 -- ---- how many of each there are
@@ -131,3 +132,19 @@ unfolding partsOf
 site-below w e i h =
     let b = leb-false (length (networkIn w .sites)) i h in
     (omega (arith, b, sites-count w), omega (arith, b, sites-count w, range-parts w e .few-sites))
+
+-- ---- the causes that come first: 6, then 7
+module _ (w : List ℕ) (i : ℕ) where
+  pub site-found : numberIn w (λ n. when (noSuchSite n i) 7) ≡ 0 → (shaped w ≡ true) × (noSuchSite (networkIn w) i ≡ false)
+  site-found z = let q = number-none w (λ n. when (noSuchSite n i) 7) z in (q .0, none-holds (noSuchSite (networkIn w) i) 6 [] (rw (q .1)) .0)
+
+  -- where one of them holds, it is the number of every step that asks for them first
+  pub site-first : (rest : Network → List ℕ) (r : ℕ) → r ≡ numberIn w (λ n. when (noSuchSite n i) 7) → (r ≡ 0 → ⊥) → r ≡ numberIn w (λ n. firstNumber (when (noSuchSite n i) 7 ∷ rest n))
+  unfolding numberIn
+  site-first rest r e h = go (shaped w) refl
+    where
+      go : (b : Bool) → shaped w ≡ b → r ≡ numberIn w (λ n. firstNumber (when (noSuchSite n i) 7 ∷ rest n))
+      go true s =
+          let f : r ≡ when (noSuchSite (networkIn w) i) 7 = e ∙ rw s refl in
+          rw s (f ∙ sym (first-some (when (noSuchSite (networkIn w) i) 7) (rest (networkIn w)) (λ z. h (f ∙ z))))
+      go false s = e ∙ rw s refl

@@ -1,9 +1,12 @@
 // A network of sites in one lent array of words: set-up, commit, dummy, epoch, deliver, schedule.
+mod causes; // causes.rt: causes that several steps share
 mod deliveries; // deliveries.rt: deliver
+mod epochs; // epochs.rt: epoch
 mod shape; // shape.rt: whether the words are those of a network
 mod state; // state.rt: the sites, lines and records of a state, by number
 
 pub use deliveries::deliver;
+pub use epochs::epoch;
 
 // Where the parts of a state start, and its size.
 const ITEMS: usize = 3;
