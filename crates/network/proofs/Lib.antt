@@ -8,3 +8,4 @@ pub mod Keeps
 pub mod Chosen
 pub mod Delivering
 pub mod Entering
+pub mod Sent

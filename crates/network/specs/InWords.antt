@@ -10,12 +10,13 @@ use Rattle.words.specs.Words.{part, chunks, every}
 use Rattle.site.specs.Site.{Site}
 use Rattle.site.specs.InWords.{siteIn, siteRange, siteSize}
 use Rattle.placement.specs.InWords.{itemsIn, sitesMost, itemsMost}
-use Rattle.lines.specs.Lines.{Line, noLine}
+use Rattle.lines.specs.Lines.{Line, noLine, Message}
 use Rattle.lines.specs.InWords.{lineIn, lineRange, lineSize, recordsMost}
 use Rattle.records.specs.Records.{Record}
 use Rattle.records.specs.InWords.{recordIn, recordRange, recordSize}
 use Rattle.network.specs.Layout.{headSize, itemsAt, itemsSize, sitesAt, sitesSize, linesAt, linesSize, linesMost, historyAt, historySize, stateSize}
-use Rattle.network.specs.Network.{Network, siteAt, withSite, withLine, withRecord, wellShaped}
+use Rattle.network.specs.Network.{Network, siteAt, withSite, withLine, withLines, withRecord, wellShaped}
+use Rattle.network.specs.Steps.{sentTo}
 
 -- ---- the words of each site, each line and each record held
 abbrev pub siteWords : List ℕ → List (List ℕ)
@@ -69,4 +70,8 @@ pub record LineStep (entry exit : List ℕ) (k : ℕ) (step : Line → Line) : T
 
 pub record RecordStep (entry exit : List ℕ) (r : Record) : Type 0 where
   pub meant : networkIn exit ≡ withRecord (networkIn entry) r
+  pub ranged : inRange exit ≡ true
+
+pub record SentStep (entry exit : List ℕ) (gets : ℕ → Bool) (i : ℕ) (m : Message) (k : ℕ) : Type 0 where
+  pub meant : networkIn exit ≡ withLines (networkIn entry) (sentTo gets i m k (networkIn entry .lines))
   pub ranged : inRange exit ≡ true

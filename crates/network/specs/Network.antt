@@ -49,6 +49,9 @@ withSite n i s = record { sites = set (n .sites) i s; items = n .items; lines = 
 abbrev pub withLine : Network → ℕ → Line → Network
 withLine n k l = record { sites = n .sites; items = n .items; lines = set (n .lines) k l; history = n .history }
 
+abbrev pub withLines : Network → List Line → Network
+withLines n ls = record { sites = n .sites; items = n .items; lines = ls; history = n .history }
+
 abbrev pub withRecord : Network → Record → Network
 withRecord n r = record { sites = n .sites; items = n .items; lines = n .lines; history = n .history ++ (r ∷ []) }
 

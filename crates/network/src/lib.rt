@@ -2,6 +2,7 @@
 mod causes; // causes.rt: causes that several steps share
 mod deliveries; // deliveries.rt: deliver
 mod epochs; // epochs.rt: epoch
+mod sending; // sending.rt: a message to several sites
 mod shape; // shape.rt: whether the words are those of a network
 mod state; // state.rt: the sites, lines and records of a state, by number
 
