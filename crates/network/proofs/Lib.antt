@@ -9,3 +9,4 @@ pub mod Chosen
 pub mod Delivering
 pub mod Entering
 pub mod Sent
+pub mod Dummying

@@ -6,23 +6,24 @@ use mathlib.Core.Option.{Option, none, some}
 use Prim.Native.Nat.{ℕ, _≤_, _<_, min}
 use native.Mathlib.Omega.{arith}
 use lib.IntN.{ℤ}
-use lib.ListN.{length, getD, length-map}
+use lib.ListN.{length, getD, length-map, length-set}
 use lib.Dec.{eqb, leb, ltb}
 use borrow.Author.Tests.{eq-eqb, ne-eqb, lt-ltb, le-ltb, le-leb, lt-leb, leb-false, ltb-true, ltb-false}
 use Rattle.words.specs.Words.{part}
 use Rattle.words.proofs.Chunks.{chunks-length}
 use Rattle.words.proofs.Walks.{and-true}
 use Rattle.timestamp.specs.Timestamp.{Stamp}
+use Rattle.site.specs.Site.{Site}
 use Rattle.site.specs.InWords.{siteIn, siteSize}
 use Rattle.placement.specs.Placement.{Item, firstNumber}
 use Rattle.placement.specs.InWords.{itemsIn, itemsMost, sitesMost}
 use Rattle.lines.specs.InWords.{lineIn, lineSize, recordsMost}
 use Rattle.records.specs.InWords.{recordIn, recordSize}
 use Rattle.network.specs.Layout.{itemsAt, itemsSize, sitesAt, sitesSize, linesAt, linesSize, linesMost, historyAt, historySize}
-use Rattle.network.specs.Network.{Network, noStamp, wellShaped}
+use Rattle.network.specs.Network.{Network, noStamp, siteAt, wellShaped}
 use Rattle.network.specs.Steps.{when, noSuchSite}
 use Rattle.network.specs.Calls.{Call, Outcome, refused, judged, perform}
-use Rattle.network.specs.InWords.{siteWords, lineWords, recordWords, networkIn, inRange, shaped, meaning, numberIn}
+use Rattle.network.specs.InWords.{siteWords, lineWords, recordWords, networkIn, inRange, shaped, meaning, numberIn, SiteStep}
 use Rattle.network.specs.Promises.{Performed}
 use Rattle.network.proofs.Numbers.{none-holds, first-some}
 use Rattle.network.proofs.Assembled.{Range, partsOf, range-parts}
@@ -148,3 +149,12 @@ module _ (w : List ℕ) (i : ℕ) where
           let f : r ≡ when (noSuchSite (networkIn w) i) 7 = e ∙ rw s refl in
           rw s (f ∙ sym (first-some (when (noSuchSite (networkIn w) i) 7) (rest (networkIn w)) (λ z. h (f ∙ z))))
       go false s = e ∙ rw s refl
+
+pub few-sites : (w : List ℕ) → inRange w ≡ true → length (networkIn w .sites) ≤ sitesMost
+unfolding partsOf
+few-sites w e = omega (arith, sites-count w, range-parts w e .few-sites)
+
+-- a step on one site leaves the number of sites
+pub site-step-below : (w v : List ℕ) (i : ℕ) (step : Site → Site) → SiteStep w v i step → getD v 0 0 ≡ getD w 0 0
+site-step-below w v i step s =
+    sym (sites-count v) ∙ ap (λ (n : Network). length (n .sites)) (s .meant) ∙ length-set (networkIn w .sites) i (step (siteAt (networkIn w) i)) ∙ sites-count w

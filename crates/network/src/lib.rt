@@ -1,13 +1,22 @@
 // A network of sites in one lent array of words: set-up, commit, dummy, epoch, deliver, schedule.
 mod causes; // causes.rt: causes that several steps share
 mod deliveries; // deliveries.rt: deliver
+mod dummies; // dummies.rt: dummy
 mod epochs; // epochs.rt: epoch
 mod sending; // sending.rt: a message to several sites
 mod shape; // shape.rt: whether the words are those of a network
 mod state; // state.rt: the sites, lines and records of a state, by number
 
 pub use deliveries::deliver;
+pub use dummies::dummy;
 pub use epochs::epoch;
+use timestamp::Timestamp;
+
+// What a dummy answers: its number and the timestamp, which is zero where it is refused.
+pub struct Dummied {
+    pub number: u32,
+    pub stamp: Timestamp,
+}
 
 // Where the parts of a state start, and its size.
 const ITEMS: usize = 3;

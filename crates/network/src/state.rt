@@ -7,7 +7,10 @@ use crate::RECORD;
 use crate::SITE;
 use crate::SITES;
 use lines::Message;
+use timestamp::Count;
+use timestamp::Epoch;
 use timestamp::Timestamp;
+use timestamp::Tuple;
 ghost use mathlib.Core.Path.{_≡_};
 ghost use mathlib.Core.Bool.{true, not};
 ghost use Prim.Native.Nat.{min, _<_, _≤_};
@@ -22,8 +25,8 @@ ghost use Rattle.placement.specs.InWords.{sitesMost};
 ghost use Rattle.lines.specs.Lines.{commit, noLine, heldMost, sentOrSame, deliveredOrSame, takenOrSame};
 ghost use Rattle.lines.specs.InWords.{messageOf, recordsMost};
 ghost use Rattle.network.specs.Layout.{stateSize, linesMost};
-ghost use Rattle.network.specs.Network.{siteAt, noRecord};
-ghost use Rattle.network.specs.Steps.{noSuchSite};
+ghost use Rattle.network.specs.Network.{siteAt, noRecord, noStamp};
+ghost use Rattle.network.specs.Steps.{noSuchSite, countAtMost};
 ghost use Rattle.network.specs.InWords.{networkIn, inRange, SiteStep, LineStep, RecordStep};
 
 // ---- the placement
@@ -132,6 +135,16 @@ pub(crate) fn site_stamp(state: &[u32], i: usize) -> Timestamp
     site::stamp(&state[a..e])
 }
 
+// Whether the own count of a site is the largest.
+pub(crate) fn count_at_most(state: &[u32], i: usize) -> bool
+    requires { ⌜ (length (now state) ≡ stateSize) × (inRange (now state) ≡ true) × (i < getD (now state) 0 0) × (i < sitesMost) ⌝ }
+    ensures { λ r. ⌜ r ≡ countAtMost (networkIn (now (state .entry))) i ⌝ }
+{
+    let own = site_stamp(state, i).own();
+    let count = own.count;
+    4294967295 <= count.0
+}
+
 pub(crate) fn site_dummy(state: &mut [u32], i: usize)
     requires { ⌜ (length (now state) ≡ stateSize) × (inRange (now state) ≡ true) × (i < getD (now state) 0 0) × (i < sitesMost) ⌝ }
     ensures { λ r. ⌜ SiteStep (now (state .entry)) (now (state .exit)) i dummied ⌝ }
@@ -177,4 +190,19 @@ pub(crate) fn record_stamp(state: &[u32], k: usize) -> Timestamp
     let a = HISTORY + k * RECORD;
     let e = a + RECORD;
     records::stamp(&state[a..e])
+}
+
+// The timestamp of a refusal: epoch 0, no tuple.
+pub(crate) fn no_stamp() -> Timestamp
+    ensures { λ r. ⌜ stampOf r ≡ noStamp ⌝ }
+{
+    let none = Tuple {
+        site: 0,
+        count: Count(0),
+    };
+    Timestamp {
+        epoch: Epoch(0),
+        len: 0,
+        tuples: [none; 8],
+    }
 }

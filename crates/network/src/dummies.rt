@@ -1,0 +1,73 @@
+// Dummy: a commit without operations, sent to every child.
+use crate::Dummied;
+use crate::WORDS;
+use crate::causes;
+use crate::sending;
+use crate::state;
+use lines::Message;
+ghost use mathlib.Core.Path.{_≡_};
+ghost use mathlib.Core.Bool.{true, false};
+ghost use mathlib.Core.List.{[]};
+ghost use Prim.Native.Nat.{_<_};
+ghost use lib.ListN.{length, getD};
+ghost use Rattle.timestamp.specs.Timestamp.{stampOf};
+ghost use Rattle.placement.specs.InWords.{sitesMost};
+ghost use Rattle.network.specs.Layout.{stateSize};
+ghost use Rattle.network.specs.Steps.{dummyNumber};
+ghost use Rattle.network.specs.Calls.{dummy as dummyCall};
+ghost use Rattle.network.specs.InWords.{numberIn};
+ghost use Rattle.network.specs.Promises.{Performed};
+
+// A dummy at a site. It answers its number and the timestamp.
+pub fn dummy(state: &mut [u32; WORDS], site: u32) -> Dummied
+    ensures { λ r. ⌜ Performed (dummyCall site) (now (state .entry)) (now (state .exit)) (r .number) 0 (stampOf (r .stamp)) [] ⌝ }
+{
+    dummy_in(state, site)
+}
+
+fn dummy_in(state: &mut [u32], site: u32) -> Dummied
+    requires { ⌜ length (now state) ≡ stateSize ⌝ }
+    ensures { λ r. ⌜ Performed (dummyCall site) (now (state .entry)) (now (state .exit)) (r .number) 0 (stampOf (r .stamp)) [] ⌝ }
+{
+    let number = dummy_number(state, site);
+    if number != 0 {
+        let none = state::no_stamp();
+        return Dummied {
+            number,
+            stamp: none,
+        };
+    }
+    let i = words::wide(site);
+    let mask = state::children(state, site);
+    state::site_dummy(state, i);
+    let t = state::site_stamp(state, i);
+    let m = Message {
+        name: 256,
+        stamp: t,
+    };
+    sending::send_all(state, i, mask, m);
+    Dummied {
+        number: 0,
+        stamp: t,
+    }
+}
+
+// The number of the first cause that refuses the step, or 0.
+fn dummy_number(state: &[u32], site: u32) -> u32
+    requires { ⌜ length (now state) ≡ stateSize ⌝ }
+    ensures { λ r. ⌜ r ≡ numberIn (now (state .entry)) (λ n. dummyNumber n site) ⌝ }
+{
+    let cause = causes::site_number(state, site);
+    if cause != 0 {
+        return cause;
+    }
+    let i = words::wide(site);
+    let mask = state::children(state, site);
+    if sending::some_line_full(state, i, mask) {
+        return 13;
+    }
+    if state::count_at_most(state, i) {
+        return 14;
+    }
+    0
+}
