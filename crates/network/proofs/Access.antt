@@ -2,24 +2,25 @@
 use mathlib.Core.Path.{_≡_, refl, sym, ap, _∙_}
 use mathlib.Core.Bool.{Bool, true}
 use mathlib.Core.List.{List, []}
-use Prim.Native.Nat.{ℕ, _+_, _-_, _*_, _≤_, _<_}
+use Prim.Native.Nat.{ℕ, _+_, _-_, _*_, _≤_, _<_, min}
 use native.Mathlib.Omega.{arith}
-use lib.ListN.{length, getD}
+use lib.ListN.{length, getD, set}
 use Rattle.words.specs.Words.{part, put, every, Stepped}
 use Rattle.words.proofs.Parts.{part-length, lent-part, lent-put, lent-size}
 use Rattle.words.proofs.Chunks.{chunks-length}
 use Rattle.words.proofs.Walks.{every-at}
 use Rattle.site.specs.Site.{Site}
-use Rattle.site.specs.InWords.{siteIn, siteRange, siteSize}
+use Rattle.timestamp.specs.Timestamp.{Stamp}
+use Rattle.site.specs.InWords.{siteIn, siteRange, siteSize, opsIn, opsMost, opsSize}
 use Rattle.placement.specs.InWords.{sitesMost}
 use Rattle.lines.specs.Lines.{Line, noLine}
 use Rattle.lines.specs.InWords.{lineIn, lineRange, lineSize, recordsMost}
 use Rattle.records.specs.Records.{Record}
-use Rattle.records.specs.InWords.{recordIn, recordSize}
+use Rattle.records.specs.InWords.{recordIn, recordSize, Written}
 use Rattle.network.specs.Layout.{sitesAt, sitesSize, linesAt, linesSize, linesMost, historyAt, stateSize}
-use Rattle.network.specs.Network.{Network, siteAt, withSite, withLine, noRecord}
-use Rattle.network.specs.InWords.{siteWords, lineWords, networkIn, inRange, SiteStep, LineStep}
-use Rattle.network.proofs.Assembled.{Range, partsOf, range-parts, line-words, line-read, line-put, line-range, site-words, site-read, site-put, site-range, record-read}
+use Rattle.network.specs.Network.{Network, siteAt, withSite, withLine, withRecord, noRecord}
+use Rattle.network.specs.InWords.{siteWords, lineWords, networkIn, inRange, SiteStep, LineStep, RecordStep}
+use Rattle.network.proofs.Assembled.{Range, partsOf, range-parts, line-words, line-read, line-put, line-range, site-words, site-read, site-put, site-range, record-read, longer, record-put, record-range}
 
 -- ---- a part from a place on, as it is lent
 module _ (w : List ℕ) (a k : ℕ) (fits : a + k ≤ length w) where
@@ -96,3 +97,23 @@ module _ (w : List ℕ) (size : length w ≡ stateSize) where
     pub record-lent : recordIn (part w recordStart (recordStart + recordSize - recordStart)) ≡ getD (networkIn w .history) k noRecord
     unfolding partsOf
     record-lent = ap recordIn (lent-part w recordStart recordSize) ∙ sym (record-read w size (range-parts w e .few-records) k b)
+
+  -- a record more, written to the part behind the others
+  pub record-added : inRange w ≡ true → getD w 2 0 < recordsMost → (k : ℕ) → k ≡ getD w 2 0 → (site count : ℕ) → 1 ≤ count → count ≤ opsMost → (stamp : Stamp) (ops : List ℕ) → length ops ≡ opsSize → (ys : List ℕ)
+      → length ys ≡ length (part w (historyAt + k * recordSize) (historyAt + k * recordSize + recordSize - (historyAt + k * recordSize)))
+      → Written (part w (historyAt + k * recordSize) (historyAt + k * recordSize + recordSize - (historyAt + k * recordSize))) ys site count stamp ops
+      → (v : List ℕ) (m : ℕ) → m ≡ getD w 2 0 → v ≡ set (put w (historyAt + k * recordSize) (historyAt + k * recordSize + recordSize - (historyAt + k * recordSize)) ys) 2 (m + 1)
+      → RecordStep w v (record { site = site; stamp = stamp; ops = opsIn (min count opsMost) ops })
+  record-added e room k is site count some few stamp ops long ys size′ s v m ms f =
+      let a = historyAt + k * recordSize in
+      let inside : a + recordSize ≤ length w = omega arith in
+      let fits : length ys ≡ recordSize = lent-size w a recordSize ys inside size′ in
+      let held : length (part w a (a + recordSize - a)) ≡ recordSize = lent-has w a recordSize inside in
+      let g : v ≡ longer w size room ys fits
+      = f
+      ∙ ap (λ (x : List ℕ). set x 2 (m + 1)) (lent-put w a recordSize ys ∙ ap (λ (j : ℕ). put w (historyAt + j * recordSize) recordSize ys) is)
+      ∙ ap (λ (j : ℕ). set (put w (historyAt + getD w 2 0 * recordSize) recordSize ys) 2 (j + 1)) ms in
+      record {
+        meant = ap networkIn g ∙ record-put w size room ys fits ∙ ap (withRecord (networkIn w)) (s .meant held long);
+        ranged = ap inRange g ∙ record-range w size room ys fits e (s .ranged held long some few);
+      }

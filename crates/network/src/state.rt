@@ -192,6 +192,18 @@ pub(crate) fn record_stamp(state: &[u32], k: usize) -> Timestamp
     records::stamp(&state[a..e])
 }
 
+// A record more: its words behind the others, and the number of records one higher.
+pub(crate) fn add_record(state: &mut [u32], site: u32, n: u32, t: Timestamp, ops: &[u32; 24])
+    requires { ⌜ (length (now state) ≡ stateSize) × (inRange (now state) ≡ true) × (getD (now state) 2 0 < recordsMost) × (1 ≤ n) × (n ≤ opsMost) ⌝ }
+    ensures { λ r. ⌜ RecordStep (now (state .entry)) (now (state .exit)) (record { site = site; stamp = stampOf t; ops = opsIn (min n opsMost) (now (ops .entry)) }) ⌝ }
+{
+    let made = state[2];
+    let a = HISTORY + words::wide(made) * RECORD;
+    let e = a + RECORD;
+    records::write(&mut state[a..e], site, n, t, ops);
+    words::store(state, 2, made + 1);
+}
+
 // The timestamp of a refusal: epoch 0, no tuple.
 pub(crate) fn no_stamp() -> Timestamp
     ensures { λ r. ⌜ stampOf r ≡ noStamp ⌝ }
