@@ -6,7 +6,7 @@ use mathlib.Core.Option.{Option, none, some}
 use Prim.Native.Nat.{ℕ, _≤_, _<_, min}
 use native.Mathlib.Omega.{arith}
 use lib.IntN.{ℤ}
-use lib.ListN.{length, getD, length-map, length-set}
+use lib.ListN.{length, getD, length-map, length-set, List·getD-eq-default}
 use lib.Dec.{eqb, leb, ltb}
 use borrow.Author.Tests.{eq-eqb, ne-eqb, lt-ltb, le-ltb, le-leb, lt-leb, leb-false, ltb-true, ltb-false}
 use Rattle.words.specs.Words.{part}
@@ -15,8 +15,9 @@ use Rattle.words.proofs.Walks.{and-true}
 use Rattle.timestamp.specs.Timestamp.{Stamp}
 use Rattle.site.specs.Site.{Site}
 use Rattle.site.specs.InWords.{siteIn, siteSize}
-use Rattle.placement.specs.Placement.{Item, firstNumber}
-use Rattle.placement.specs.InWords.{itemsIn, itemsMost, sitesMost}
+use Rattle.placement.specs.Placement.{Item, noItem, firstNumber}
+use Rattle.placement.specs.InWords.{itemsIn, itemAt, itemsMost, sitesMost}
+use Rattle.placement.proofs.Items.{items-length, items-at}
 use Rattle.lines.specs.InWords.{lineIn, lineSize, recordsMost}
 use Rattle.records.specs.InWords.{recordIn, recordSize}
 use Rattle.network.specs.Layout.{itemsAt, itemsSize, sitesAt, sitesSize, linesAt, linesSize, linesMost, historyAt, historySize}
@@ -158,3 +159,16 @@ few-sites w e = omega (arith, sites-count w, range-parts w e .few-sites)
 pub site-step-below : (w v : List ℕ) (i : ℕ) (step : Site → Site) → SiteStep w v i step → getD v 0 0 ≡ getD w 0 0
 site-step-below w v i step s =
     sym (sites-count v) ∙ ap (λ (n : Network). length (n .sites)) (s .meant) ∙ length-set (networkIn w .sites) i (step (siteAt (networkIn w) i)) ∙ sites-count w
+
+-- ---- one item of the placement
+module _ (w : List ℕ) (k : ℕ) where
+  pub items-count : length (networkIn w .items) ≡ getD w 1 0
+  unfolding networkIn
+  items-count = items-length (getD w 1 0) (part w itemsAt itemsSize)
+
+  pub item-read : k < getD w 1 0 → itemAt (part w itemsAt itemsSize) k ≡ getD (networkIn w .items) k noItem
+  unfolding networkIn
+  item-read h = sym (items-at (getD w 1 0) (part w itemsAt itemsSize) k h)
+
+  pub item-none : getD w 1 0 ≤ k → noItem ≡ getD (networkIn w .items) k noItem
+  item-none h = sym (List·getD-eq-default (networkIn w .items) noItem {n = k} (omega (arith, items-count)))

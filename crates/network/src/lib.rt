@@ -1,6 +1,7 @@
 // A network of sites in one lent array of words: set-up, commit, dummy, epoch, deliver, schedule.
 mod causes; // causes.rt: causes that several steps share
 mod deliveries; // deliveries.rt: deliver
+mod due; // due.rt: what operations ask of the placement
 mod dummies; // dummies.rt: dummy
 mod epochs; // epochs.rt: epoch
 mod sending; // sending.rt: a message to several sites

@@ -20,7 +20,7 @@ ghost use Rattle.site.specs.Operations.{worked};
 ghost use Rattle.site.specs.Site.{committed, dummied, atEpoch, received};
 ghost use Rattle.site.specs.InWords.{opsIn, opsMost, opsSize};
 ghost use Rattle.placement.specs.Masks.{maskOf};
-ghost use Rattle.placement.specs.Placement.{isLine, hasParents};
+ghost use Rattle.placement.specs.Placement.{isLine, hasParents, owns, copies};
 ghost use Rattle.placement.specs.InWords.{sitesMost};
 ghost use Rattle.lines.specs.Lines.{commit, noLine, heldMost, sentOrSame, deliveredOrSame, takenOrSame};
 ghost use Rattle.lines.specs.InWords.{messageOf, recordsMost};
@@ -68,6 +68,25 @@ pub(crate) fn parents(state: &[u32], c: u32) -> u32
 {
     let items = words::wide(state[1]);
     placement::parents(&state[ITEMS..SITES], items, c)
+}
+
+// Whether an item has its primary at site i.
+pub(crate) fn is_owned(state: &[u32], item: u32, i: u32) -> bool
+    requires { ⌜ (length (now state) ≡ stateSize) × (inRange (now state) ≡ true) × (item < getD (now state) 1 0) ⌝ }
+    ensures { λ r. ⌜ r ≡ owns (networkIn (now (state .entry)) .items) i item ⌝ }
+{
+    placement::primary(&state[ITEMS..SITES], words::wide(item)) == i
+}
+
+// Whether an item has a copy at site i; one that is not there has none.
+pub(crate) fn is_copied(state: &[u32], item: u32, i: u32) -> bool
+    requires { ⌜ (length (now state) ≡ stateSize) × (inRange (now state) ≡ true) ⌝ }
+    ensures { λ r. ⌜ r ≡ copies (networkIn (now (state .entry)) .items) i item ⌝ }
+{
+    if state[1] <= item {
+        return placement::bit(0, i);
+    }
+    placement::bit(placement::mask(&state[ITEMS..SITES], words::wide(item)), i)
 }
 
 // ---- lines
