@@ -1,9 +1,11 @@
 // A network of sites in one lent array of words: set-up, commit, dummy, epoch, deliver, schedule.
 mod deliveries; // deliveries.rt: deliver
+mod placing; // placing.rt: set-up
 mod shape; // shape.rt: whether the words are those of a network
 mod state; // state.rt: the sites, lines and records of a state, by number
 
 pub use deliveries::deliver;
+pub use placing::set_up;
 
 // Where the parts of a state start, and its size.
 const ITEMS: usize = 3;
