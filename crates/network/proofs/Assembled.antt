@@ -48,7 +48,7 @@ partsOf w =
       kept = part w historyAt historySize;
     }
 
-pub networkOf : Parts → Network
+unfoldable pub networkOf : Parts → Network
 networkOf p =
     record {
       sites = map siteIn (chunks siteSize (p .sites) (p .housed));

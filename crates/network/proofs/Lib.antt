@@ -11,3 +11,4 @@ pub mod Entering
 pub mod Sent
 pub mod Dummying
 pub mod Asked
+pub mod SettingUp

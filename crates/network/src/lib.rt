@@ -5,12 +5,14 @@ mod due; // due.rt: what operations ask of the placement
 mod dummies; // dummies.rt: dummy
 mod epochs; // epochs.rt: epoch
 mod sending; // sending.rt: a message to several sites
+mod placing; // placing.rt: set-up
 mod shape; // shape.rt: whether the words are those of a network
 mod state; // state.rt: the sites, lines and records of a state, by number
 
 pub use deliveries::deliver;
 pub use dummies::dummy;
 pub use epochs::epoch;
+pub use placing::set_up;
 use timestamp::Timestamp;
 
 // What a dummy answers: its number and the timestamp, which is zero where it is refused.

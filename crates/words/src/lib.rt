@@ -1,7 +1,7 @@
 // Words of 32 bits in lent slices: one read, many copied or moved, and a signed value kept as a word.
 ghost use mathlib.Core.Path.{_≡_};
 ghost use Prim.Native.Nat.{min};
-ghost use lib.ListN.{getD, set};
+ghost use lib.ListN.{getD, set, length, replicate};
 ghost use mir.Val.{toZ, ofZ};
 ghost use mir.Syntax.{w32};
 ghost use Rattle.words.specs.Words.{overlaid, laid, shifted};
@@ -41,6 +41,18 @@ pub fn store(w: &mut [u32], i: usize, v: u32)
 {
     if i < w.len() {
         w[i] = v;
+    }
+}
+
+// One word everywhere.
+pub fn fill(w: &mut [u32], v: u32)
+    ensures { λ r. ⌜ now (w .exit) ≡ replicate (length (now (w .entry))) v ⌝ }
+{
+    let n = w.len();
+    let mut i = 0;
+    while i < n {
+        w[i] = v;
+        i += 1;
     }
 }
 
