@@ -11,4 +11,5 @@ pub mod Entering
 pub mod Sent
 pub mod Dummying
 pub mod Asked
+pub mod Committing
 pub mod SettingUp

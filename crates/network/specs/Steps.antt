@@ -97,16 +97,22 @@ opNumber xs i o =
 abbrev pub due : List Item → List Op → ℕ → Bool
 due xs os c = some (λ (o : Op). writes o && copies xs c (o .item)) os
 
+-- the causes that come after the lists' lengths
+abbrev pub commitCauses : Network → ℕ → List Op → List ℕ
+commitCauses n i os =
+    firstNumber (map (opNumber (n .items) i) os)
+    ∷ when (leb recordsMost (length (n .history))) 12
+    ∷ when (someLineFull n i (due (n .items) os)) 13
+    ∷ when (countAtMost n i) 14
+    ∷ []
+
+-- not 1 to 8 operations, or lists of several lengths
+abbrev pub wrongLists : ℕ → ℕ → ℕ → Bool
+wrongLists kinds items values = outside 1 opsMost kinds || (not (eqb items kinds) || not (eqb values kinds))
+
 unfoldable pub commitNumber : Network → ℕ → List ℕ → List ℕ → List ℤ → ℕ
 commitNumber n i ks is vs =
-    firstNumber
-    (when (noSuchSite n i) 7
-    ∷ when (outside 1 opsMost (length ks) || (not (eqb (length is) (length ks)) || not (eqb (length vs) (length ks)))) 8
-    ∷ firstNumber (map (opNumber (n .items) i) (opsOf ks is vs))
-    ∷ when (leb recordsMost (length (n .history))) 12
-    ∷ when (someLineFull n i (due (n .items) (opsOf ks is vs))) 13
-    ∷ when (countAtMost n i) 14
-    ∷ [])
+    firstNumber (when (noSuchSite n i) 7 ∷ when (wrongLists (length ks) (length is) (length vs)) 8 ∷ commitCauses n i (opsOf ks is vs))
 
 -- the record that a commit makes
 abbrev pub recordOf : Network → ℕ → List Op → Record

@@ -1,5 +1,6 @@
 // A network of sites in one lent array of words: set-up, commit, dummy, epoch, deliver, schedule.
 mod causes; // causes.rt: causes that several steps share
+mod commits; // commits.rt: commit
 mod deliveries; // deliveries.rt: deliver
 mod due; // due.rt: what operations ask of the placement
 mod dummies; // dummies.rt: dummy
