@@ -10,3 +10,4 @@ pub mod Delivering
 pub mod Entering
 pub mod Sent
 pub mod Dummying
+pub mod OperationWords

@@ -3,6 +3,7 @@ mod causes; // causes.rt: causes that several steps share
 mod deliveries; // deliveries.rt: deliver
 mod dummies; // dummies.rt: dummy
 mod epochs; // epochs.rt: epoch
+mod operations; // operations.rt: a commit's operations in words, and the values read
 mod sending; // sending.rt: a message to several sites
 mod shape; // shape.rt: whether the words are those of a network
 mod state; // state.rt: the sites, lines and records of a state, by number
