@@ -1,5 +1,5 @@
 -- Laws of operations that are given by the lists of their fields, and of the values that reads gave, one operation at a time.
-use mathlib.Core.Path.{_≡_, refl, sym, ap, ap₂, _∙_}
+use mathlib.Core.Path.{_≡_, refl, sym, ap, _∙_}
 use mathlib.Core.Bool.{Bool, true, false, cond}
 use mathlib.Core.List.{List, [], _∷_, _++_, append-nil}
 use Prim.Native.Nat.{ℕ, zero, suc, _+_, _*_, _≤_, _<_}
@@ -9,7 +9,6 @@ use native.Mathlib.Nat.{not-suc-le-zero}
 use lib.IntN.{ℤ, pos}
 use lib.ListN.{length, getD, set, take}
 use lib.Seq.{take-all, take-suc-set}
-use lib.Dec.{eqb}
 use borrow.Author.Tests.{eq-eqb, ne-eqb}
 use mir.Val.{toZ, ofZ, SFits}
 use mir.ValLaws.{toZ-ofZ}
@@ -83,11 +82,11 @@ module _ (ops : List ℕ) (i kind : ℕ) (k : kind ≡ getD ops (3 * i) 0) (coun
   read-none z = sym (rw (ne-eqb (opAt ops i .kind) 0 (λ f. z (same-kind ∙ f))) (append-nil (take count vs)))
 
   -- a read gives its own
-  pub read-one : (w : ℕ) (z : ℤ) → kind ≡ 0 → count < length vs → w ≡ getD ops (3 * i + 2) 0 → z ≡ toZ w32 w
-      → take (count + 1) (set vs count z) ≡ take count vs ++ valuesRead (opAt ops i ∷ [])
-  read-one w z n h e f =
-      let value : z ≡ opAt ops i .value = f ∙ ap (toZ w32) (e ∙ op-word ops i (3 * i + 2) 2 refl (omega arith)) in
-      ap (λ (m : ℕ). take m (set vs count z)) (add-one count)
-      ∙ take-suc-set vs count z h
+  pub read-one : (w : ℕ) (z : ℤ) → kind ≡ 0 → count < length vs → w ≡ getD ops (3 * i + 2) 0 → z ≡ toZ w32 w → SFits w32 z
+      → take (count + 1) (set vs count (again z)) ≡ take count vs ++ valuesRead (opAt ops i ∷ [])
+  read-one w z n h e f s =
+      let value : again z ≡ opAt ops i .value = toZ-ofZ w32 z s ∙ f ∙ ap (toZ w32) (e ∙ op-word ops i (3 * i + 2) 2 refl (omega arith)) in
+      ap (λ (m : ℕ). take m (set vs count (again z))) (add-one count)
+      ∙ take-suc-set vs count (again z) h
       ∙ ap (λ (x : ℤ). take count vs ++ (x ∷ [])) value
       ∙ sym (rw (eq-eqb (opAt ops i .kind) 0 (sym same-kind ∙ n)))

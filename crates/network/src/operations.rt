@@ -57,8 +57,8 @@ fn op_word(out: &mut [u32; 24], kinds: &[u8], items: &[u32], values: &[i32], i: 
 }
 
 // The value of operation i, where it is a read, after the `count` values before it; answers how many there are then.
-fn value_read(values: &mut [i32; 8], count: usize, ops: &[u32], i: usize) -> usize
-    requires { ⌜ (count ≤ i) × (i < opsMost) ⌝ }
+fn value_read(values: &mut [i32], count: usize, ops: &[u32], i: usize) -> usize
+    requires { ⌜ (count ≤ i) × (i < opsMost) × (opsMost ≤ length (now values)) ⌝ }
     ensures { λ r. ⌜ (r ≤ i + 1) × (take r (now (values .exit)) ≡ take count (now (values .entry)) ++ valuesRead (opAt (now (ops .entry)) i ∷ [])) ⌝ }
 {
     let at = 3 * i;
@@ -69,6 +69,7 @@ fn value_read(values: &mut [i32; 8], count: usize, ops: &[u32], i: usize) -> usi
     count + 1
 }
 
+// A kind as a word.
 fn wide8(x: u8) -> u32
     ensures { λ r. ⌜ r ≡ x ⌝ }
 {

@@ -1,5 +1,4 @@
 -- `operations::op_word` lays one operation after those before it, its fields from the three lists.
-use mathlib.Core.Path.{_≡_}
 use native.Mathlib.Omega.{arith}
 use lib.IntN.{pos}
 use lib.ListN.{getD}
@@ -40,9 +39,11 @@ lay-requires c κs = search needs
 
 returns : tie.Need-returns
 returns c =
-    let A = c .before .before .before .before .before .before .before .before .before .before .args in
+    let b = c .before .before .before in
+    let w = b .before .before .before in
+    let A = w .before .before .before .before .args in
     fields-laid (A .out .now) (c .lay .last .0) (A .i) (getD (A .kinds .now) (A .i) 0) (getD (A .items .now) (A .i) 0) (getD (A .values .now) (A .i) (pos 0))
-    (c .before .before .before .before .before .before .wide8 .result) (c .before .before .before .bits .result) (omega arith) (omega arith) (c .lay .ensures) (c .before .before .before .before .before .before .wide8 .ensures) (c .before .before .before .bits .ensures) (record { sfits = c .before .before .before .before .v .given })
+    (w .wide8 .result) (b .bits .result) (omega arith) (omega arith) (c .lay .ensures) (w .wide8 .ensures) (b .bits .ensures) (record { sfits = b .before .v .given })
 
 pub op-word-spec : {M : Type 1} → statement M
 op-word-spec =

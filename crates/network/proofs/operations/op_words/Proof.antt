@@ -32,14 +32,16 @@ loop-less c = search needs
 
 loop-again : tie.Need-loop-again Inv-loop μ-loop
 loop-again c =
-    let A = c .before .before .before .before .before .before .args in
-    let P = c .before .before .before .before .before .before .pre in
-    (omega arith, ops-next (A .kinds .now) (A .items .now) (A .values .now) (c .before .before .before .loop .out) (c .before .before .before .loop .i) (c .before .before .before .loop .inv .1) (c .op-word .last .0) (P .1) (P .2) (omega arith) (c .op-word .ensures))
+    let l = c .before .before .before .loop in
+    let s = c .before .before .before .before .before .before in
+    let A = s .args in
+    (omega arith, ops-next (A .kinds .now) (A .items .now) (A .values .now) (l .out) (l .i) (l .inv .1) (c .op-word .last .0) (s .pre .1) (s .pre .2) (omega arith) (c .op-word .ensures))
 
 returns : tie.Need-returns Inv-loop μ-loop
 returns c =
     let A = c .before .before .before .before .args in
-    ops-all (A .kinds .now) (A .items .now) (A .values .now) (c .before .loop .out) (c .before .loop .i) (c .before .loop .inv .1) (omega arith)
+    let l = c .before .loop in
+    ops-all (A .kinds .now) (A .items .now) (A .values .now) (l .out) (l .i) (l .inv .1) (omega arith)
 
 pub op-words-spec : {M : Type 1} → statement M
 op-words-spec =

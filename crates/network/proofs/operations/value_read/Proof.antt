@@ -1,5 +1,4 @@
 -- `operations::value_read` adds the value of one operation, where it is a read, behind those before it.
-use mathlib.Core.Path.{_≡_}
 use native.Mathlib.Omega.{arith}
 use Rattle.network.proofs.OperationWords.{read-none, read-one}
 use borrow.Author.Needs.{needs}
@@ -15,7 +14,7 @@ word-requires c κs = search needs
 returns : tie.Need-returns
 returns c =
     let A = c .before .before .before .args in
-    (omega arith, read-none (A .ops .now) (A .i) (c .before .word .result) (c .before .word .ensures) (A .count) (A .values .now) ?)
+    (omega arith, read-none (A .ops .now) (A .i) (c .before .word .result) (c .before .word .ensures) (A .count) (A .values .now) (c .if1 .taken))
 
 add-word : tie.Need-add-word
 add-word c = search needs
@@ -29,16 +28,23 @@ value-requires c κs = search needs
 mul-t10 : tie.Need-mul-t10
 mul-t10 c = search needs
 
-element-set-from-values : tie.Need-element-set-from-values
-element-set-from-values c = search needs
+slice-set-from-values : tie.Need-slice-set-from-values
+slice-set-from-values c = search needs
 
 add-result : tie.Need-add-result
 add-result c = search needs
 
+same-length : tie.Need-same-length
+same-length c = search needs
+
 returns-2 : tie.Need-returns-2
 returns-2 c =
-    let A = c .before .before .before .before .before .args in
-    (omega arith, ?)
+    let k = c .before .before .before in
+    let A = k .before .before .args in (
+      omega arith,
+      read-one (A .ops .now) (A .i) (k .word .result) (k .word .ensures) (A .count) (A .values .now) (c .before .word2 .result) (c .value .result)
+          (c .before .before .if1 .left) (omega arith) (c .before .word2 .ensures) (c .value .ensures) (record { sfits = c .value .ok }),
+    )
 
 pub value-read-spec : {M : Type 1} → statement M
 value-read-spec =
@@ -51,6 +57,7 @@ value-read-spec =
     word-requires-2
     value-requires
     mul-t10
-    element-set-from-values
+    slice-set-from-values
     add-result
+    same-length
     returns-2)
