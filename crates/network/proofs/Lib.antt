@@ -13,3 +13,4 @@ pub mod Dummying
 pub mod Asked
 pub mod Committing
 pub mod SettingUp
+pub mod OperationWords

@@ -5,6 +5,7 @@ mod deliveries; // deliveries.rt: deliver
 mod due; // due.rt: what operations ask of the placement
 mod dummies; // dummies.rt: dummy
 mod epochs; // epochs.rt: epoch
+mod operations; // operations.rt: a commit's operations in words, and the values read
 mod sending; // sending.rt: a message to several sites
 mod placing; // placing.rt: set-up
 mod shape; // shape.rt: whether the words are those of a network
