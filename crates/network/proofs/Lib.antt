@@ -7,3 +7,4 @@ pub mod WellShaped
 pub mod Keeps
 pub mod Chosen
 pub mod Delivering
+pub mod Scheduling

@@ -1,9 +1,19 @@
 // A network of sites in one lent array of words: set-up, commit, dummy, epoch, deliver, schedule.
 mod deliveries; // deliveries.rt: deliver
+mod schedules; // schedules.rt: schedule
 mod shape; // shape.rt: whether the words are those of a network
 mod state; // state.rt: the sites, lines and records of a state, by number
 
 pub use deliveries::deliver;
+pub use schedules::schedule;
+use timestamp::Timestamp;
+
+// What a schedule answers: its number, the parent and the message's timestamp; all zero where refused.
+pub struct Scheduled {
+    pub number: u32,
+    pub parent: u32,
+    pub stamp: Timestamp,
+}
 
 // Where the parts of a state start, and its size.
 const ITEMS: usize = 3;
