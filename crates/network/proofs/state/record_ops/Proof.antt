@@ -1,5 +1,6 @@
 -- `record_ops` copies the words of the record's operations.
 use mathlib.Core.Path.{refl}
+use lib.ListN.{replicate}
 use Rattle.network.proofs.Access.{record-copied}
 use borrow.Author.Needs.{needs}
 use Rattle.network.proofs.state.record_ops.Statement.{statement}
@@ -36,7 +37,7 @@ copy-requires : tie.Need-copy-requires
 copy-requires c κs = search needs
 
 returns : tie.Need-returns
-returns c = record-copied (c .before .before .before .before .before .args .state .now) (c .before .before .before .before .before .pre .0) (c .before .before .before .before .before .pre .1) (c .before .before .before .before .before .args .k) (c .before .before .before .before .before .pre .2) _ (c .before .copy .last .0) refl (c .before .copy .ensures)
+returns c = record-copied (c .before .before .before .before .before .args .state .now) (c .before .before .before .before .before .pre .0) (c .before .before .before .before .before .pre .1) (c .before .before .before .before .before .args .k) (c .before .before .before .before .before .pre .2) (replicate 24 0) (c .before .copy .last .0) refl (c .before .copy .ensures)
 
 pub record-ops-spec : {M : Type 1} → statement M
 record-ops-spec =
