@@ -2,7 +2,6 @@
 use mathlib.Core.Path.{_≡_, refl, sym, ap, ap₂, subst, _∙_}
 use mathlib.Core.Bool.{Bool, true, false, not, cond, _&&_, _||_, or-true}
 use mathlib.Core.List.{List, [], _∷_, _++_, map, map-append}
-use mathlib.Core.Option.{some}
 use Prim.Native.Nat.{ℕ, zero, suc, _+_, _*_, _≤_, _<_, min}
 use native.Mathlib.Omega.{arith}
 use native.Mathlib.Numerals.{add-one}
@@ -17,20 +16,20 @@ use mir.Val.{toZ}
 use mir.Syntax.{w32}
 use Rattle.timestamp.specs.Timestamp.{Stamp, appendedOrSame, ownSite, ownCount}
 use Rattle.timestamp.specs.Order.{order, isEarlier}
-use Rattle.site.specs.Operations.{Op, writes, written, work, worked}
-use Rattle.site.specs.Site.{Site, received}
+use Rattle.site.specs.Operations.{Op, writes, work, worked}
+use Rattle.site.specs.Site.{received}
 use Rattle.site.specs.InWords.{opAt, opsIn, opsMost}
 use Rattle.site.proofs.Laws.{opOf, op-word, ops-last}
 use Rattle.placement.specs.Masks.{bit, maskOf}
 use Rattle.placement.specs.Placement.{Item, noItem, copies, isLine, hasParents}
 use Rattle.placement.specs.InWords.{itemSize, itemIn, itemAt, sitesMost}
 use Rattle.placement.proofs.Laws.{bit-mask-of}
-use Rattle.lines.specs.Lines.{Message, commit, dummy, Line, noLine, taken, takenOrSame}
+use Rattle.lines.specs.Lines.{Message, commit, dummy, noLine, takenOrSame}
 use Rattle.lines.specs.InWords.{recordsMost}
 use Rattle.lines.proofs.Boxes.{take-some}
 use Rattle.records.specs.Records.{opFits}
 use Rattle.network.specs.Layout.{itemsAt, itemsSize, linesMost}
-use Rattle.network.specs.Network.{Network, noStamp, noRecord, siteAt, lineAt, lineNumber, withSite, withLine, messageStamp, messageOps, messageFits}
+use Rattle.network.specs.Network.{Network, noStamp, noRecord, siteAt, lineAt, lineNumber, withSite, withLine, messageStamp, messageFits}
 use Rattle.network.specs.Steps.{when, noSuchSite, someBelow, scheduleNumber, head, headStamp, earlierOf, earliest, chosen, keep, writesFor, scheduleNetwork}
 use Rattle.network.specs.Calls.{schedule, accepted, perform}
 use Rattle.network.specs.InWords.{networkIn, inRange, numberIn, SiteStep, LineStep}
@@ -40,7 +39,7 @@ use Rattle.network.proofs.Assembled.{Range, partsOf, range-parts}
 use Rattle.network.proofs.Numbers.{first-holds, first-fails}
 use Rattle.network.proofs.Performs.{sites-count, lines-count, records-count, shaped-range, shaped-well, meaning-some, number-none, performs-refused, performs-accepted}
 use Rattle.network.proofs.WellShaped.{Shape, shape-parts}
-use Rattle.network.proofs.Chosen.{parent-up, parent-number, parent-fits, chosen-line, chosen-up, chosen-held, keeps-schedule}
+use Rattle.network.proofs.Chosen.{parent-up, parent-fits, chosen-line, chosen-held, keeps-schedule}
 
 -- ---- some number below k passes a test
 module _ (f : ℕ → Bool) where

@@ -1,7 +1,7 @@
 -- What the parts of a schedule's code say: the best parent so far, and operations of which only some are kept as writes.
 use mathlib.Core.Path.{_≡_}
 use mathlib.Core.Bool.{Bool, cond, _&&_}
-use mathlib.Core.List.{List, map}
+use mathlib.Core.List.{List}
 use Prim.Native.Nat.{ℕ, _<_}
 use Rattle.timestamp.specs.Timestamp.{Stamp}
 use Rattle.site.specs.Operations.{Op, writes}

@@ -1,7 +1,6 @@
 -- `better` takes p where it is a parent and there was none before, or its message is earlier.
 use mathlib.Core.Path.{_≡_, sym, _∙_}
 use mathlib.Core.Bool.{true}
-use native.Mathlib.Omega.{arith}
 use borrow.Author.Tests.{not-true, not-false}
 use Rattle.timestamp.specs.Timestamp.{stampOf}
 use Rattle.placement.specs.Placement.{isLine}

@@ -1,5 +1,5 @@
 -- `chosen` goes over the sites: `best` is the best of the parents below p.
-use mathlib.Core.Path.{_≡_, refl, sym, ap, subst}
+use mathlib.Core.Path.{_≡_, subst}
 use Prim.Native.Nat.{ℕ, _≤_, _-_}
 use native.Mathlib.Omega.{arith}
 use Rattle.timestamp.specs.Timestamp.{stampOf}

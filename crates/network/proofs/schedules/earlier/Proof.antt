@@ -1,5 +1,5 @@
 -- `earlier` asks which of the three the order is.
-use mathlib.Core.Path.{_≡_, sym, ap, _∙_}
+use mathlib.Core.Path.{sym, ap, _∙_}
 use Rattle.timestamp.specs.Order.{isEarlier}
 use borrow.Author.Needs.{needs}
 use Rattle.network.proofs.schedules.earlier.Statement.{statement}

@@ -3,7 +3,7 @@ use mathlib.Core.Path.{_≡_, ap, _∙_}
 use Prim.Native.Nat.{ℕ, _+_, _*_}
 use native.Mathlib.Omega.{arith}
 use lib.ListN.{getD}
-use Rattle.timestamp.specs.Timestamp.{Stamp, stampOf}
+use Rattle.timestamp.specs.Timestamp.{stampOf}
 use Rattle.network.specs.Network.{lineNumber, noRecord}
 use Rattle.network.specs.InWords.{networkIn}
 use Rattle.network.proofs.Scheduling.{schedule-range, line-there, head-recorded, stamp-commit, stamp-dummy}

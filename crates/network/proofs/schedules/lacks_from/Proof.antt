@@ -7,7 +7,6 @@ use lib.ListN.{getD}
 use lib.Dec.{eqb}
 use borrow.Author.Tests.{not-true, not-false}
 use Rattle.lines.specs.Lines.{noLine}
-use Rattle.placement.specs.Placement.{isLine}
 use Rattle.network.specs.Network.{lineNumber, lineAt}
 use Rattle.network.specs.InWords.{networkIn}
 use Rattle.network.proofs.Scheduling.{parent-bit}

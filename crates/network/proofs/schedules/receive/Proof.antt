@@ -5,7 +5,7 @@ use native.Mathlib.Omega.{arith}
 use lib.ListN.{length, getD}
 use Rattle.timestamp.specs.Timestamp.{stampOf}
 use Rattle.site.specs.InWords.{opsIn}
-use Rattle.network.specs.Network.{lineNumber, noRecord}
+use Rattle.network.specs.Network.{noRecord}
 use Rattle.network.specs.InWords.{networkIn}
 use Rattle.network.proofs.Scheduling.{schedule-range, line-sites, line-there, head-recorded, receive-commit, receive-dummy}
 use borrow.Author.Needs.{needs}

@@ -1,7 +1,6 @@
 -- `schedule_number` asks for the causes in the order of their numbers.
 use mathlib.Core.Path.{_≡_, sym, _∙_}
 use mathlib.Core.Bool.{true, false}
-use Prim.Native.Nat.{ℕ}
 use borrow.Author.Tests.{not-true, not-false}
 use Rattle.placement.specs.Placement.{hasParents}
 use Rattle.network.specs.Steps.{noSuchSite, scheduleNumber}

@@ -1,8 +1,5 @@
 -- `wanted_kind` asks for the kind, and then for the copy.
-use mathlib.Core.Path.{_≡_, sym, ap, _∙_}
-use Prim.Native.Nat.{ℕ}
-use borrow.Author.Tests.{eq-eqb, ne-eqb}
-use Rattle.placement.specs.InWords.{itemAt}
+use mathlib.Core.Path.{sym, _∙_}
 use Rattle.network.proofs.Scheduling.{kind-other, kind-copy}
 use borrow.Author.Needs.{needs}
 use Rattle.network.proofs.schedules.wanted_kind.Statement.{statement}
