@@ -1,14 +1,14 @@
 -- A site, a line or a record lent as a part of the state: what is read of it, and what a step on it does to the network.
-use mathlib.Core.Path.{_≡_, refl, sym, ap, _∙_}
+use mathlib.Core.Path.{_≡_, refl, sym, ap, ap₂, _∙_}
 use mathlib.Core.Bool.{Bool, true}
 use mathlib.Core.List.{List, []}
 use Prim.Native.Nat.{ℕ, _+_, _-_, _*_, _≤_, _<_, min}
 use native.Mathlib.Omega.{arith}
 use lib.ListN.{length, getD, set}
-use Rattle.words.specs.Words.{part, put, every, Stepped}
-use Rattle.words.proofs.Parts.{part-length, lent-part, lent-put, lent-size}
+use Rattle.words.specs.Words.{part, put, overlaid, every, Stepped}
+use Rattle.words.proofs.Parts.{part-length, part-part, lent-part, lent-put, lent-size}
 use Rattle.words.proofs.Chunks.{chunks-length}
-use Rattle.words.proofs.Walks.{every-at}
+use Rattle.words.proofs.Walks.{every-at, overlaid-same}
 use Rattle.site.specs.Site.{Site}
 use Rattle.timestamp.specs.Timestamp.{Stamp}
 use Rattle.site.specs.InWords.{siteIn, siteRange, siteSize, opsIn, opsMost, opsSize}
@@ -16,7 +16,8 @@ use Rattle.placement.specs.InWords.{sitesMost}
 use Rattle.lines.specs.Lines.{Line, noLine}
 use Rattle.lines.specs.InWords.{lineIn, lineRange, lineSize, recordsMost}
 use Rattle.records.specs.Records.{Record}
-use Rattle.records.specs.InWords.{recordIn, recordSize, Written}
+use Rattle.records.specs.InWords.{recordIn, recordSize, opsAt, Written}
+use Rattle.records.proofs.Laws.{count-law}
 use Rattle.network.specs.Layout.{sitesAt, sitesSize, linesAt, linesSize, linesMost, historyAt, stateSize}
 use Rattle.network.specs.Network.{Network, siteAt, withSite, withLine, withRecord, noRecord}
 use Rattle.network.specs.InWords.{siteWords, lineWords, networkIn, inRange, SiteStep, LineStep, RecordStep}
@@ -97,6 +98,20 @@ module _ (w : List ℕ) (size : length w ≡ stateSize) where
     pub record-lent : recordIn (part w recordStart (recordStart + recordSize - recordStart)) ≡ getD (networkIn w .history) k noRecord
     unfolding partsOf
     record-lent = ap recordIn (lent-part w recordStart recordSize) ∙ sym (record-read w size (range-parts w e .few-records) k b)
+
+    -- its operations' words, copied over as many others
+    pub record-copied : (d out : List ℕ) → length d ≡ opsSize → out ≡ overlaid d (part w (recordStart + opsAt) (recordStart + opsAt + opsSize - (recordStart + opsAt)))
+        → opsIn (length (getD (networkIn w .history) k noRecord .ops)) out ≡ getD (networkIn w .history) k noRecord .ops
+    unfolding partsOf recordIn
+    record-copied d out long is =
+        let few = range-parts w e .few-records in
+        let own = part w recordStart recordSize in
+        let ops = part w (recordStart + opsAt) opsSize in
+        let from = lent-part w (recordStart + opsAt) opsSize in
+        let read = record-read w size few k b in
+        let same : out ≡ part own opsAt opsSize
+        = is ∙ ap (overlaid d) from ∙ overlaid-same d ops (part-length w (recordStart + opsAt) opsSize (omega arith) ∙ sym long) ∙ sym (part-part w recordStart recordSize opsAt opsSize (omega arith)) in
+        ap₂ opsIn (ap (λ (r : Record). length (r .ops)) read ∙ count-law own) same ∙ sym (ap (λ (r : Record). r .ops) read)
 
   -- a record more, written to the part behind the others
   pub record-added : inRange w ≡ true → getD w 2 0 < recordsMost → (k : ℕ) → k ≡ getD w 2 0 → (site count : ℕ) → 1 ≤ count → count ≤ opsMost → (stamp : Stamp) (ops : List ℕ) → length ops ≡ opsSize → (ys : List ℕ)

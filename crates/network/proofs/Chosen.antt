@@ -106,45 +106,52 @@ module _ (n : Network) (j : ℕ) (few : length (n .sites) ≤ sitesMost) (s : Sh
       let b = none-holds orphan 18 (when waits 20 ∷ []) (a .1) in
       (a .0, not-false (hasParents (n .items) j) (b .0), none-holds waits 19 [] (b .1) .0)
 
+  -- ---- each parent's line has a message that has arrived
+  module _ (p : ℕ) (line : isLine (n .items) p j ≡ true) where
+    pub parent-up : (p < j) × (j < length (n .sites))
+    parent-up = line-upward (length (n .sites)) (n .items) p j (s .placed) line
+
+    pub parent-arrived : lineAt n p j .arrived ≡ 0 → ⊥
+    parent-arrived =
+        let l = lineAt n p j in
+        eqb-false (l .arrived) 0
+        (and-false (isLine (n .items) p j) (eqb (l .arrived) 0)
+        (none-below (λ q. isLine (n .items) q j && eqb (lineAt n q j .arrived) 0) sitesMost p (causes .2) (omega (arith, parent-up .0, parent-up .1))) line)
+
+    pub parent-number : lineNumber p j < length (n .lines)
+    parent-number = go (leb (length (n .lines)) (lineNumber p j)) refl
+      where
+        go : (b : Bool) → leb (length (n .lines)) (lineNumber p j) ≡ b → lineNumber p j < length (n .lines)
+        go true t =
+            let past = leb-true (length (n .lines)) (lineNumber p j) t in
+            absurd (parent-arrived (ap (λ (l : Line). l .arrived) (List·getD-eq-default (n .lines) noLine {n = lineNumber p j} past)))
+        go false t = leb-false (length (n .lines)) (lineNumber p j) t
+
+    pub parent-shape : LineShape (n .items) (n .history) (lineNumber p j) (lineAt n p j)
+    parent-shape = s .lined (lineNumber p j) parent-number
+
+    -- its oldest message is one of its line's
+    pub parent-held : 0 < length (lineAt n p j .messages)
+    parent-held = let some : lineAt n p j .arrived ≡ 0 → ⊥ = parent-arrived in omega (arith, parent-shape .held)
+
+    pub parent-fits : messageFits (n .history) p (head n p j) ≡ true
+    parent-fits =
+        let from : lineNumber p j / sitesMost ≡ p = omega (arith, parent-up .1) in
+        ap (λ (q : ℕ). messageFits (n .history) q (head n p j)) (sym from)
+        ∙ every-at (messageFits (n .history) (lineNumber p j / sitesMost)) (lineAt n p j .messages) 0 (commit 0) (parent-shape .fitting) parent-held
+
+  -- ---- so has the chosen one's
   pub chosen-line : isLine (n .items) (chosen n j) j ≡ true
   chosen-line = chosen-parent n j (s .placed) few (causes .1) .0
 
   pub chosen-up : (chosen n j < j) × (j < length (n .sites))
-  chosen-up = line-upward (length (n .sites)) (n .items) (chosen n j) j (s .placed) chosen-line
+  chosen-up = parent-up (chosen n j) chosen-line
 
-  pub chosen-arrived : lineAt n (chosen n j) j .arrived ≡ 0 → ⊥
-  chosen-arrived =
-      let p = chosen n j in
-      let l = lineAt n p j in
-      eqb-false (l .arrived) 0
-      (and-false (isLine (n .items) p j) (eqb (l .arrived) 0)
-      (none-below (λ q. isLine (n .items) q j && eqb (lineAt n q j .arrived) 0) sitesMost p (causes .2) (omega (arith, chosen-up .0, chosen-up .1))) chosen-line)
-
-  pub chosen-number : lineNumber (chosen n j) j < length (n .lines)
-  chosen-number = go (leb (length (n .lines)) (lineNumber (chosen n j) j)) refl
-    where
-      go : (b : Bool) → leb (length (n .lines)) (lineNumber (chosen n j) j) ≡ b → lineNumber (chosen n j) j < length (n .lines)
-      go true t =
-          let past = leb-true (length (n .lines)) (lineNumber (chosen n j) j) t in
-          absurd (chosen-arrived (ap (λ (l : Line). l .arrived) (List·getD-eq-default (n .lines) noLine {n = lineNumber (chosen n j) j} past)))
-      go false t = leb-false (length (n .lines)) (lineNumber (chosen n j) j) t
-
-  pub chosen-shape : LineShape (n .items) (n .history) (lineNumber (chosen n j) j) (lineAt n (chosen n j) j)
-  chosen-shape = s .lined (lineNumber (chosen n j) j) chosen-number
-
-  -- its oldest message is one of its line's
   pub chosen-held : 0 < length (lineAt n (chosen n j) j .messages)
-  chosen-held = let some : lineAt n (chosen n j) j .arrived ≡ 0 → ⊥ = chosen-arrived in omega (arith, chosen-shape .held)
-
-  pub head-fits : messageFits (n .history) (chosen n j) (head n (chosen n j) j) ≡ true
-  head-fits =
-      let p = chosen n j in
-      let from : lineNumber p j / sitesMost ≡ p = omega (arith, chosen-up .1) in
-      ap (λ (q : ℕ). messageFits (n .history) q (head n p j)) (sym from)
-      ∙ every-at (messageFits (n .history) (lineNumber p j / sitesMost)) (lineAt n p j .messages) 0 (commit 0) (chosen-shape .fitting) chosen-held
+  chosen-held = parent-held (chosen n j) chosen-line
 
   pub head-made : madeBy byNumber (chosen n j) (headStamp n (chosen n j) j) ≡ true
-  head-made = message-made n s (chosen n j) (head n (chosen n j) j) head-fits
+  head-made = message-made n s (chosen n j) (head n (chosen n j) j) (parent-fits (chosen n j) chosen-line)
 
   -- the site's new timestamp
   received-made : madeBy byNumber j (appendedOrSame (headStamp n (chosen n j) j) (ownSite (siteAt n j .stamp)) (ownCount (siteAt n j .stamp))) ≡ true

@@ -14,3 +14,4 @@ pub mod Asked
 pub mod Committing
 pub mod SettingUp
 pub mod OperationWords
+pub mod Scheduling

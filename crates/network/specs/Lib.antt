@@ -4,3 +4,4 @@ pub mod Steps
 pub mod Calls
 pub mod InWords
 pub mod Promises
+pub mod Choice

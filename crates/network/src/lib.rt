@@ -6,8 +6,9 @@ mod due; // due.rt: what operations ask of the placement
 mod dummies; // dummies.rt: dummy
 mod epochs; // epochs.rt: epoch
 mod operations; // operations.rt: a commit's operations in words, and the values read
-mod sending; // sending.rt: a message to several sites
 mod placing; // placing.rt: set-up
+mod schedules; // schedules.rt: schedule
+mod sending; // sending.rt: a message to several sites
 mod shape; // shape.rt: whether the words are those of a network
 mod state; // state.rt: the sites, lines and records of a state, by number
 
@@ -15,11 +16,19 @@ pub use deliveries::deliver;
 pub use dummies::dummy;
 pub use epochs::epoch;
 pub use placing::set_up;
+pub use schedules::schedule;
 use timestamp::Timestamp;
 
 // What a dummy answers: its number and the timestamp, which is zero where it is refused.
 pub struct Dummied {
     pub number: u32,
+    pub stamp: Timestamp,
+}
+
+// What a schedule answers: its number, the parent and the message's timestamp; all zero where refused.
+pub struct Scheduled {
+    pub number: u32,
+    pub parent: u32,
     pub stamp: Timestamp,
 }
 

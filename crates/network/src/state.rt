@@ -237,3 +237,24 @@ pub(crate) fn no_stamp() -> Timestamp
         tuples: [none; 8],
     }
 }
+
+pub(crate) fn record_count(state: &[u32], k: usize) -> usize
+    requires { ⌜ (length (now state) ≡ stateSize) × (inRange (now state) ≡ true) × (k < getD (now state) 2 0) × (k < recordsMost) ⌝ }
+    ensures { λ r. ⌜ (r ≡ length (getD (networkIn (now (state .entry)) .history) k noRecord .ops)) × (r ≤ opsMost) ⌝ }
+{
+    let a = HISTORY + k * RECORD;
+    let e = a + RECORD;
+    records::count(&state[a..e])
+}
+
+// The words of a record's operations.
+pub(crate) fn record_ops(state: &[u32], k: usize) -> [u32; 24]
+    requires { ⌜ (length (now state) ≡ stateSize) × (inRange (now state) ≡ true) × (k < getD (now state) 2 0) × (k < recordsMost) ⌝ }
+    ensures { λ r. ⌜ opsIn (length (getD (networkIn (now (state .entry)) .history) k noRecord .ops)) r ≡ getD (networkIn (now (state .entry)) .history) k noRecord .ops ⌝ }
+{
+    let mut out = [0u32; 24];
+    let a = HISTORY + k * RECORD + 20;
+    let e = a + 24;
+    words::copy(&mut out, &state[a..e]);
+    out
+}
