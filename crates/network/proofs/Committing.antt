@@ -1,5 +1,5 @@
 -- Commit: its number, cause by cause, and the network after it.
-use mathlib.Core.Path.{_≡_, refl, sym, ap, ap₂, subst, _∙_}
+use mathlib.Core.Path.{_≡_, refl, sym, ap, ap₂, subst, subst₂, _∙_}
 use mathlib.Core.Bool.{Bool, true, false, not, cond, _&&_, _||_}
 use mathlib.Core.List.{List, [], _∷_, _++_, map}
 use Prim.Native.Nat.{ℕ, suc, _+_, _≤_, _<_, min}
@@ -10,11 +10,23 @@ use lib.Seq.{getD-set-same}
 use lib.Dec.{leb, ltb, eqb}
 use borrow.Author.Tests.{lt-ltb, le-ltb, le-leb, lt-leb, leb-false, ltb-false, eq-eqb, ne-eqb, eqb-true, not-false}
 use Rattle.site.specs.InWords.{opsMost}
-use Rattle.site.specs.Operations.{Op}
+use Rattle.timestamp.specs.Timestamp.{Stamp}
+use Rattle.site.specs.Operations.{Op, valuesRead}
+use Rattle.site.specs.Site.{Site, committed}
+use Rattle.placement.specs.Masks.{bit, maskOf}
+use Rattle.placement.specs.InWords.{sitesMost}
+use Rattle.lines.specs.Lines.{Line, commit as commitMessage}
+use Rattle.records.specs.Records.{Record}
 use Rattle.placement.specs.Placement.{firstNumber}
 use Rattle.lines.specs.InWords.{recordsMost}
-use Rattle.network.specs.Network.{Network}
-use Rattle.network.specs.Steps.{when, outside, noSuchSite, countAtMost, someLineFull, due, opNumber, commitCauses, wrongLists}
+use Rattle.network.specs.Network.{Network, noStamp, noSite, siteAt, withSite, withLines, withRecord}
+use Rattle.network.specs.Steps.{when, outside, noSuchSite, countAtMost, someLineFull, due, sentTo, opNumber, opsOf, commitCauses, wrongLists, commitNumber, recordOf, commitNetwork}
+use Rattle.network.specs.Calls.{Outcome, commit, accepted, perform}
+use Rattle.network.specs.InWords.{networkIn, inRange, meaning, numberIn, SiteStep, RecordStep, SentStep}
+use Rattle.network.specs.Promises.{Performed, Made}
+use Rattle.network.proofs.Performs.{lines-count, few-sites, shaped-range, shaped-well, meaning-some, number-none, performs-refused, performs-accepted}
+use Rattle.network.proofs.Dummying.{full-by-mask, sent-by-mask}
+use Rattle.network.proofs.Keeps.{keeps-commit}
 use Rattle.network.proofs.Numbers.{first-holds, first-fails, first-some, first-none, none-holds, none-first, or-false}
 
 -- ---- the causes from 9 on
@@ -99,3 +111,78 @@ module _ (k i v : ℕ) where
       let y = or-false (ltb k 1) (ltb opsMost k) (x .0) in
       let z = or-false (not (eqb i k)) (not (eqb v k)) (x .1) in
       (ltb-false k 1 (y .0), ltb-false opsMost k (y .1), eqb-true i k (not-false (eqb i k) (z .0)), eqb-true v k (not-false (eqb v k) (z .1)))
+
+-- ---- the number of a commit
+module _ (n : Network) (i : ℕ) (ks is : List ℕ) (vs : List ℤ) where
+  pub commit-lists : noSuchSite n i ≡ false → wrongLists (length ks) (length is) (length vs) ≡ true → commitNumber n i ks is vs ≡ 8
+  unfolding commitNumber
+  commit-lists a b =
+      first-fails (noSuchSite n i) 7 (when (wrongLists (length ks) (length is) (length vs)) 8 ∷ commitCauses n i (opsOf ks is vs)) a
+      ∙ first-holds (wrongLists (length ks) (length is) (length vs)) 7 (commitCauses n i (opsOf ks is vs)) b
+
+  pub commit-later : noSuchSite n i ≡ false → wrongLists (length ks) (length is) (length vs) ≡ false → commitNumber n i ks is vs ≡ firstNumber (commitCauses n i (opsOf ks is vs))
+  unfolding commitNumber
+  commit-later a b =
+      first-fails (noSuchSite n i) 7 (when (wrongLists (length ks) (length is) (length vs)) 8 ∷ commitCauses n i (opsOf ks is vs)) a
+      ∙ first-fails (wrongLists (length ks) (length is) (length vs)) 8 (commitCauses n i (opsOf ks is vs)) b
+
+  pub record Accepted : Type 0 where
+    pub there : noSuchSite n i ≡ false
+    pub lists : wrongLists (length ks) (length is) (length vs) ≡ false
+    pub later : firstNumber (commitCauses n i (opsOf ks is vs)) ≡ 0
+
+  pub commit-accepted : commitNumber n i ks is vs ≡ 0 → Accepted
+  unfolding commitNumber
+  commit-accepted z =
+      let x = none-holds (noSuchSite n i) 6 (when (wrongLists (length ks) (length is) (length vs)) 8 ∷ commitCauses n i (opsOf ks is vs)) z in
+      let y = none-holds (wrongLists (length ks) (length is) (length vs)) 7 (commitCauses n i (opsOf ks is vs)) (x .1) in
+      record { there = x .0; lists = y .0; later = y .1 }
+
+-- ---- the step on words: the site, then the record, then the messages
+module _ (w : List ℕ) (i : ℕ) (os : List Op) (there : noSuchSite (networkIn w) i ≡ false) (room : someLineFull (networkIn w) i (due (networkIn w .items) os) ≡ false) (mask : ℕ) (is : mask ≡ maskOf (due (networkIn w .items) os) sitesMost) (v : List ℕ) (s : SiteStep w v i (committed os)) where
+  pub stamp-now : siteAt (networkIn v) i .stamp ≡ recordOf (networkIn w) i os .stamp
+  stamp-now =
+      let n = networkIn w in
+      ap (λ (m : Network). siteAt m i .stamp) (s .meant) ∙ ap (λ (x : Site). x .stamp) (getD-set-same (n .sites) i (committed os (siteAt n i)) noSite (leb-false (length (n .sites)) i there))
+
+  pub history-now : networkIn v .history ≡ networkIn w .history
+  history-now = ap (λ (m : Network). m .history) (s .meant)
+
+  module _ (u : List ℕ) (r : Record) (t : RecordStep v u r) where
+    between : networkIn u ≡ withRecord (withSite (networkIn w) i (committed os (siteAt (networkIn w) i))) r
+    between = t .meant ∙ ap (λ (m : Network). withRecord m r) (s .meant)
+
+    pub room-now : someLineFull (networkIn u) i (bit mask) ≡ false
+    room-now = ap (λ (m : Network). someLineFull m i (bit mask)) between ∙ full-by-mask (due (networkIn w .items) os) mask is (networkIn w) i ∙ room
+
+    pub network-now : r ≡ recordOf (networkIn w) i os → (k : ℕ) → k ≡ length (networkIn w .history) → (x : List ℕ) → SentStep u x (bit mask) i (commitMessage k) sitesMost → networkIn x ≡ commitNetwork (networkIn w) i os
+    unfolding commitNetwork
+    network-now e k f x q =
+        let n = networkIn w in
+        q .meant
+        ∙ ap (λ (m : Network). withLines m (sentTo (bit mask) i (commitMessage k) sitesMost (m .lines))) between
+        ∙ ap₂ (λ (ls : List Line) (y : Record). record { sites = set (n .sites) i (committed os (siteAt n i)); items = n .items; lines = ls; history = n .history ++ (y ∷ []) })
+        (sent-by-mask (due (n .items) os) mask is i (commitMessage k) (n .lines) ∙ ap (λ (j : ℕ). sentTo (due (n .items) os) i (commitMessage j) sitesMost (n .lines)) f)
+        e
+
+-- ---- what the contract promises
+module _ (w : List ℕ) (i : ℕ) (ks is : List ℕ) (vs : List ℤ) where
+  commit-outcome : Network → Outcome
+  commit-outcome m = accepted 0 (recordOf m i (opsOf ks is vs) .stamp) (valuesRead (recordOf m i (opsOf ks is vs) .ops)) (commitNetwork m i (opsOf ks is vs))
+
+  pub commit-refused : (r : ℕ) (t : Stamp) (xs : List ℤ) → r ≡ numberIn w (λ n. commitNumber n i ks is vs) → (r ≡ 0 → ⊥) → t ≡ noStamp → xs ≡ [] → Performed (commit i ks is vs) w w r 0 t xs
+  unfolding perform commit-outcome
+  commit-refused r t xs e h f g =
+      subst₂ (λ (x : Stamp) (y : List ℤ). Performed (commit i ks is vs) w w r 0 x y) (sym f) (sym g)
+      (performs-refused (commit i ks is vs) (λ m. commitNumber m i ks is vs) commit-outcome (λ m. refl) refl w r e h)
+
+  pub commit-performed : numberIn w (λ n. commitNumber n i ks is vs) ≡ 0 → (v : List ℕ) (r : ℕ) (t : Stamp) (xs : List ℤ) (os : List Op) → os ≡ opsOf ks is vs → Made w v i os r t xs → Performed (commit i ks is vs) w v r 0 t xs
+  unfolding perform commit-outcome
+  commit-performed z v r t xs os e m =
+      let n = networkIn w in
+      let q = number-none w (λ x. commitNumber x i ks is vs) z in
+      subst (λ (x : ℕ). Performed (commit i ks is vs) w v x 0 t xs) (sym (m .number-is))
+      (performs-accepted (commit i ks is vs) (λ x. commitNumber x i ks is vs) commit-outcome (λ x. refl) refl w v 0 t xs z refl refl
+      (m .stamp-is ∙ ap (λ (o : List Op). recordOf n i o .stamp) e)
+      (m .values-are ∙ ap (λ (o : List Op). valuesRead (recordOf n i o .ops)) e)
+      (meaning-some v (commitNetwork n i (opsOf ks is vs)) (m .ranged) (m .network-is ∙ ap (commitNetwork n i) e) (keeps-commit n i ks is vs (lines-count w) (few-sites w (shaped-range w (q .0))) (shaped-well w (q .0)) (q .1))))

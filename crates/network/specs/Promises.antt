@@ -3,9 +3,12 @@ use mathlib.Core.Path.{_≡_}
 use mathlib.Core.List.{List}
 use Prim.Native.Nat.{ℕ}
 use lib.IntN.{ℤ}
+use mathlib.Core.Bool.{true}
 use Rattle.timestamp.specs.Timestamp.{Stamp}
+use Rattle.site.specs.Operations.{Op, valuesRead}
 use Rattle.network.specs.Calls.{Call, Outcome, perform}
-use Rattle.network.specs.InWords.{meaning}
+use Rattle.network.specs.Steps.{recordOf, commitNetwork}
+use Rattle.network.specs.InWords.{networkIn, inRange, meaning}
 
 pub record Performed (call : Call) (entry exit : List ℕ) (number parent : ℕ) (stamp : Stamp) (values : List ℤ) : Type 0 where
   pub number-is : number ≡ perform (meaning entry) call .number
@@ -14,3 +17,11 @@ pub record Performed (call : Call) (entry exit : List ℕ) (number parent : ℕ)
   pub values-are : values ≡ perform (meaning entry) call .values
   pub after-is : meaning exit ≡ perform (meaning entry) call .after
   pub kept : (number ≡ 0 → ⊥) → exit ≡ entry
+
+-- what a commit of the operations `os` at site i that no cause refuses answers and leaves
+pub record Made (entry exit : List ℕ) (i : ℕ) (os : List Op) (number : ℕ) (stamp : Stamp) (values : List ℤ) : Type 0 where
+  pub number-is : number ≡ 0
+  pub stamp-is : stamp ≡ recordOf (networkIn entry) i os .stamp
+  pub values-are : values ≡ valuesRead (recordOf (networkIn entry) i os .ops)
+  pub network-is : networkIn exit ≡ commitNetwork (networkIn entry) i os
+  pub ranged : inRange exit ≡ true

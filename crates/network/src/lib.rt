@@ -12,12 +12,21 @@ mod sending; // sending.rt: a message to several sites
 mod shape; // shape.rt: whether the words are those of a network
 mod state; // state.rt: the sites, lines and records of a state, by number
 
+pub use commits::commit;
 pub use deliveries::deliver;
 pub use dummies::dummy;
 pub use epochs::epoch;
 pub use placing::set_up;
 pub use schedules::schedule;
 use timestamp::Timestamp;
+
+// What a commit answers: its number, the timestamp, and the first `count` values, those read in order; all zero where refused.
+pub struct Committed {
+    pub number: u32,
+    pub stamp: Timestamp,
+    pub count: usize,
+    pub values: [i32; 8],
+}
 
 // What a dummy answers: its number and the timestamp, which is zero where it is refused.
 pub struct Dummied {

@@ -53,7 +53,7 @@ fn schedule_in(state: &mut [u32], site: u32) -> Scheduled
         return Scheduled {
             number,
             parent: 0,
-            stamp: no_stamp(),
+            stamp: state::no_stamp(),
         };
     }
     let best = chosen(state, site);
@@ -125,7 +125,7 @@ fn chosen(state: &[u32], j: u32) -> Head
     let mask = state::parents(state, j);
     let mut best = Head {
         parent: 8,
-        stamp: no_stamp(),
+        stamp: state::no_stamp(),
     };
     let mut p = 0;
     while p < 8 {
@@ -174,20 +174,6 @@ fn head_stamp(state: &[u32], p: u32, j: u32) -> Timestamp
         return state::record_stamp(state, words::wide(m.name));
     }
     m.stamp
-}
-
-fn no_stamp() -> Timestamp
-    ensures { λ r. ⌜ stampOf r ≡ noStamp ⌝ }
-{
-    let none = Tuple {
-        site: 0,
-        count: Count(0),
-    };
-    Timestamp {
-        epoch: Epoch(0),
-        len: 0,
-        tuples: [none; 8],
-    }
 }
 
 // ---- the message done
