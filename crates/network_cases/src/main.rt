@@ -4,7 +4,7 @@ use network::WORDS;
 use timestamp::Timestamp;
 
 fn main() {
-    let mut state = [0u32; 31635];
+    let mut state = [0u32; WORDS];
     number(network::deliver(&mut state, 0, 1));
     end();
     ten_lines(&mut state);
