@@ -1,0 +1,1 @@
+// One-copy agreement: definitions and a theorem, no code.
