@@ -136,7 +136,7 @@ module _ (xs : List Item) (h : List Record) (i c : ℕ) (site : c < sitesMost) w
       }
 
 -- a count one higher at site i
-raised-made : (n : Network) (s : Shape n) (i : ℕ) → noSuchSite n i ≡ false → countAtMost n i ≡ false → madeBy byNumber i (raisedOrSame (siteAt n i .stamp)) ≡ true
+pub raised-made : (n : Network) (s : Shape n) (i : ℕ) → noSuchSite n i ≡ false → countAtMost n i ≡ false → madeBy byNumber i (raisedOrSame (siteAt n i .stamp)) ≡ true
 raised-made n s i a b =
     let t = siteAt n i .stamp in
     rw (raise-room t (leb-false greatest (ownCount t) b)) (made-raised byNumber i t (s .stamps i (leb-false (length (n .sites)) i a)))
@@ -163,10 +163,10 @@ keeps-dummy n i _ _ e z =
 
 -- ---- a history longer by one record
 module _ (h : List Record) (r : Record) where
-  abbrev longer : List Record
+  abbrev pub longer : List Record
   longer = h ++ (r ∷ [])
 
-  longer-length : length longer ≡ suc (length h)
+  pub longer-length : length longer ≡ suc (length h)
   longer-length = omega (arith, length-append h (r ∷ []))
 
   -- an old name means the same record
@@ -191,7 +191,7 @@ module _ (h : List Record) (r : Record) where
   message-new =
       rw (lt-ltb (length h) (length longer) (omega (arith, longer-length)), getD-append-seam h r [] noRecord) (eq-eqb (r .site) (r .site) refl)
 
-  records-longer : (holds : Record → Type 0) → ((k : ℕ) → k < length h → holds (getD h k noRecord)) → holds r → (k : ℕ) → k < length longer → holds (getD longer k noRecord)
+  pub records-longer : (holds : Record → Type 0) → ((k : ℕ) → k < length h → holds (getD h k noRecord)) → holds r → (k : ℕ) → k < length longer → holds (getD longer k noRecord)
   records-longer holds f g k b = go (ltb k (length h)) refl
     where
       go : (t : Bool) → ltb k (length h) ≡ t → holds (getD longer k noRecord)
@@ -207,14 +207,15 @@ none-at f (x ∷ xs) zero d e h = none-first (f x) (map f xs) e .0
 none-at f (x ∷ xs) (suc k) d e h = none-at f xs k d (none-first (f x) (map f xs) e .1) (omega arith)
 
 -- what stands where there is no operation
-abbrev noOp : Op
+abbrev pub noOp : Op
 noOp = record { kind = 0; item = 0; value = pos 0 }
 
 -- what an operation that is not refused at site i is like
-record OpShape (xs : List Item) (i : ℕ) (o : Op) : Type 0 where
-  kind : o .kind ≤ 1
-  item : o .item < length xs
-  owned : writes o ≡ true → owns xs i (o .item) ≡ true
+pub record OpShape (xs : List Item) (i : ℕ) (o : Op) : Type 0 where
+  pub kind : o .kind ≤ 1
+  pub item : o .item < length xs
+  pub held : reads o ≡ true → (owns xs i (o .item) || copies xs i (o .item)) ≡ true
+  pub owned : writes o ≡ true → owns xs i (o .item) ≡ true
 
 and-not : (a b : Bool) → (a && not b) ≡ false → a ≡ true → b ≡ true
 and-not true b e f = not-false b e
@@ -232,11 +233,12 @@ op-shape xs i o z =
     record {
       kind = ltb-false 1 (o .kind) (d .0);
       item = leb-false (length xs) (o .item) (d .1);
+      held = and-not (reads o) (owns xs i (o .item) || copies xs i (o .item)) (b .0);
       owned = and-not (writes o) (owns xs i (o .item)) (c .0);
     }
 
 module _ (xs : List Item) (i : ℕ) (os : List Op) (z : firstNumber (map (opNumber xs i) os) ≡ 0) where
-  op-at : (k : ℕ) → k < length os → OpShape xs i (getD os k noOp)
+  pub op-at : (k : ℕ) → k < length os → OpShape xs i (getD os k noOp)
   op-at k h = op-shape xs i (getD os k noOp) (none-at (opNumber xs i) os k noOp z h)
 
   ops-fit : every (opFits (length xs)) os ≡ true
