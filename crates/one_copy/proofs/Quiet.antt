@@ -71,9 +71,14 @@ module _ (n : Network) (inv : Invariant n) (gets : ℕ → Bool) (i : ℕ) (m : 
   abbrev pub mailed : List Line
   mailed = sentTo gets i m sitesMost (n .lines)
 
+  child : (p j : ℕ) → isLine (n .items) p j ≡ true → j < sitesMost
+  child p j line = omega (arith, line-up n inv p j line .1, inv .sizes .sites)
+
+  -- to a child that gets one
+  pub mail-here : (j : ℕ) → isLine (n .items) i j ≡ true → gets j ≡ true → getD mailed (lineNumber i j) noLine .messages ≡ messagesAt n i j ++ (m ∷ [])
+  mail-here j line f = ap (λ (l : Line). l .messages) (sent-here gets i m (n .lines) sitesMost j (child i j line) f (line-number n inv i j line))
+
   module _ (p j : ℕ) (line : isLine (n .items) p j ≡ true) where
-    child : j < sitesMost
-    child = omega (arith, line-up n inv p j line .1, inv .sizes .sites)
 
     abbrev Same : Type 0
     Same = getD mailed (lineNumber p j) noLine .messages ≡ messagesAt n p j
@@ -88,16 +93,14 @@ module _ (n : Network) (inv : Invariant n) (gets : ℕ → Bool) (i : ℕ) (m : 
     mail-sent = go (eqb p i) refl (gets j) refl
       where
         go : (b : Bool) → eqb p i ≡ b → (g : Bool) → gets j ≡ g → Same ⊎ More
-        go false e g f = other (λ c l s q. eqb-false p i e (omega (arith, child)))
+        go false e g f = other (λ c l s q. eqb-false p i e (omega (arith, child p j line)))
         go true e false f =
-            other (λ c l s q. let same : c ≡ j = omega (arith, child, eqb-true p i e) in true≢false (sym s ∙ ap gets same ∙ f))
+            other (λ c l s q. let same : c ≡ j = omega (arith, child p j line, eqb-true p i e) in true≢false (sym s ∙ ap gets same ∙ f))
         go true e true f =
             let same : p ≡ i = eqb-true p i e in
-            let number : lineNumber i j ≡ lineNumber p j = omega arith in
-            let here : lineNumber i j < length (n .lines) = omega (arith, line-number n inv p j line) in
-            let got : getD mailed (lineNumber i j) noLine .messages ≡ getD (n .lines) (lineNumber i j) noLine .messages ++ (m ∷ [])
-            = ap (λ (l : Line). l .messages) (sent-here gets i m (n .lines) sitesMost j child f here) in
-            inr (same, f, subst (λ (k : ℕ). getD mailed k noLine .messages ≡ getD (n .lines) k noLine .messages ++ (m ∷ [])) number got)
+            let from : isLine (n .items) i j ≡ true = ap (λ (q : ℕ). isLine (n .items) q j) (sym same) ∙ line in
+            let more : (q : ℕ) → Type 0 = λ q. getD mailed (lineNumber q j) noLine .messages ≡ messagesAt n q j ++ (m ∷ []) in
+            inr (same, f, subst more (sym same) (mail-here j from f))
 
 -- ---- deliver: what has arrived is no part of the invariant
 pub deliver-keeps : (n : Network) → Invariant n → (p c : ℕ) → deliverNumber n p c ≡ 0 → Invariant (deliverNetwork n p c)
