@@ -11,7 +11,7 @@ use Rattle.timestamp.specs.Timestamp.{Stamp}
 use Rattle.timestamp.specs.Order.{order, byNumber, notLater, isEarlier}
 use Rattle.timestamp.specs.Made.{madeBy}
 use Rattle.site.specs.Site.{Site}
-use Rattle.placement.specs.Placement.{Item, isLine}
+use Rattle.placement.specs.Placement.{Item, copies, isLine}
 use Rattle.lines.specs.Lines.{Message, commit, Line}
 use Rattle.records.specs.Records.{Record}
 use Rattle.network.specs.Network.{Network, messageStamp, messageFits, wellShaped}
@@ -132,13 +132,13 @@ module _ (n : Network) (inv : Invariant n) (ss : List Site) (ls : List Line) (h 
         → notLater (order (made n k .stamp) (stampAt next j)) ≡ notLater (order (made n k .stamp) (stampAt n j))
     settled j x site t e = go (reaches n inv k j x old t e)
       where
-        go : (j ≡ made n k .site) ⊎ (isLine (n .items) (made n k .site) j ≡ true) → notLater (order (made n k .stamp) (stampAt next j)) ≡ notLater (order (made n k .stamp) (stampAt n j))
+        go : (j ≡ made n k .site) ⊎ ((isLine (n .items) (made n k .site) j ≡ true) × (copies (n .items) j x ≡ true)) → notLater (order (made n k .stamp) (stampAt next j)) ≡ notLater (order (made n k .stamp) (stampAt n j))
         go (inl s) =
             ap (λ (i : ℕ). notLater (order (made n k .stamp) (stampAt next i))) s
             ∙ calm-past
             ∙ sym (inv .past k old)
             ∙ ap (λ (i : ℕ). notLater (order (made n k .stamp) (stampAt n i))) (sym s)
-        go (inr line) =
+        go (inr (line, _)) =
             let below = record-below n inv k j old line in
             let new : madeBy byNumber j (stampAt next j) ≡ true = shape-parts next (c .shape) .stamps j (omega (arith, c .many)) in
             cut-upto j (stampAt next j) (made n k .stamp) new below

@@ -91,9 +91,9 @@ module _ (n : Network) (inv : Invariant n) (i : ℕ) (os : List Op) (site : i < 
   above : (j x : ℕ) → j < length (n .sites) → touches x (r .ops) ≡ true → holds (n .items) j x ≡ true → Before (stampAt n j) (r .stamp)
   above j x near t e = go (holder (n .items) i j x (touch-item (n .items) i (r .ops) r-allowed x t) (touch-owns (n .items) i (r .ops) r-allowed x t) e)
     where
-      go : (j ≡ i) ⊎ (isLine (n .items) i j ≡ true) → Before (stampAt n j) (r .stamp)
+      go : (j ≡ i) ⊎ ((isLine (n .items) i j ≡ true) × (copies (n .items) j x ≡ true)) → Before (stampAt n j) (r .stamp)
       go (inl s) = subst (λ (k : ℕ). Before (stampAt n k) (r .stamp)) (sym s) rises
-      go (inr line) =
+      go (inr (line, _)) =
           cut-before j (stampAt n j) (r .stamp) (stamp-made n inv j near) (made-under i j (r .stamp) r-made (line-up n inv i j line .0))
           (upto-then (heardAt n j) (stampAt n i) (r .stamp) (inv .heard i j line) rises)
 
@@ -118,11 +118,11 @@ module _ (n : Network) (inv : Invariant n) (i : ℕ) (os : List Op) (site : i < 
       → isEarlier (order (made n k .stamp) (r .stamp)) ≡ notLater (order (made n k .stamp) (stampAt n i))
   own-read x k l t e = go (reaches n inv k i x l t e)
     where
-      go : (i ≡ made n k .site) ⊎ (isLine (n .items) (made n k .site) i ≡ true) → isEarlier (order (made n k .stamp) (r .stamp)) ≡ notLater (order (made n k .stamp) (stampAt n i))
+      go : (i ≡ made n k .site) ⊎ ((isLine (n .items) (made n k .site) i ≡ true) × (copies (n .items) i x ≡ true)) → isEarlier (order (made n k .stamp) (r .stamp)) ≡ notLater (order (made n k .stamp) (stampAt n i))
       go (inl s) =
           let past : UpTo (made n k .stamp) (stampAt n i) = subst (λ (j : ℕ). UpTo (made n k .stamp) (stampAt n j)) (sym s) (inv .past k l) in
           before-test (made n k .stamp) (r .stamp) (upto-then (made n k .stamp) (stampAt n i) (r .stamp) past rises) ∙ sym past
-      go (inr line) =
+      go (inr (line, _)) =
           let below = record-below n inv k i l line in
           cut-test i (r .stamp) (made n k .stamp) r-made below
           ∙ ap (λ (t : Stamp). notLater (order (made n k .stamp) t)) (risen-without n inv i site few)

@@ -111,13 +111,13 @@ line-child xs i j e =
     let y = getD xs (f .0) noItem in
     some-at (λ (z : Item). bit (z .mask) j) xs (f .0) noItem (f .1) (and-true (eqb (y .primary) i) (bit (y .mask) j) (f .2) .1)
 
--- who holds an item that i owns is i itself or at the end of a line from i
-pub holder : (xs : List Item) (i j x : ℕ) → x < length xs → owns xs i x ≡ true → holds xs j x ≡ true → (j ≡ i) ⊎ (isLine xs i j ≡ true)
+-- who holds an item that i owns is i itself or copies it at the end of a line from i
+pub holder : (xs : List Item) (i j x : ℕ) → x < length xs → owns xs i x ≡ true → holds xs j x ≡ true → (j ≡ i) ⊎ ((isLine xs i j ≡ true) × (copies xs j x ≡ true))
 holder xs i j x l o h = go (owns xs j x) refl h
   where
-    go : (b : Bool) → owns xs j x ≡ b → (b || copies xs j x) ≡ true → (j ≡ i) ⊎ (isLine xs i j ≡ true)
+    go : (b : Bool) → owns xs j x ≡ b → (b || copies xs j x) ≡ true → (j ≡ i) ⊎ ((isLine xs i j ≡ true) × (copies xs j x ≡ true))
     go true e f = inl (one-owner xs j i x e o)
-    go false e f = inr (copy-line xs i j x l o f)
+    go false e f = inr (copy-line xs i j x l o f, f)
 
 -- ---- operations
 -- the operation that writes the item
@@ -188,7 +188,7 @@ module _ (n : Network) (inv : Invariant n) where
   sent-below p j e a l = made-under p j (sentAt n p j a) (sent-made p j e a l) (line-up p j e .0)
 
   -- who holds an item that commit k writes is the commit's site or its child
-  pub reaches : (k j x : ℕ) → k < length (n .history) → touches x (made n k .ops) ≡ true → holds (n .items) j x ≡ true → (j ≡ made n k .site) ⊎ (isLine (n .items) (made n k .site) j ≡ true)
+  pub reaches : (k j x : ℕ) → k < length (n .history) → touches x (made n k .ops) ≡ true → holds (n .items) j x ≡ true → (j ≡ made n k .site) ⊎ ((isLine (n .items) (made n k .site) j ≡ true) × (copies (n .items) j x ≡ true))
   reaches k j x l t h =
       let fits = inv .allowed k l in
       holder (n .items) (made n k .site) j x (touch-item (n .items) (made n k .site) (made n k .ops) fits x t) (touch-owns (n .items) (made n k .site) (made n k .ops) fits x t) h
