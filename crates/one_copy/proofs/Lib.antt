@@ -1,2 +1,4 @@
 pub mod Values
 pub mod Works
+pub mod Sorting
+pub mod Runs
