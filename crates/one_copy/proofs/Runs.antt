@@ -4,7 +4,7 @@ use mathlib.Core.Path.{_≡_, refl, ap, ap₂, sym, _∙_}
 use mathlib.Core.Bool.{Bool, true, false, cond, _||_, false≢true}
 use mathlib.Core.List.{List, [], _∷_, map}
 use mathlib.Core.Logic.{_⊎_, inl, inr}
-use Prim.Native.Nat.{ℕ, zero, suc, _+_, _<_}
+use Prim.Native.Nat.{ℕ, suc, _+_, _<_}
 use native.Mathlib.Omega.{arith}
 use lib.IntN.{ℤ, pos}
 use lib.ListN.{length, getD, length-replicate, getD-replicate}
@@ -13,15 +13,15 @@ use Rattle.timestamp.specs.Timestamp.{Stamp}
 use Rattle.timestamp.specs.Order.{byNumber, order, orderBy, notLater, isEarlier, IsEarlier}
 use Rattle.timestamp.proofs.Comparisons.{turned, later-turned, not-later-cases}
 use Rattle.timestamp.proofs.OrderLaws.{by-number-laws}
-use Rattle.site.specs.Operations.{Op, reads, recorded, work, worked}
+use Rattle.site.specs.Operations.{Op, reads, recorded, worked}
 use Rattle.site.specs.InWords.{tableSize}
 use Rattle.site.proofs.Laws.{work-ops}
 use Rattle.records.specs.Records.{Record}
 use Rattle.network.specs.Steps.{keep}
-use Rattle.one_copy.specs.Run.{Turn, numbered, sorted, inTurn, after, run, zeros, find, upTo, shown, valueAt}
+use Rattle.one_copy.specs.Run.{Turn, numbered, inTurn, after, run, zeros, find, upTo, shown, valueAt}
 use Rattle.one_copy.proofs.Values.{touches, wrote, lastFrom, lastValue, recordAt}
 use Rattle.one_copy.proofs.Works.{noOp, worked-length, getD-worked, wrote-untouched, recorded-other}
-use Rattle.one_copy.proofs.Sorting.{Each, Chain, NotAfter, has, each-implied, map-keep, keep-turn, keep-none, chain-keep, keep-sorted, sorted-same, chain-sorted, chain-number, commits-numbered, each-found, has-turn, find-turn}
+use Rattle.one_copy.proofs.Sorting.{Chain, NotAfter, has, each-implied, map-keep, keep-turn, keep-none, chain-keep, keep-sorted, sorted-same, chain-sorted, chain-number, commits-numbered, each-found, has-turn, find-turn}
 
 -- ---- the value of an item after some turns
 abbrev commits : List Turn → List Record

@@ -4,11 +4,11 @@ use mathlib.Core.Bool.{Bool, true, false, cond, _||_, false≢true}
 use mathlib.Core.List.{List, [], _∷_, map}
 use Prim.Native.Nat.{ℕ, zero, suc, _+_, _<_}
 use native.Mathlib.Omega.{arith}
-use lib.ListN.{length, getD}
+use lib.ListN.{length}
 use lib.Dec.{eqb}
 use borrow.Author.Tests.{eqb-true, eq-eqb, ne-eqb}
-use Rattle.timestamp.specs.Order.{byNumber, order, orderBy, notLater, IsEarlier}
-use Rattle.timestamp.proofs.Comparisons.{not-later-trans, later-turned, not-later-cases}
+use Rattle.timestamp.specs.Order.{byNumber, orderBy, notLater}
+use Rattle.timestamp.proofs.Comparisons.{not-later-trans, later-turned}
 use Rattle.timestamp.proofs.OrderLaws.{by-number-laws}
 use Rattle.placement.specs.Placement.{some}
 use Rattle.records.specs.Records.{Record}
