@@ -1,5 +1,8 @@
 pub mod Values
 pub mod Works
+pub mod Sorting
+pub mod Runs
+pub mod Alike
 pub mod Times
 pub mod Invariant
 pub mod Added

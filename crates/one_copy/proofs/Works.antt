@@ -1,5 +1,5 @@
 -- What the operations of one commit do: to the value of an item, and to themselves as the history keeps them.
-use mathlib.Core.Path.{_≡_, refl, ap, ap₂, sym, _∙_}
+use mathlib.Core.Path.{_≡_, refl, ap, sym, _∙_}
 use mathlib.Core.Bool.{Bool, true, false, cond, _&&_, _||_, false≢true}
 use mathlib.Core.List.{List, [], _∷_}
 use Prim.Native.Nat.{ℕ, zero, suc, _<_}
@@ -9,7 +9,7 @@ use lib.ListN.{length, getD, set, length-set}
 use lib.Seq.{getD-set-same, getD-set-other}
 use lib.Dec.{eqb}
 use borrow.Author.Tests.{eqb-true, eqb-false, ne-eqb}
-use Rattle.site.specs.Operations.{Op, reads, writes, readValue, recorded, written, Work, work, worked}
+use Rattle.site.specs.Operations.{Op, reads, writes, readValue, recorded, written, work, worked}
 use Rattle.one_copy.proofs.Values.{writesTo, touches, wrote}
 
 -- what stands where there is no operation
@@ -63,6 +63,9 @@ wrote-untouched x v (o ∷ os) e = go (writesTo x o) e (wrote-untouched x v os)
     go false f rest = rest f
 
 -- ---- one operation as the history keeps it
+pub read-no-write : (o : Op) → reads o ≡ true → writes o ≡ false
+read-no-write o e = ne-eqb (o .kind) 1 (λ f. omega (arith, eqb-true (o .kind) 0 e))
+
 module _ (before table : List ℤ) (o : Op) where
   recorded-kind : recorded before table o .kind ≡ o .kind
   recorded-kind = go (reads o)
@@ -96,9 +99,7 @@ module _ (before table : List ℤ) (o : Op) where
   recorded-write x v = go (reads o) refl
     where
       go : (b : Bool) → reads o ≡ b → cond (writesTo x (recorded before table o)) (recorded before table o .value) v ≡ cond (writesTo x o) (o .value) v
-      go true e =
-          let none : (o .kind ≡ 1 → ⊥) = λ f. omega (arith, eqb-true (o .kind) 0 e) in
-          rw (e, ne-eqb (o .kind) 1 none)
+      go true e = rw (e, read-no-write o e)
       go false e = rw e
 
 -- ---- all of them
