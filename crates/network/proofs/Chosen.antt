@@ -8,7 +8,7 @@ use lib.ListN.{length, getD, drop, length-drop, List·getD-eq-default}
 use lib.Dec.{eqb, ltb, leb}
 use borrow.Author.Tests.{leb-true, leb-false, ltb-true, ltb-false, eqb-true, eqb-false, eq-eqb, not-false}
 use Rattle.words.proofs.Walks.{and-true, every-at, every-rest}
-use Rattle.timestamp.specs.Timestamp.{appendedOrSame, ownSite, ownCount}
+use Rattle.timestamp.specs.Timestamp.{appended, appendedOrSame, ownSite, ownCount}
 use Rattle.timestamp.specs.Order.{byNumber, order, isEarlier}
 use Rattle.timestamp.specs.Made.{madeBy}
 use Rattle.timestamp.proofs.Made.{made-parts, made-length, made-appended}
@@ -153,17 +153,20 @@ module _ (n : Network) (j : ℕ) (few : length (n .sites) ≤ sitesMost) (s : Sh
   pub head-made : madeBy byNumber (chosen n j) (headStamp n (chosen n j) j) ≡ true
   head-made = message-made n s (chosen n j) (head n (chosen n j) j) (parent-fits (chosen n j) chosen-line)
 
-  -- the site's new timestamp
-  received-made : madeBy byNumber j (appendedOrSame (headStamp n (chosen n j) j) (ownSite (siteAt n j .stamp)) (ownCount (siteAt n j .stamp))) ≡ true
-  received-made =
+  -- the site's new timestamp: there is room for its own tuple
+  pub received-stamp : appendedOrSame (headStamp n (chosen n j) j) (ownSite (siteAt n j .stamp)) (ownCount (siteAt n j .stamp)) ≡ appended (headStamp n (chosen n j) j) j (ownCount (siteAt n j .stamp))
+  received-stamp =
       let p = chosen n j in
       let t = headStamp n p j in
       let own = siteAt n j .stamp in
       let c = ownCount own in
       let last : ownSite own ≡ j = made-parts byNumber j own (s .stamps j (chosen-up .1)) .last in
-      ap (λ (i : ℕ). madeBy byNumber j (appendedOrSame t i c)) last
-      ∙ ap (madeBy byNumber j) (append-room t j c (omega (arith, made-length p t head-made, chosen-up .0, chosen-up .1)))
-      ∙ made-appended byNumber p j c t head-made (chosen-up .0)
+      ap (λ (i : ℕ). appendedOrSame t i c) last ∙ append-room t j c (omega (arith, made-length p t head-made, chosen-up .0, chosen-up .1))
+
+  received-made : madeBy byNumber j (appendedOrSame (headStamp n (chosen n j) j) (ownSite (siteAt n j .stamp)) (ownCount (siteAt n j .stamp))) ≡ true
+  received-made =
+      let p = chosen n j in
+      ap (madeBy byNumber j) received-stamp ∙ made-appended byNumber p j (ownCount (siteAt n j .stamp)) (headStamp n p j) head-made (chosen-up .0)
 
 -- ---- the oldest message taken off a line
 rest-placed : (ms : List Message) (b : Bool) → (isEmpty ms || b) ≡ true → (isEmpty (drop 1 ms) || b) ≡ true

@@ -34,16 +34,14 @@ use Rattle.network.proofs.Numbers.{none-holds, none-first, or-false}
 use Rattle.network.proofs.WellShaped.{every-all, set-each, sent-each, LineShape, RecordShape, Shape, shape-parts, shape-whole}
 
 -- ---- set-up
-start-length : (i n : ℕ) → length (startSites i n) ≡ n
+pub start-length : (i n : ℕ) → length (startSites i n) ≡ n
 start-length i zero = refl
 start-length i (suc n) = ap suc (start-length (suc i) n)
 
-start-made : (i n k : ℕ) → k < n → madeBy byNumber (i + k) (getD (startSites i n) k noSite .stamp) ≡ true
-start-made i zero k h = absurd (omega arith)
-start-made i (suc n) zero h = let first : i + 0 ≡ i = omega arith in ap (λ (j : ℕ). madeBy byNumber j (startSite i .stamp)) first ∙ made-start byNumber i 0 0
-start-made i (suc n) (suc k) h =
-    let next : i + suc k ≡ suc i + k = omega arith in
-    ap (λ (j : ℕ). madeBy byNumber j (getD (startSites (suc i) n) k noSite .stamp)) next ∙ start-made (suc i) n k (omega arith)
+pub start-at : (i n k : ℕ) → k < n → getD (startSites i n) k noSite ≡ startSite (i + k)
+start-at i zero k h = absurd (omega arith)
+start-at i (suc n) zero h = let first : i ≡ i + 0 = omega arith in ap startSite first
+start-at i (suc n) (suc k) h = let next : suc i + k ≡ i + suc k = omega arith in start-at (suc i) n k (omega arith) ∙ ap startSite next
 
 no-line : (xs : List Item) (h : List Record) (k : ℕ) → LineShape xs h k noLine
 no-line xs h k = record { held = omega arith; placed = refl; fitting = refl }
@@ -56,11 +54,13 @@ keeps-set-up sites items ps ms z =
     let a = none-holds (outside 1 sitesMost sites) 0 (when wrong 2 ∷ (itemsNumber sites xs ∷ [])) z in
     let b = none-holds wrong 1 (itemsNumber sites xs ∷ []) (a .1) in
     let c = none-first (itemsNumber sites xs) [] (b .1) in
-    let number : (k : ℕ) → k ≡ 0 + k = λ k. omega arith in
+    let number : (k : ℕ) → 0 + k ≡ k = λ k. omega arith in
     shape-whole (setUpNetwork sites ps ms)
     (record {
       placed = ap (λ (m : ℕ). itemsNumber m xs) (start-length 0 sites) ∙ c .0;
-      stamps = λ i h. ap (λ (k : ℕ). madeBy byNumber k (getD (startSites 0 sites) i noSite .stamp)) (number i) ∙ start-made 0 sites i (omega (arith, start-length 0 sites));
+      stamps = λ i h.
+          ap (λ (x : Site). madeBy byNumber i (x .stamp)) (start-at 0 sites i (omega (arith, start-length 0 sites)) ∙ ap startSite (number i))
+          ∙ made-start byNumber i 0 0;
       records = λ k h. absurd (omega arith);
       lined = λ k h. subst (LineShape xs [] k) (sym (getD-replicate linesMost k noLine noLine (omega (arith, length-replicate linesMost noLine)))) (no-line xs [] k);
     })
