@@ -2,7 +2,8 @@
 use mathlib.Core.Path.{_≡_, refl, ap, ap₂, subst, _∙_}
 use mathlib.Core.Bool.{Bool, true, false, cond}
 use mathlib.Core.List.{List, [], _∷_, _++_, map}
-use Prim.Native.Nat.{ℕ, suc}
+use Prim.Native.Nat.{ℕ, zero, suc, _<_}
+use native.Mathlib.Omega.{arith}
 use lib.IntN.{ℤ, pos}
 use lib.ListN.{length, getD}
 use Rattle.timestamp.specs.Timestamp.{Stamp}
@@ -33,11 +34,18 @@ abbrev pub AllAlike : List Record → List Record → Type 0
 AllAlike h cs = Matched Alike h cs
 
 module _ {A : Type 0} (R : A → A → Type 0) where
-  matched-length : (xs ys : List A) → Matched R xs ys → length xs ≡ length ys
+  pub matched-length : (xs ys : List A) → Matched R xs ys → length xs ≡ length ys
   matched-length [] [] m = refl
   matched-length [] (y ∷ ys) m = absurd m
   matched-length (x ∷ xs) [] m = absurd m
   matched-length (x ∷ xs) (y ∷ ys) m = ap suc (matched-length xs ys (m .1))
+
+  pub matched-at : (xs ys : List A) (k : ℕ) (d : A) → Matched R xs ys → k < length xs → R (getD xs k d) (getD ys k d)
+  matched-at [] [] k d m l = absurd (omega arith)
+  matched-at [] (y ∷ ys) k d m l = absurd m
+  matched-at (x ∷ xs) [] k d m l = absurd m
+  matched-at (x ∷ xs) (y ∷ ys) zero d m l = m .0
+  matched-at (x ∷ xs) (y ∷ ys) (suc k) d m l = matched-at xs ys k d (m .1) (omega arith)
 
   matched-add : (xs ys : List A) (x y : A) → Matched R xs ys → R x y → Matched R (xs ++ (x ∷ [])) (ys ++ (y ∷ []))
   matched-add [] [] x y m e = (e, tt)

@@ -76,6 +76,7 @@ module _ (n : Network) (inv : Invariant n) (ss : List Site) (ls : List Line) (h 
       where
         old : EachSent h (messagesAt n p j) passes
         old a l = subst passes (sym (same-sent a l)) (f a l)
+
         go : (messagesAt next p j ≡ messagesAt n p j) ⊎ Sent n next p j → EachSent h (messagesAt next p j) passes
         go (inl e) = subst (λ (ms : List Message). EachSent h ms passes) (sym e) old
         go (inr s) =
@@ -89,13 +90,14 @@ module _ (n : Network) (inv : Invariant n) (ss : List Site) (ls : List Line) (h 
         old a b l m =
             subst (λ (s : Stamp). Before s (messageStamp h (getD (messagesAt n p j) b (commit 0)))) (sym (same-sent a (omega arith)))
             (subst (Before (sentAt n p j a)) (sym (same-sent b m)) (inv .queue p j line a b l m))
+
         go : (messagesAt next p j ≡ messagesAt n p j) ⊎ Sent n next p j → RisesSent h (messagesAt next p j)
         go (inl e) = subst (RisesSent h) (sym e) old
         go (inr s) =
             subst (RisesSent h) (sym (s .extends))
             (added-rise (messagesAt n p j) (s .message) (commit 0) (λ a b. Before (messageStamp h a) (messageStamp h b)) old
             (λ a l. subst (λ (t : Stamp). Before t (messageStamp h (s .message))) (sym (same-sent a l))
-                (subst (Before (sentAt n p j a)) (sym (s .stamp)) (upto-then (sentAt n p j a) (stampAt n p) (stampAt next p) (inv .behind p j line a l) (s .higher)))))
+            (subst (Before (sentAt n p j a)) (sym (s .stamp)) (upto-then (sentAt n p j a) (stampAt n p) (stampAt next p) (inv .behind p j line a l) (s .higher)))))
 
     pub calm-ahead : EachSent h (messagesAt next p j) (Before (heardAt next j))
     calm-ahead =

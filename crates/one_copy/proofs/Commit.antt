@@ -151,8 +151,8 @@ module _ (n : Network) (inv : Invariant n) (i : ℕ) (os : List Op) (site : i < 
       let p : Record → Bool = λ q. isEarlier (order (q .stamp) (c .stamp)) in
       inv .read k l a b e
       ∙ sym (without-it x (lastValue x (keep p (n .history))) p
-          (λ t. test-fails (r .stamp) (c .stamp)
-              (upto-before (c .stamp) (r .stamp) (upto-then (c .stamp) (stampAt n (c .site)) (r .stamp) (inv .past k l) (above (c .site) x (record-site n inv k l) t (s .held e))))))
+      (λ t. test-fails (r .stamp) (c .stamp)
+      (upto-before (c .stamp) (r .stamp) (upto-then (c .stamp) (stampAt n (c .site)) (r .stamp) (inv .past k l) (above (c .site) x (record-site n inv k l) t (s .held e))))))
       ∙ sym (with-it x p)
 
   -- ---- the tables
@@ -226,9 +226,11 @@ module _ (n : Network) (inv : Invariant n) (i : ℕ) (os : List Op) (site : i < 
       commit-invariant
       (raise-calm n inv i site few new refl (worked-length (tableAt n i) os ∙ inv .sizes .tables i site) gets m later named w older)
 
-pub commit-keeps : (n : Network) → Invariant n → (i : ℕ) (ks is : List ℕ) (vs : List ℤ) → commitNumber n i ks is vs ≡ 0 → Invariant (commitNetwork n i (opsOf ks is vs))
-unfolding commitNetwork commitNumber
-commit-keeps n inv i ks is vs z =
+-- what holds where no cause does
+pub commit-causes : (n : Network) (i : ℕ) (ks is : List ℕ) (vs : List ℤ) → commitNumber n i ks is vs ≡ 0
+    → (i < length (n .sites)) × (countAtMost n i ≡ false) × (firstNumber (map (opNumber (n .items) i) (opsOf ks is vs)) ≡ 0)
+unfolding commitNumber
+commit-causes n i ks is vs z =
     let os = opsOf ks is vs in
     let xs = n .items in
     let sized = wrongLists (length ks) (length is) (length vs) in
@@ -242,5 +244,10 @@ commit-keeps n inv i ks is vs z =
     let d = none-holds full 11 (when mail 13 ∷ most) (c .1) in
     let f = none-holds mail 12 most (d .1) in
     let g = none-holds (countAtMost n i) 13 [] (f .1) in
-    commit-made n inv i os (leb-false (length (n .sites)) i (a .0)) (g .0) (c .0)
-    (keeps-commit n i ks is vs (inv .sizes .lines) (inv .sizes .sites) (inv .shape) z)
+    (leb-false (length (n .sites)) i (a .0), g .0, c .0)
+
+pub commit-keeps : (n : Network) → Invariant n → (i : ℕ) (ks is : List ℕ) (vs : List ℤ) → commitNumber n i ks is vs ≡ 0 → Invariant (commitNetwork n i (opsOf ks is vs))
+unfolding commitNetwork
+commit-keeps n inv i ks is vs z =
+    let c = commit-causes n i ks is vs z in
+    commit-made n inv i (opsOf ks is vs) (c .0) (c .1) (c .2) (keeps-commit n i ks is vs (inv .sizes .lines) (inv .sizes .sites) (inv .shape) z)

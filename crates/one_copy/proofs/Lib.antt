@@ -9,3 +9,7 @@ pub mod Added
 pub mod Calm
 pub mod Quiet
 pub mod Commit
+pub mod SetUp
+pub mod Follows
+pub mod Theorem
+pub mod Beside

@@ -79,7 +79,6 @@ module _ (n : Network) (inv : Invariant n) (gets : ℕ → Bool) (i : ℕ) (m : 
   mail-here j line f = ap (λ (l : Line). l .messages) (sent-here gets i m (n .lines) sitesMost j (child i j line) f (line-number n inv i j line))
 
   module _ (p j : ℕ) (line : isLine (n .items) p j ≡ true) where
-
     abbrev Same : Type 0
     Same = getD mailed (lineNumber p j) noLine .messages ≡ messagesAt n p j
 
@@ -194,17 +193,23 @@ module _ (n : Network) (inv : Invariant n) (i : ℕ) (site : i < length (n .site
         go p j (inr (s, _, e)) = inr (was-sent p j s e)
 
 -- ---- dummy
+-- what holds where no cause does
+pub dummy-causes : (n : Network) (i : ℕ) → dummyNumber n i ≡ 0 → (i < length (n .sites)) × (countAtMost n i ≡ false)
+unfolding dummyNumber
+dummy-causes n i z =
+    let gets = isLine (n .items) i in
+    let a = none-holds (noSuchSite n i) 6 (when (someLineFull n i gets) 13 ∷ (when (countAtMost n i) 14 ∷ [])) z in
+    let b = none-holds (someLineFull n i gets) 12 (when (countAtMost n i) 14 ∷ []) (a .1) in
+    (leb-false (length (n .sites)) i (a .0), none-holds (countAtMost n i) 13 [] (b .1) .0)
+
 pub dummy-keeps : (n : Network) → Invariant n → (i : ℕ) → dummyNumber n i ≡ 0 → Invariant (dummyNetwork n i)
-unfolding dummyNetwork dummyNumber
+unfolding dummyNetwork
 dummy-keeps n inv i z =
     let gets = isLine (n .items) i in
     let new = dummied (siteAt n i) in
     let m = dummy (new .stamp) in
-    let a = none-holds (noSuchSite n i) 6 (when (someLineFull n i gets) 13 ∷ (when (countAtMost n i) 14 ∷ [])) z in
-    let b = none-holds (someLineFull n i gets) 12 (when (countAtMost n i) 14 ∷ []) (a .1) in
-    let c = none-holds (countAtMost n i) 13 [] (b .1) in
-    let site : i < length (n .sites) = leb-false (length (n .sites)) i (a .0) in
+    let c = dummy-causes n i z in
     calm-keeps n inv (moved n inv i new) (mailed n inv gets i m)
-    (raise-calm n inv i site (c .0) new refl (inv .sizes .tables i site) gets m (n .history) refl
-        (keeps-dummy n i (inv .sizes .lines) (inv .sizes .sites) (inv .shape) z) (λ p x f. refl))
+    (raise-calm n inv i (c .0) (c .1) new refl (inv .sizes .tables i (c .0)) gets m (n .history) refl
+    (keeps-dummy n i (inv .sizes .lines) (inv .sizes .sites) (inv .shape) z) (λ p x f. refl))
     (moved-tables n inv i new refl)

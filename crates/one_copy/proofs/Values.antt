@@ -120,6 +120,7 @@ module _ (x : ℕ) (p q : Record → Bool) where
     where
       rest : (i : ℕ) → i < length rs → Tells x p q (recordAt rs i)
       rest i m = f (suc i) (omega arith) (λ e. omega arith)
+
       go : (b : Bool) → touches x (r .ops) ≡ b → lastFrom x (wrote x v (r .ops)) (keep p rs) ≡ wrote x (lastFrom x v (keep q rs)) (r .ops)
       go false e =
           ap (λ (w : ℤ). lastFrom x w (keep p rs)) (untouched x v (r .ops) e)

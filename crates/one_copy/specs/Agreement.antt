@@ -1,6 +1,6 @@
 -- One-copy agreement: what holds after every list of calls from an accepted set-up.
 use mathlib.Core.Path.{_≡_}
-use mathlib.Core.Bool.{Bool, true, cond, _&&_, _||_}
+use mathlib.Core.Bool.{Bool, true, cond, _||_}
 use mathlib.Core.List.{List, [], _∷_, _++_, map}
 use mathlib.Core.Option.{Option, some}
 use Prim.Native.Nat.{ℕ, _<_}
@@ -11,7 +11,7 @@ use Rattle.timestamp.specs.Timestamp.{Stamp}
 use Rattle.site.specs.Operations.{valuesRead}
 use Rattle.placement.specs.Placement.{Item, owns, copies}
 use Rattle.records.specs.Records.{Record}
-use Rattle.network.specs.Network.{Network, siteAt}
+use Rattle.network.specs.Network.{Network, noRecord, siteAt}
 use Rattle.network.specs.Steps.{itemsOf}
 use Rattle.network.specs.Calls.{Call, setUp, commit, dummy, epoch, deliver, schedule, Outcome, perform}
 use Rattle.one_copy.specs.Book.{Book, noBook, stampIn, kept}
@@ -61,10 +61,9 @@ stampsBy (epoch i e) at all = all
 stampsBy (deliver p c) at all = all
 stampsBy (schedule j) at all = all
 
--- one more call
-abbrev pub learned : Known → Call → Known
-learned k c =
-    let o = perform (k .state) c in
+-- one more call, with its outcome
+abbrev pub learnedFrom : Known → Call → Outcome → Known
+learnedFrom k c o =
     let ok = isAccepted o in
     let book = kept c ok (o .stamp) (k .book) in
     record {
@@ -75,6 +74,9 @@ learned k c =
       answered = cond ok (stampsBy c (λ i. o .stamp) (k .answered)) (k .answered);
       booked = cond ok (stampsBy c (stampIn book) (k .booked)) (k .booked);
     }
+
+abbrev pub learned : Known → Call → Known
+learned k c = learnedFrom k c (perform (k .state) c)
 
 -- calls one after another, each given the state that the one before left
 abbrev pub learnedAll : Known → List Call → Known
@@ -101,7 +103,20 @@ pub record Agreement (k : Known) : Type 0 where
       → getD (siteAt network i .table) x (pos 0) ≡ valueAt zeros (k .book .commits) (siteAt network i .stamp) x
 
 -- for every state whatever, every set-up accepted on it, and every list of calls after it
-pub OneCopyAgreement : Type 0
-OneCopyAgreement =
+abbrev pub Always : (Known → Type 0) → Type 0
+Always holdsOf =
     (s : Option Network) (sites items : ℕ) (primaries masks : List ℕ) → perform s (setUp sites items primaries masks) .number ≡ 0
-    → (calls : List Call) → Agreement (learnedAll (nothingKnown s) (setUp sites items primaries masks ∷ calls))
+    → (calls : List Call) → holdsOf (learnedAll (nothingKnown s) (setUp sites items primaries masks ∷ calls))
+
+abbrev pub OneCopyAgreement : Type 0
+OneCopyAgreement = Always Agreement
+
+-- ---- beside it
+-- no two commits of the book have one timestamp
+abbrev pub StampsDiffer : Type 0
+StampsDiffer =
+    Always (λ k. (a b : ℕ) → a < b → b < length (k .book .commits) → getD (k .book .commits) a noRecord .stamp ≡ getD (k .book .commits) b noRecord .stamp → ⊥)
+
+-- no further call, whatever it is, finds the state not well shaped or never set up
+abbrev pub Never6 : Type 0
+Never6 = Always (λ k. (c : Call) → perform (k .state) c .number ≡ 6 → ⊥)
