@@ -9,3 +9,4 @@ pub mod Added
 pub mod Calm
 pub mod Quiet
 pub mod Commit
+pub mod Schedule
