@@ -10,3 +10,4 @@ pub mod Calm
 pub mod Quiet
 pub mod Commit
 pub mod Schedule
+pub mod Played

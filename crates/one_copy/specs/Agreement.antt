@@ -61,10 +61,9 @@ stampsBy (epoch i e) at all = all
 stampsBy (deliver p c) at all = all
 stampsBy (schedule j) at all = all
 
--- one more call
-abbrev pub learned : Known → Call → Known
-learned k c =
-    let o = perform (k .state) c in
+-- one more call, with what it answered and left
+abbrev pub witnessed : Known → Call → Outcome → Known
+witnessed k c o =
     let ok = isAccepted o in
     let book = kept c ok (o .stamp) (k .book) in
     record {
@@ -75,6 +74,9 @@ learned k c =
       answered = cond ok (stampsBy c (λ i. o .stamp) (k .answered)) (k .answered);
       booked = cond ok (stampsBy c (stampIn book) (k .booked)) (k .booked);
     }
+
+abbrev pub learned : Known → Call → Known
+learned k c = witnessed k c (perform (k .state) c)
 
 -- calls one after another, each given the state that the one before left
 abbrev pub learnedAll : Known → List Call → Known
@@ -101,7 +103,7 @@ pub record Agreement (k : Known) : Type 0 where
       → getD (siteAt network i .table) x (pos 0) ≡ valueAt zeros (k .book .commits) (siteAt network i .stamp) x
 
 -- for every state whatever, every set-up accepted on it, and every list of calls after it
-pub OneCopyAgreement : Type 0
+unfoldable pub OneCopyAgreement : Type 0
 OneCopyAgreement =
     (s : Option Network) (sites items : ℕ) (primaries masks : List ℕ) → perform s (setUp sites items primaries masks) .number ≡ 0
     → (calls : List Call) → Agreement (learnedAll (nothingKnown s) (setUp sites items primaries masks ∷ calls))
