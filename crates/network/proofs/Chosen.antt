@@ -57,7 +57,7 @@ module _ (n : Network) (j : ℕ) where
       go false e best rest = rest
 
   -- it is a site, where there is a parent
-  earliest-site : (k p : ℕ) → p < k → k ≤ sitesMost → isLine (n .items) p j ≡ true → earliest n j k < sitesMost
+  pub earliest-site : (k p : ℕ) → p < k → k ≤ sitesMost → isLine (n .items) p j ≡ true → earliest n j k < sitesMost
   unfolding earliest
   earliest-site zero p h few e = absurd (omega arith)
   earliest-site (suc q) p h few e = go (isLine (n .items) q j) refl (earliest n j q) (earliest-site q p)

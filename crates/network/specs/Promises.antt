@@ -1,11 +1,14 @@
 -- What the contracts of the calls say: the answer and the state's words are those of `perform`, and where it refuses every word is as it came.
 use mathlib.Core.Path.{_≡_}
-use mathlib.Core.List.{List}
-use Prim.Native.Nat.{ℕ}
-use lib.IntN.{ℤ}
+use mathlib.Core.List.{List, map}
+use Prim.Native.Nat.{ℕ, _-_}
+use lib.IntN.{ℤ, pos}
+use lib.ListN.{drop, replicate}
 use mathlib.Core.Bool.{true}
-use Rattle.timestamp.specs.Timestamp.{Stamp}
+use Rattle.timestamp.specs.declared.Timestamp.{Timestamp}
+use Rattle.timestamp.specs.Timestamp.{Stamp, pairOf, room, none}
 use Rattle.site.specs.Operations.{Op, valuesRead}
+use Rattle.site.specs.InWords.{opsMost}
 use Rattle.network.specs.Calls.{Call, Outcome, perform}
 use Rattle.network.specs.Steps.{recordOf, commitNetwork}
 use Rattle.network.specs.InWords.{networkIn, inRange, meaning}
@@ -17,6 +20,16 @@ pub record Performed (call : Call) (entry exit : List ℕ) (number parent : ℕ)
   pub values-are : values ≡ perform (meaning entry) call .values
   pub after-is : meaning exit ≡ perform (meaning entry) call .after
   pub kept : (number ≡ 0 → ⊥) → exit ≡ entry
+
+-- the timestamp of a refused answer: 0 in every field, its eight places of tuples too
+pub record Blank (t : Timestamp) : Type 0 where
+  pub epoch-is : t .epoch .0 ≡ 0
+  pub len-is : t .len ≡ 0
+  pub tuples-are : map pairOf (t .tuples) ≡ replicate room none
+
+-- of the eight places of values those past the first `count` are 0
+abbrev pub zeroPast : ℕ → List ℤ → Type 0
+zeroPast count vs = drop count vs ≡ replicate (opsMost - count) (pos 0)
 
 -- what a commit of the operations `os` at site i that no cause refuses answers and leaves
 pub record Made (entry exit : List ℕ) (i : ℕ) (os : List Op) (number : ℕ) (stamp : Stamp) (values : List ℤ) : Type 0 where

@@ -16,11 +16,12 @@ ghost use Rattle.network.specs.Layout.{stateSize};
 ghost use Rattle.network.specs.Steps.{dummyNumber};
 ghost use Rattle.network.specs.Calls.{dummy as dummyCall};
 ghost use Rattle.network.specs.InWords.{numberIn};
-ghost use Rattle.network.specs.Promises.{Performed};
+ghost use Rattle.network.specs.Promises.{Performed, Blank};
 
 // A dummy at a site. It answers its number and the timestamp.
 pub fn dummy(state: &mut [u32; WORDS], site: u32) -> Dummied
     ensures { λ r. ⌜ Performed (dummyCall site) (now (state .entry)) (now (state .exit)) (r .number) 0 (stampOf (r .stamp)) [] ⌝ }
+    ensures { λ r. ⌜ ((r .number ≡ 0 → ⊥) → Blank (r .stamp)) ⌝ }
 {
     dummy_in(state, site)
 }
@@ -28,6 +29,7 @@ pub fn dummy(state: &mut [u32; WORDS], site: u32) -> Dummied
 fn dummy_in(state: &mut [u32], site: u32) -> Dummied
     requires { ⌜ length (now state) ≡ stateSize ⌝ }
     ensures { λ r. ⌜ Performed (dummyCall site) (now (state .entry)) (now (state .exit)) (r .number) 0 (stampOf (r .stamp)) [] ⌝ }
+    ensures { λ r. ⌜ ((r .number ≡ 0 → ⊥) → Blank (r .stamp)) ⌝ }
 {
     let number = dummy_number(state, site);
     if number != 0 {

@@ -3,10 +3,11 @@ ghost use mathlib.Core.Path.{_≡_};
 ghost use mathlib.Core.List.{[], _∷_, _++_};
 ghost use Prim.Native.Nat.{_+_, _≤_, _<_};
 ghost use lib.IntN.{pos};
-ghost use lib.ListN.{length, take, getD};
+ghost use lib.ListN.{length, take, drop, getD};
 ghost use Rattle.site.specs.Operations.{valuesRead};
 ghost use Rattle.site.specs.InWords.{opAt, opsIn, opsMost};
 ghost use Rattle.network.specs.Steps.{opsOf};
+ghost use Rattle.network.specs.Promises.{zeroPast};
 
 // The values that reads gave: the first `count` of eight places, in order; the rest are 0.
 pub struct Given {
@@ -33,6 +34,7 @@ pub(crate) fn op_words(kinds: &[u8], items: &[u32], values: &[i32]) -> [u32; 24]
 pub(crate) fn values_read(ops: &[u32], n: usize) -> Given
     requires { ⌜ n ≤ opsMost ⌝ }
     ensures { λ r. ⌜ take (r .count) (r .values) ≡ valuesRead (opsIn n (now (ops .entry))) ⌝ }
+    ensures { λ r. ⌜ zeroPast (r .count) (r .values) ⌝ }
 {
     let mut values = [0i32; 8];
     let mut count = 0;
@@ -59,7 +61,7 @@ fn op_word(out: &mut [u32; 24], kinds: &[u8], items: &[u32], values: &[i32], i: 
 // The value of operation i, where it is a read, after the `count` values before it; answers how many there are then.
 fn value_read(values: &mut [i32], count: usize, ops: &[u32], i: usize) -> usize
     requires { ⌜ (count ≤ i) × (i < opsMost) × (opsMost ≤ length (now values)) ⌝ }
-    ensures { λ r. ⌜ (r ≤ i + 1) × (take r (now (values .exit)) ≡ take count (now (values .entry)) ++ valuesRead (opAt (now (ops .entry)) i ∷ [])) ⌝ }
+    ensures { λ r. ⌜ (r ≤ i + 1) × (take r (now (values .exit)) ≡ take count (now (values .entry)) ++ valuesRead (opAt (now (ops .entry)) i ∷ [])) × (count ≤ r) × (drop r (now (values .exit)) ≡ drop r (now (values .entry))) ⌝ }
 {
     let at = 3 * i;
     if words::word(ops, at) != 0 {

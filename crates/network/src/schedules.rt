@@ -28,7 +28,7 @@ ghost use Rattle.network.specs.Network.{noStamp, lineAt};
 ghost use Rattle.network.specs.Steps.{someBelow, scheduleNumber, head, headStamp, writesFor};
 ghost use Rattle.network.specs.Calls.{schedule as scheduleCall};
 ghost use Rattle.network.specs.InWords.{networkIn, inRange, numberIn, SiteStep};
-ghost use Rattle.network.specs.Promises.{Performed};
+ghost use Rattle.network.specs.Promises.{Performed, Blank};
 ghost use Rattle.network.specs.Choice.{Best, muted, wantedAt};
 
 // A parent and the timestamp of its oldest message; the parent is 8 where there is none.
@@ -40,6 +40,7 @@ struct Head {
 // Schedule at a site. It answers its number, and the parent and the timestamp of the message done.
 pub fn schedule(state: &mut [u32; WORDS], site: u32) -> Scheduled
     ensures { λ r. ⌜ Performed (scheduleCall site) (now (state .entry)) (now (state .exit)) (r .number) (r .parent) (stampOf (r .stamp)) [] ⌝ }
+    ensures { λ r. ⌜ ((r .number ≡ 0 → ⊥) → Blank (r .stamp)) ⌝ }
 {
     schedule_in(state, site)
 }
@@ -47,6 +48,7 @@ pub fn schedule(state: &mut [u32; WORDS], site: u32) -> Scheduled
 fn schedule_in(state: &mut [u32], site: u32) -> Scheduled
     requires { ⌜ length (now state) ≡ stateSize ⌝ }
     ensures { λ r. ⌜ Performed (scheduleCall site) (now (state .entry)) (now (state .exit)) (r .number) (r .parent) (stampOf (r .stamp)) [] ⌝ }
+    ensures { λ r. ⌜ ((r .number ≡ 0 → ⊥) → Blank (r .stamp)) ⌝ }
 {
     let number = schedule_number(state, site);
     if number != 0 {

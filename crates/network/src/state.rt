@@ -28,6 +28,7 @@ ghost use Rattle.network.specs.Layout.{stateSize, linesMost};
 ghost use Rattle.network.specs.Network.{siteAt, noRecord, noStamp};
 ghost use Rattle.network.specs.Steps.{noSuchSite, countAtMost};
 ghost use Rattle.network.specs.InWords.{networkIn, inRange, SiteStep, LineStep, RecordStep};
+ghost use Rattle.network.specs.Promises.{Blank};
 
 // ---- the placement
 // Whether there is a site of that number.
@@ -226,6 +227,7 @@ pub(crate) fn add_record(state: &mut [u32], site: u32, n: u32, t: Timestamp, ops
 // The timestamp of a refusal: epoch 0, no tuple.
 pub(crate) fn no_stamp() -> Timestamp
     ensures { λ r. ⌜ stampOf r ≡ noStamp ⌝ }
+    ensures { λ r. ⌜ Blank r ⌝ }
 {
     let none = Tuple {
         site: 0,

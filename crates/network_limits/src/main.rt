@@ -1,4 +1,5 @@
-// Cases at the limits: a chain of eight sites, a full line, a full history, the numbers of operations; and that a refusal leaves the state.
+// Cases at the limits: a chain of eight sites, a full line, a full history, the numbers of operations; and for each cause that a
+// refusal leaves every word of the state.
 use libc::STDOUT_FILENO;
 use network::WORDS;
 use timestamp::Timestamp;
@@ -10,6 +11,8 @@ fn main() {
     line(&mut state);
     history(&mut state);
     largest_count(&mut state);
+    let mut zeros = [0u32; WORDS];
+    refusals(&mut zeros);
 }
 
 // Eight sites in a chain, each owning the item that the next one copies; the last owns nothing. Nine sites are refused.
@@ -98,6 +101,84 @@ fn largest_count(state: &mut [u32; WORDS]) {
     let answer = network::dummy(state, 0);
     number(answer.number);
     unchanged(&before, state);
+}
+
+// The other causes: 6 on a state that was never set up, the rest on a small network on which nothing was done.
+fn refusals(state: &mut [u32; WORDS]) {
+    let zeros = *state;
+    let never = network::deliver(state, 0, 1);
+    refusal(&zeros, state, never);
+    let primaries = [0u32, 1];
+    let masks = [6u8, 4];
+    number(network::set_up(state, 3, 2, &primaries, &masks));
+    set_ups(state);
+    placements(state);
+    commits(state);
+    steps(state);
+}
+
+// Nine sites, and more items than the lists have.
+fn set_ups(state: &mut [u32; WORDS]) {
+    let before = *state;
+    let primaries = [0u32, 1];
+    let masks = [6u8, 4];
+    let sites = network::set_up(state, 9, 2, &primaries, &masks);
+    refusal(&before, state, sites);
+    let items = network::set_up(state, 3, 3, &primaries, &masks);
+    refusal(&before, state, items);
+}
+
+// A primary that is no site, a copy at the primary, a copy below it.
+fn placements(state: &mut [u32; WORDS]) {
+    let before = *state;
+    let primaries = [1u32];
+    let copy = [4u8];
+    let own = [2u8];
+    let below = [1u8];
+    let primary = network::set_up(state, 1, 1, &primaries, &copy);
+    refusal(&before, state, primary);
+    let at = network::set_up(state, 3, 1, &primaries, &own);
+    refusal(&before, state, at);
+    let under = network::set_up(state, 3, 1, &primaries, &below);
+    refusal(&before, state, under);
+}
+
+// An unknown item, and a write of an item of another site, each after a write that could be done.
+fn commits(state: &mut [u32; WORDS]) {
+    let before = *state;
+    let kinds = [1u8, 1];
+    let unknown = [1u32, 2];
+    let foreign = [1u32, 0];
+    let values = [8i32, 8];
+    let none = network::commit(state, 1, &kinds, &unknown, &values);
+    refusal(&before, state, none.number);
+    let other = network::commit(state, 1, &kinds, &foreign, &values);
+    refusal(&before, state, other.number);
+}
+
+// No such site, an epoch at a site with parents, an old epoch, no such line, nothing on the way, no parents, nothing arrived.
+fn steps(state: &mut [u32; WORDS]) {
+    let before = *state;
+    let site = network::dummy(state, 3);
+    refusal(&before, state, site.number);
+    let child = network::epoch(state, 1, 1);
+    refusal(&before, state, child);
+    let old = network::epoch(state, 0, 0);
+    refusal(&before, state, old);
+    let line = network::deliver(state, 2, 0);
+    refusal(&before, state, line);
+    let empty = network::deliver(state, 0, 1);
+    refusal(&before, state, empty);
+    let first = network::schedule(state, 0);
+    refusal(&before, state, first.number);
+    let waits = network::schedule(state, 2);
+    refusal(&before, state, waits.number);
+}
+
+fn refusal(before: &[u32; WORDS], state: &[u32; WORDS], n: u32) {
+    digits(n);
+    io::write_all(STDOUT_FILENO, b" ");
+    unchanged(before, state);
 }
 
 // Whether every word is as it was.

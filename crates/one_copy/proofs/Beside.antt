@@ -15,11 +15,10 @@ use Rattle.placement.specs.Placement.{Item, firstNumber, namesMissing, namesBel
 use Rattle.placement.specs.InWords.{sitesMost, itemsMost}
 use Rattle.lines.specs.InWords.{recordsMost}
 use Rattle.network.specs.Network.{Network, noRecord, siteAt, lineAt}
-use Rattle.network.specs.Steps.{when, outside, itemsOf, noSuchSite, countAtMost, someBelow, someLineFull, opsOf, opNumber, due, wrongLists, setUpNumber, commitNumber, dummyNumber, epochNumber, deliverNumber, scheduleNumber, scheduleNetwork}
+use Rattle.network.specs.Steps.{when, outside, itemsOf, noSuchSite, countAtMost, someBelow, someLineFull, opsOf, opNumber, due, wrongLists, setUpNumber, commitNumber, dummyNumber, epochNumber, deliverNumber, scheduleNumber}
 use Rattle.network.specs.Calls.{Call, setUp, commit, dummy, epoch, deliver, schedule, perform}
 use Rattle.one_copy.specs.Agreement.{Known, StampsDiffer, Never6}
 use Rattle.one_copy.proofs.Alike.{Alike, matched-length, matched-at}
-use Rattle.one_copy.proofs.Invariant.{Invariant}
 use Rattle.one_copy.proofs.Follows.{Follows, always}
 use Rattle.one_copy.proofs.Theorem.{stamps-apart}
 
@@ -127,9 +126,10 @@ module _ (n : Network) where
 never : (k : Known) → Follows k → (c : Call) → perform (k .state) c .number ≡ 6 → ⊥
 never k f c = eqb-false (perform (k .state) c .number) 6 (ap (λ (s : Option Network). eqb (perform s c .number) 6) (f .state-is) ∙ call-not6 (f .network) c .differs)
 
-module _ (schedule-keeps : (n : Network) → Invariant n → (j : ℕ) → scheduleNumber n j ≡ 0 → Invariant (scheduleNetwork n j)) where
-  pub stamps-differ : StampsDiffer
-  stamps-differ = always schedule-keeps _ differ
+pub stamps-differ : StampsDiffer
+unfolding StampsDiffer
+stamps-differ = always _ differ
 
-  pub never-6 : Never6
-  never-6 = always schedule-keeps _ never
+pub never-6 : Never6
+unfolding Never6
+never-6 = always _ never

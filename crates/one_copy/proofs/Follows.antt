@@ -20,11 +20,12 @@ use Rattle.network.specs.Steps.{startSites, setUpNumber, setUpNetwork, opsOf, c
 use Rattle.network.specs.Calls.{Call, setUp, commit, dummy, epoch, deliver, schedule, Outcome, refused, accepted, judged, perform}
 use Rattle.network.proofs.Chosen.{received-stamp}
 use Rattle.one_copy.specs.Book.{Book, stampIn, withStamp, startStamps, noted}
-use Rattle.one_copy.specs.Agreement.{Known, nothingKnown, learnedFrom, learned, learnedAll, Always}
+use Rattle.one_copy.specs.Agreement.{Known, nothingKnown, witnessed, learned, learnedAll, Always}
 use Rattle.one_copy.proofs.Alike.{Alike, AllAlike, worked-alike, all-alike-add}
 use Rattle.one_copy.proofs.Invariant.{stampAt, tableAt, Invariant, shaped}
 use Rattle.one_copy.proofs.Quiet.{moved-here, risen, deliver-keeps, epoch-keeps, dummy-causes, dummy-keeps}
 use Rattle.one_copy.proofs.Commit.{commit-causes, commit-keeps}
+use Rattle.one_copy.proofs.Schedule.{schedule-keeps}
 use Rattle.one_copy.proofs.SetUp.{set-up-starts}
 
 abbrev pub stampsOf : List Site → List Stamp
@@ -65,7 +66,7 @@ judged-number m s o e = go (eqb m 0) refl
     go false f = refl
 
 module _ (k : Known) (f : Follows k) (c : Call) where
-  refused-follows : (m : ℕ) → eqb m 0 ≡ false → Follows (learnedFrom k c (refused m (some (f .network))))
+  refused-follows : (m : ℕ) → eqb m 0 ≡ false → Follows (witnessed k c (refused m (some (f .network))))
   refused-follows m e =
       rw e (record {
         network = f .network;
@@ -78,10 +79,10 @@ module _ (k : Known) (f : Follows k) (c : Call) where
         answers-are = f .answers-are;
       })
 
-  judged-follows : (m : ℕ) (o : Outcome) → perform (some (f .network)) c ≡ judged m (some (f .network)) o → (m ≡ 0 → Follows (learnedFrom k c o)) → Follows (learned k c)
-  judged-follows m o is ok = subst (λ (x : Outcome). Follows (learnedFrom k c x)) (sym (ap (λ (s : Option Network). perform s c) (f .state-is) ∙ is)) (go (eqb m 0) refl)
+  judged-follows : (m : ℕ) (o : Outcome) → perform (some (f .network)) c ≡ judged m (some (f .network)) o → (m ≡ 0 → Follows (witnessed k c o)) → Follows (learned k c)
+  judged-follows m o is ok = subst (λ (x : Outcome). Follows (witnessed k c x)) (sym (ap (λ (s : Option Network). perform s c) (f .state-is) ∙ is)) (go (eqb m 0) refl)
     where
-      go : (b : Bool) → eqb m 0 ≡ b → Follows (learnedFrom k c (cond b o (refused m (some (f .network)))))
+      go : (b : Bool) → eqb m 0 ≡ b → Follows (witnessed k c (cond b o (refused m (some (f .network)))))
       go true e = ok (eqb-true m 0 e)
       go false e = refused-follows m e
 
@@ -91,7 +92,7 @@ start-stamps i zero = refl
 start-stamps i (suc n) = ap (λ (ts : List Stamp). record { epoch = 0; tuples = record { site = i; count = 0 } ∷ [] } ∷ ts) (start-stamps (suc i) n)
 
 set-up-follows : (k : Known) → k .answered ≡ k .booked → (sites items : ℕ) (ps ms : List ℕ) → setUpNumber sites items ps ms ≡ 0
-    → Follows (learnedFrom k (setUp sites items ps ms) (accepted 0 noStamp [] (setUpNetwork sites ps ms)))
+    → Follows (witnessed k (setUp sites items ps ms) (accepted 0 noStamp [] (setUpNetwork sites ps ms)))
 unfolding noted setUpNetwork
 set-up-follows k same sites items ps ms z =
     record {
@@ -118,7 +119,7 @@ module _ (k : Known) (f : Follows k) where
   one-more t u e = ap₂ (λ (ts : List Stamp) (s : Stamp). ts ++ (s ∷ [])) (f .answers-are) e
 
   commit-follows : (i : ℕ) (ks is : List ℕ) (vs : List ℤ) → commitNumber n i ks is vs ≡ 0
-      → Follows (learnedFrom k (commit i ks is vs)
+      → Follows (witnessed k (commit i ks is vs)
       (accepted 0 (recordOf n i (opsOf ks is vs) .stamp) (valuesRead (recordOf n i (opsOf ks is vs) .ops)) (commitNetwork n i (opsOf ks is vs))))
   unfolding noted commitNetwork
   commit-follows i ks is vs z =
@@ -139,7 +140,7 @@ module _ (k : Known) (f : Follows k) where
         answers-are = one-more (r .stamp) (stampIn (withStamp b i t) i) (same ∙ sym (book-has n b (f .stamps-are) i t (c .0)));
       }
 
-  dummy-follows : (i : ℕ) → dummyNumber n i ≡ 0 → Follows (learnedFrom k (dummy i) (accepted 0 (siteAt (dummyNetwork n i) i .stamp) [] (dummyNetwork n i)))
+  dummy-follows : (i : ℕ) → dummyNumber n i ≡ 0 → Follows (witnessed k (dummy i) (accepted 0 (siteAt (dummyNetwork n i) i .stamp) [] (dummyNetwork n i)))
   unfolding noted dummyNetwork
   dummy-follows i z =
       let new = dummied (siteAt n i) in
@@ -158,7 +159,7 @@ module _ (k : Known) (f : Follows k) where
             (ap (λ (s : Site). s .stamp) (moved-here n (f .inv) i new (c .0)) ∙ same ∙ sym (book-has n b (f .stamps-are) i t (c .0)));
       }
 
-  epoch-follows : (i e : ℕ) → epochNumber n i e ≡ 0 → Follows (learnedFrom k (epoch i e) (accepted 0 noStamp [] (epochNetwork n i e)))
+  epoch-follows : (i e : ℕ) → epochNumber n i e ≡ 0 → Follows (witnessed k (epoch i e) (accepted 0 noStamp [] (epochNetwork n i e)))
   unfolding noted epochNetwork
   epoch-follows i e z =
       record {
@@ -172,7 +173,7 @@ module _ (k : Known) (f : Follows k) where
         answers-are = f .answers-are;
       }
 
-  deliver-follows : (p c : ℕ) → deliverNumber n p c ≡ 0 → Follows (learnedFrom k (deliver p c) (accepted 0 noStamp [] (deliverNetwork n p c)))
+  deliver-follows : (p c : ℕ) → deliverNumber n p c ≡ 0 → Follows (witnessed k (deliver p c) (accepted 0 noStamp [] (deliverNetwork n p c)))
   unfolding noted deliverNetwork
   deliver-follows p c z =
       record {
@@ -186,49 +187,47 @@ module _ (k : Known) (f : Follows k) where
         answers-are = f .answers-are;
       }
 
--- ---- schedule, and every call
-module _ (schedule-keeps : (n : Network) → Invariant n → (j : ℕ) → scheduleNumber n j ≡ 0 → Invariant (scheduleNetwork n j)) where
-  schedule-follows : (k : Known) (f : Follows k) (j : ℕ) → scheduleNumber (f .network) j ≡ 0
-      → Follows (learnedFrom k (schedule j) (accepted (chosen (f .network) j) (headStamp (f .network) (chosen (f .network) j) j) [] (scheduleNetwork (f .network) j)))
+  schedule-follows : (j : ℕ) → scheduleNumber n j ≡ 0
+      → Follows (witnessed k (schedule j) (accepted (chosen n j) (headStamp n (chosen n j) j) [] (scheduleNetwork n j)))
   unfolding noted scheduleNetwork
-  schedule-follows k f j z =
-      let m = f .network in
-      let t = headStamp m (chosen m j) j in
-      let new = received (writesFor m j (head m (chosen m j) j)) t (siteAt m j) in
-      let same : new .stamp ≡ appended t j (ownCount (stampIn (k .book) j))
-      = received-stamp m j (f .inv .sizes .sites) (shaped m (f .inv)) z ∙ ap (λ (s : Stamp). appended t j (ownCount s)) (book-stamp m (k .book) (f .stamps-are) j) in
+  schedule-follows j z =
+      let t = headStamp n (chosen n j) j in
+      let new = received (writesFor n j (head n (chosen n j) j)) t (siteAt n j) in
+      let same : new .stamp ≡ appended t j (ownCount (stampIn b j))
+      = received-stamp n j (f .inv .sizes .sites) (shaped n (f .inv)) z ∙ ap (λ (s : Stamp). appended t j (ownCount s)) (book-stamp n b (f .stamps-are) j) in
       record {
-        network = scheduleNetwork m j;
+        network = scheduleNetwork n j;
         state-is = refl;
-        inv = schedule-keeps m (f .inv) j z;
+        inv = schedule-keeps n (f .inv) j z;
         items-are = f .items-are;
-        stamps-are = book-moved m (k .book) (f .stamps-are) j new (appended t j (ownCount (stampIn (k .book) j))) same;
+        stamps-are = book-moved n b (f .stamps-are) j new (appended t j (ownCount (stampIn b j))) same;
         commits-alike = f .commits-alike;
         values-are = f .values-are;
         answers-are = f .answers-are;
       }
 
-  call-follows : (k : Known) → Follows k → (c : Call) → Follows (learned k c)
-  unfolding perform
-  call-follows k f (setUp sites items ps ms) = judged-follows k f (setUp sites items ps ms) _ _ refl (set-up-follows k (f .answers-are) sites items ps ms)
-  call-follows k f (commit i ks is vs) = judged-follows k f (commit i ks is vs) _ _ refl (commit-follows k f i ks is vs)
-  call-follows k f (dummy i) = judged-follows k f (dummy i) _ _ refl (dummy-follows k f i)
-  call-follows k f (epoch i e) = judged-follows k f (epoch i e) _ _ refl (epoch-follows k f i e)
-  call-follows k f (deliver p c) = judged-follows k f (deliver p c) _ _ refl (deliver-follows k f p c)
-  call-follows k f (schedule j) = judged-follows k f (schedule j) _ _ refl (schedule-follows k f j)
+-- ---- every call
+call-follows : (k : Known) → Follows k → (c : Call) → Follows (learned k c)
+unfolding perform
+call-follows k f (setUp sites items ps ms) = judged-follows k f (setUp sites items ps ms) _ _ refl (set-up-follows k (f .answers-are) sites items ps ms)
+call-follows k f (commit i ks is vs) = judged-follows k f (commit i ks is vs) _ _ refl (commit-follows k f i ks is vs)
+call-follows k f (dummy i) = judged-follows k f (dummy i) _ _ refl (dummy-follows k f i)
+call-follows k f (epoch i e) = judged-follows k f (epoch i e) _ _ refl (epoch-follows k f i e)
+call-follows k f (deliver p c) = judged-follows k f (deliver p c) _ _ refl (deliver-follows k f p c)
+call-follows k f (schedule j) = judged-follows k f (schedule j) _ _ refl (schedule-follows k f j)
 
-  calls-follow : (k : Known) → Follows k → (cs : List Call) → Follows (learnedAll k cs)
-  calls-follow k f [] = f
-  calls-follow k f (c ∷ cs) = calls-follow (learned k c) (call-follows k f c) cs
+calls-follow : (k : Known) → Follows k → (cs : List Call) → Follows (learnedAll k cs)
+calls-follow k f [] = f
+calls-follow k f (c ∷ cs) = calls-follow (learned k c) (call-follows k f c) cs
 
-  -- what follows from that holds after every list of calls from an accepted set-up
-  pub always : (holdsOf : Known → Type 0) → ((k : Known) → Follows k → holdsOf k) → Always holdsOf
-  unfolding perform
-  always holdsOf g s sites items ps ms z calls =
-      let c = setUp sites items ps ms in
-      let m = setUpNumber sites items ps ms in
-      let o = accepted 0 noStamp [] (setUpNetwork sites ps ms) in
-      let none : m ≡ 0 = sym (judged-number m s o refl) ∙ z in
-      let is : perform s c ≡ o = ap (λ (b : Bool). cond b o (refused m s)) (eq-eqb m 0 none) in
-      let first : Follows (learned (nothingKnown s) c) = subst (λ (x : Outcome). Follows (learnedFrom (nothingKnown s) c x)) (sym is) (set-up-follows (nothingKnown s) refl sites items ps ms none) in
-      g (learnedAll (nothingKnown s) (c ∷ calls)) (calls-follow (learned (nothingKnown s) c) first calls)
+-- what follows from that holds after every list of calls from an accepted set-up
+pub always : (holdsOf : Known → Type 0) → ((k : Known) → Follows k → holdsOf k) → Always holdsOf
+unfolding perform
+always holdsOf g s sites items ps ms z calls =
+    let c = setUp sites items ps ms in
+    let m = setUpNumber sites items ps ms in
+    let o = accepted 0 noStamp [] (setUpNetwork sites ps ms) in
+    let none : m ≡ 0 = sym (judged-number m s o refl) ∙ z in
+    let is : perform s c ≡ o = ap (λ (b : Bool). cond b o (refused m s)) (eq-eqb m 0 none) in
+    let first : Follows (learned (nothingKnown s) c) = subst (λ (x : Outcome). Follows (witnessed (nothingKnown s) c x)) (sym is) (set-up-follows (nothingKnown s) refl sites items ps ms none) in
+    g (learnedAll (nothingKnown s) (c ∷ calls)) (calls-follow (learned (nothingKnown s) c) first calls)

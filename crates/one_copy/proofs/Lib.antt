@@ -9,7 +9,9 @@ pub mod Added
 pub mod Calm
 pub mod Quiet
 pub mod Commit
+pub mod Schedule
 pub mod SetUp
 pub mod Follows
 pub mod Theorem
 pub mod Beside
+pub mod Played

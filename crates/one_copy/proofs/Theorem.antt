@@ -12,7 +12,6 @@ use Rattle.timestamp.specs.Timestamp.{Stamp}
 use Rattle.site.specs.Site.{Site}
 use Rattle.placement.specs.Placement.{Item, owns}
 use Rattle.network.specs.Network.{Network}
-use Rattle.network.specs.Steps.{scheduleNumber, scheduleNetwork}
 use Rattle.one_copy.specs.Run.{zeros, shown, valueAt}
 use Rattle.one_copy.specs.Agreement.{Known, holds, Agreement, OneCopyAgreement}
 use Rattle.one_copy.proofs.Values.{touches}
@@ -77,6 +76,6 @@ module _ (k : Known) (f : Follows k) where
         copies-agree = copy-agrees;
       }
 
-module _ (schedule-keeps : (n : Network) → Invariant n → (j : ℕ) → scheduleNumber n j ≡ 0 → Invariant (scheduleNetwork n j)) where
-  pub one-copy-agreement : OneCopyAgreement
-  one-copy-agreement = always schedule-keeps Agreement agreement-of
+pub one-copy-agreement : OneCopyAgreement
+unfolding OneCopyAgreement
+one-copy-agreement = always Agreement agreement-of

@@ -75,6 +75,17 @@ test-fails s t e = go (order s t) refl
     go Equal f = ap isEarlier f
     go Later f = ap isEarlier f
 
+pub test-before : (s t : Stamp) → isEarlier (order s t) ≡ true → Before s t
+test-before s t e = go (order s t) refl
+  where
+    go : (r : Order) → order s t ≡ r → order s t ≡ Earlier
+    go Earlier f = f
+    go Equal f = absurd (false≢true (sym (ap isEarlier f) ∙ e))
+    go Later f = absurd (false≢true (sym (ap isEarlier f) ∙ e))
+
+pub test-upto : (s t : Stamp) → isEarlier (order s t) ≡ false → UpTo t s
+test-upto s t e = not-later-turned (orderBy byNumber) by-number-laws t s (λ b. false≢true (sym e ∙ ap isEarlier b))
+
 -- ---- a timestamp made by a site, and what is left of it without the own tuple
 pub made-under : (p j : ℕ) (u : Stamp) → madeBy byNumber p u ≡ true → p < j → Below byNumber j (u .tuples)
 made-under p j u m l = made-below byNumber j 0 u (made-appended byNumber p j 0 u m l)

@@ -61,9 +61,9 @@ stampsBy (epoch i e) at all = all
 stampsBy (deliver p c) at all = all
 stampsBy (schedule j) at all = all
 
--- one more call, with its outcome
-abbrev pub learnedFrom : Known → Call → Outcome → Known
-learnedFrom k c o =
+-- one more call, with what it answered and left
+abbrev pub witnessed : Known → Call → Outcome → Known
+witnessed k c o =
     let ok = isAccepted o in
     let book = kept c ok (o .stamp) (k .book) in
     record {
@@ -76,7 +76,7 @@ learnedFrom k c o =
     }
 
 abbrev pub learned : Known → Call → Known
-learned k c = learnedFrom k c (perform (k .state) c)
+learned k c = witnessed k c (perform (k .state) c)
 
 -- calls one after another, each given the state that the one before left
 abbrev pub learnedAll : Known → List Call → Known
@@ -108,15 +108,15 @@ Always holdsOf =
     (s : Option Network) (sites items : ℕ) (primaries masks : List ℕ) → perform s (setUp sites items primaries masks) .number ≡ 0
     → (calls : List Call) → holdsOf (learnedAll (nothingKnown s) (setUp sites items primaries masks ∷ calls))
 
-abbrev pub OneCopyAgreement : Type 0
+unfoldable pub OneCopyAgreement : Type 0
 OneCopyAgreement = Always Agreement
 
 -- ---- beside it
 -- no two commits of the book have one timestamp
-abbrev pub StampsDiffer : Type 0
+unfoldable pub StampsDiffer : Type 0
 StampsDiffer =
     Always (λ k. (a b : ℕ) → a < b → b < length (k .book .commits) → getD (k .book .commits) a noRecord .stamp ≡ getD (k .book .commits) b noRecord .stamp → ⊥)
 
 -- no further call, whatever it is, finds the state not well shaped or never set up
-abbrev pub Never6 : Type 0
+unfoldable pub Never6 : Type 0
 Never6 = Always (λ k. (c : Call) → perform (k .state) c .number ≡ 6 → ⊥)

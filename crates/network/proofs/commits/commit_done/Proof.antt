@@ -146,15 +146,17 @@ returns c =
     let r = ready (c .before .before .before .before .before .before .before .before .before .before .before .before .before .before .before .before .before .before .before .before .before .before .before .before .before) in
     let made : getD w 2 0 ≡ length (networkIn w .history) = sym (records-count w) in
     let named : cond (ltb (getD w 2 0) recordsMost) (commitMessage (getD w 2 0)) (dummy (stampOf (c .before .before .before .before .before .before .before .before .before .before .before .before .before .site-stamp .result))) ≡ commitMessage (getD w 2 0)
-    = ap (λ (b : Bool). cond b (commitMessage (getD w 2 0)) (dummy (stampOf (c .before .before .before .before .before .before .before .before .before .before .before .before .before .site-stamp .result)))) (lt-ltb (getD w 2 0) recordsMost (omega (arith, records-count w, r .room))) in
-    record {
-      number-is = refl;
-      stamp-is = stamped (c .before .before .before .before .before .before .before .before .before .before .before .before .before);
-      values-are = c .before .values-read .ensures ∙ ap valuesRead (recorded (c .before .before .before .before .before .before .before .before .before .before .before .before .before .before .before .before .before));
-      network-is = network-now w (A .site) os (c .before .before .before .before .before .before .before .before .before .before .before .before .before .before .before .before .before .before .before .before .before .before .before .before .before .pre .2) (r .free) (c .before .before .before .before .before .before .before .before .before .before .before .before .before .before .before .before .before .before .before .due-mask .result) (c .before .before .before .before .before .before .before .before .before .before .before .before .before .before .before .before .before .before .before .due-mask .ensures) (c .before .before .before .before .before .before .before .before .before .before .before .before .before .before .before .before .before .site-commit .last .0) (stepped (c .before .before .before .before .before .before .before .before .before .before .before .before .before .before .before .before .before)) (c .before .before .before .before .before .before .before .before .before .add-record .last .0) _ (booking (c .before .before .before .before .before .before .before .before .before)) (kept (c .before .before .before .before .before .before .before .before .before)) (getD w 2 0) made (c .before .before .before .before .before .send-all .last .0)
-          (subst₂ (λ (k : ℕ) (x : Message). SentStep (c .before .before .before .before .before .before .before .before .before .add-record .last .0) (c .before .before .before .before .before .send-all .last .0) (bit (c .before .before .before .before .before .before .before .before .before .before .before .before .before .before .before .before .before .before .before .due-mask .result)) k x sitesMost) (c .before .before .before .before .before .before .before .before .before .before .before .before .before .before .before .before .before .before .before .before .before .before .wide .ensures) named (c .before .before .before .before .before .send-all .ensures));
-      ranged = c .before .before .before .before .before .send-all .ensures .ranged;
-    }
+    = ap (λ (b : Bool). cond b (commitMessage (getD w 2 0)) (dummy (stampOf (c .before .before .before .before .before .before .before .before .before .before .before .before .before .site-stamp .result)))) (lt-ltb (getD w 2 0) recordsMost (omega (arith, records-count w, r .room))) in (
+      record {
+        number-is = refl;
+        stamp-is = stamped (c .before .before .before .before .before .before .before .before .before .before .before .before .before);
+        values-are = c .before .values-read .ensures .0 ∙ ap valuesRead (recorded (c .before .before .before .before .before .before .before .before .before .before .before .before .before .before .before .before .before));
+        network-is = network-now w (A .site) os (c .before .before .before .before .before .before .before .before .before .before .before .before .before .before .before .before .before .before .before .before .before .before .before .before .before .pre .2) (r .free) (c .before .before .before .before .before .before .before .before .before .before .before .before .before .before .before .before .before .before .before .due-mask .result) (c .before .before .before .before .before .before .before .before .before .before .before .before .before .before .before .before .before .before .before .due-mask .ensures) (c .before .before .before .before .before .before .before .before .before .before .before .before .before .before .before .before .before .site-commit .last .0) (stepped (c .before .before .before .before .before .before .before .before .before .before .before .before .before .before .before .before .before)) (c .before .before .before .before .before .before .before .before .before .add-record .last .0) _ (booking (c .before .before .before .before .before .before .before .before .before)) (kept (c .before .before .before .before .before .before .before .before .before)) (getD w 2 0) made (c .before .before .before .before .before .send-all .last .0)
+            (subst₂ (λ (k : ℕ) (x : Message). SentStep (c .before .before .before .before .before .before .before .before .before .add-record .last .0) (c .before .before .before .before .before .send-all .last .0) (bit (c .before .before .before .before .before .before .before .before .before .before .before .before .before .before .before .before .before .before .before .due-mask .result)) k x sitesMost) (c .before .before .before .before .before .before .before .before .before .before .before .before .before .before .before .before .before .before .before .before .before .before .wide .ensures) named (c .before .before .before .before .before .send-all .ensures));
+        ranged = c .before .before .before .before .before .send-all .ensures .ranged;
+      },
+      c .before .values-read .ensures .1,
+    )
 
 pub commit-done-spec : {M : Type 1} → statement M
 commit-done-spec =

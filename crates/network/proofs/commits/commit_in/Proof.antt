@@ -35,7 +35,7 @@ same-length c = search needs
 returns : tie.Need-returns
 returns c =
     let A = c .before .before .before .before .before .before .before .args in
-    commit-refused (A .state .now) (A .site) (A .kinds .now) (A .items .now) (A .values .now) (c .before .before .commit-number .result) (stampOf (c .no-stamp .result)) _ (c .before .before .commit-number .ensures) (c .before .if1 .taken) (c .no-stamp .ensures) refl
+    (commit-refused (A .state .now) (A .site) (A .kinds .now) (A .items .now) (A .values .now) (c .before .before .commit-number .result) (stampOf (c .no-stamp .result)) _ (c .before .before .commit-number .ensures) (c .before .if1 .taken) (c .no-stamp .ensures .0) refl, (λ _. (c .no-stamp .ensures .1, refl), refl))
 
 op-words-requires : tie.Need-op-words-requires
 op-words-requires c κs =
@@ -60,7 +60,7 @@ same-length-2 c = search needs
 returns-2 : tie.Need-returns-2
 returns-2 c =
     let A = c .before .before .before .before .before .before .before .before .before .before .before .before .args in
-    commit-performed (A .state .now) (A .site) (A .kinds .now) (A .items .now) (A .values .now) (none (c .before .before .before .before .before .before)) (c .before .before .commit-done .last .0) _ _ _ (opsIn (length (A .kinds .now)) (c .before .before .before .before .before .op-words .result)) (c .before .before .before .before .before .op-words .ensures) (c .before .before .commit-done .ensures)
+    (commit-performed (A .state .now) (A .site) (A .kinds .now) (A .items .now) (A .values .now) (none (c .before .before .before .before .before .before)) (c .before .before .commit-done .last .0) _ _ _ (opsIn (length (A .kinds .now)) (c .before .before .before .before .before .op-words .result)) (c .before .before .before .before .before .op-words .ensures) (c .before .before .commit-done .ensures .0), (λ z. absurd (z (c .before .before .commit-done .ensures .0 .number-is)), c .before .before .commit-done .ensures .1))
 
 pub commit-in-spec : {M : Type 1} → statement M
 commit-in-spec =

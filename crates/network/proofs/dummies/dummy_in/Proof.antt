@@ -1,5 +1,5 @@
 -- `dummy_in` refuses with its number, or raises the site's count and sends the dummy to every child.
-use mathlib.Core.Path.{_≡_, sym, ap, subst, _∙_}
+use mathlib.Core.Path.{_≡_, refl, sym, ap, subst, _∙_}
 use mathlib.Core.Bool.{true}
 use Prim.Native.Nat.{ℕ, _<_}
 use native.Mathlib.Omega.{arith}
@@ -45,7 +45,7 @@ same-length : tie.Need-same-length
 same-length c = search needs
 
 returns : tie.Need-returns
-returns c = dummy-refused (c .before .before .before .before .before .args .state .now) (c .before .before .before .before .before .args .site) (c .before .before .dummy-number .result) (stampOf (c .no-stamp .result)) (c .before .before .dummy-number .ensures) (c .before .if1 .taken) (c .no-stamp .ensures)
+returns c = (dummy-refused (c .before .before .before .before .before .args .state .now) (c .before .before .before .before .before .args .site) (c .before .before .dummy-number .result) (stampOf (c .no-stamp .result)) (c .before .before .dummy-number .ensures) (c .before .if1 .taken) (c .no-stamp .ensures .0), λ _. c .no-stamp .ensures .1)
 
 wide-requires : tie.Need-wide-requires
 wide-requires c κs = search needs
@@ -79,9 +79,11 @@ returns-2 : tie.Need-returns-2
 returns-2 c =
     let A = c .before .before .before .before .before .before .before .before .before .before .before .before .before .before .before .before .before .args in
     let v = c .before .before .before .before .before .before .before .before .site-dummy .last .0 in
-    let t = stampOf (c .before .before .before .before .site-stamp .result) in
-    dummy-done (A .state .now) (A .site) (none (c .before .before .before .before .before .before .before .before .before .before .before .before .before)) (c .before .before .before .before .before .before .before .before .before .before .children .result) (c .before .before .before .before .before .before .before .before .before .before .children .ensures) v (stepped (c .before .before .before .before .before .before .before .before)) t (c .before .before .before .before .site-stamp .ensures ∙ ap (λ (k : ℕ). siteAt (networkIn v) k .stamp) (c .before .before .before .before .before .before .before .before .before .before .before .before .wide .ensures)) (c .before .before .send-all .last .0)
-    (subst (λ (k : ℕ). SentStep v (c .before .before .send-all .last .0) (bit (c .before .before .before .before .before .before .before .before .before .before .children .result)) k (dummyMessage t) sitesMost) (c .before .before .before .before .before .before .before .before .before .before .before .before .wide .ensures) (c .before .before .send-all .ensures))
+    let t = stampOf (c .before .before .before .before .site-stamp .result) in (
+      dummy-done (A .state .now) (A .site) (none (c .before .before .before .before .before .before .before .before .before .before .before .before .before)) (c .before .before .before .before .before .before .before .before .before .before .children .result) (c .before .before .before .before .before .before .before .before .before .before .children .ensures) v (stepped (c .before .before .before .before .before .before .before .before)) t (c .before .before .before .before .site-stamp .ensures ∙ ap (λ (k : ℕ). siteAt (networkIn v) k .stamp) (c .before .before .before .before .before .before .before .before .before .before .before .before .wide .ensures)) (c .before .before .send-all .last .0)
+          (subst (λ (k : ℕ). SentStep v (c .before .before .send-all .last .0) (bit (c .before .before .before .before .before .before .before .before .before .before .children .result)) k (dummyMessage t) sitesMost) (c .before .before .before .before .before .before .before .before .before .before .before .before .wide .ensures) (c .before .before .send-all .ensures)),
+      λ z. absurd (z refl),
+    )
 
 pub dummy-in-spec : {M : Type 1} → statement M
 dummy-in-spec =

@@ -1,5 +1,8 @@
 -- `operations::value_read` adds the value of one operation, where it is a read, behind those before it.
+use mathlib.Core.Path.{refl}
+use Prim.Native.Nat.{_+_}
 use native.Mathlib.Omega.{arith}
+use lib.Seq.{drop-set-lt}
 use Rattle.network.proofs.OperationWords.{read-none, read-one}
 use borrow.Author.Needs.{needs}
 use Rattle.network.proofs.operations.value_read.Statement.{statement}
@@ -14,7 +17,7 @@ word-requires c κs = search needs
 returns : tie.Need-returns
 returns c =
     let A = c .before .before .before .args in
-    (omega arith, read-none (A .ops .now) (A .i) (c .before .word .result) (c .before .word .ensures) (A .count) (A .values .now) (c .if1 .taken))
+    (omega arith, read-none (A .ops .now) (A .i) (c .before .word .result) (c .before .word .ensures) (A .count) (A .values .now) (c .if1 .taken), omega arith, refl)
 
 add-word : tie.Need-add-word
 add-word c = search needs
@@ -44,6 +47,8 @@ returns-2 c =
       omega arith,
       read-one (A .ops .now) (A .i) (k .word .result) (k .word .ensures) (A .count) (A .values .now) (c .before .word2 .result) (c .value .result)
           (c .before .before .if1 .left) (omega arith) (c .before .word2 .ensures) (c .value .ensures) (record { sfits = c .value .ok }),
+      omega arith,
+      drop-set-lt (A .count + 1) (A .values .now) (A .count) _ (omega arith),
     )
 
 pub value-read-spec : {M : Type 1} → statement M

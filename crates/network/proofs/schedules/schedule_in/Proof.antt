@@ -1,5 +1,5 @@
 -- `schedule_in` refuses with its number, or does the chosen parent's oldest message at the site and takes it off its line.
-use mathlib.Core.Path.{_≡_, sym, _∙_}
+use mathlib.Core.Path.{_≡_, refl, sym, _∙_}
 use Prim.Native.Nat.{_*_, _+_}
 use native.Mathlib.Omega.{arith}
 use Rattle.timestamp.specs.Timestamp.{stampOf}
@@ -24,7 +24,7 @@ same-length : tie.Need-same-length
 same-length c = search needs
 
 returns : tie.Need-returns
-returns c = schedule-refused (c .before .before .before .before .before .args .state .now) (c .before .before .before .before .before .args .site) (c .before .before .schedule-number .result) (stampOf (c .no-stamp .result)) (c .no-stamp .ensures) (c .before .before .schedule-number .ensures) (c .before .if1 .taken)
+returns c = (schedule-refused (c .before .before .before .before .before .args .state .now) (c .before .before .before .before .before .args .site) (c .before .before .schedule-number .result) (stampOf (c .no-stamp .result)) (c .no-stamp .ensures .0) (c .before .before .schedule-number .ensures) (c .before .if1 .taken), λ _. c .no-stamp .ensures .1)
 
 chosen-requires : tie.Need-chosen-requires
 chosen-requires c κs = search needs
@@ -59,9 +59,11 @@ same-length-2 c = search needs
 
 returns-2 : tie.Need-returns-2
 returns-2 c =
-    let A = c .before .before .before .before .before .before .before .before .before .before .before .before .before .before .before .before .before .args in
-    schedule-done (A .state .now) (A .site) (zero-number (c .before .before .before .before .before .before .before .before .before .before .before .before .before)) (c .before .before .before .before .before .before .before .before .receive .last .0) (c .before .before .line-take .last .0) (c .before .before .before .before .before .before .before .before .before .before .before .chosen .result .parent) (stampOf (c .before .before .before .before .before .before .before .before .before .before .before .chosen .result .stamp)) (c .before .before .before .before .before .wide .result * 8 + c .before .before .before .before .wide2 .result)
-    (omega (arith, c .before .before .before .before .before .wide .ensures, c .before .before .before .before .wide2 .ensures)) (c .before .before .before .before .before .before .before .before .before .before .before .chosen .ensures) (c .before .before .before .before .before .before .before .before .receive .ensures) (c .before .before .line-take .ensures)
+    let A = c .before .before .before .before .before .before .before .before .before .before .before .before .before .before .before .before .before .args in (
+      schedule-done (A .state .now) (A .site) (zero-number (c .before .before .before .before .before .before .before .before .before .before .before .before .before)) (c .before .before .before .before .before .before .before .before .receive .last .0) (c .before .before .line-take .last .0) (c .before .before .before .before .before .before .before .before .before .before .before .chosen .result .parent) (stampOf (c .before .before .before .before .before .before .before .before .before .before .before .chosen .result .stamp)) (c .before .before .before .before .before .wide .result * 8 + c .before .before .before .before .wide2 .result)
+          (omega (arith, c .before .before .before .before .before .wide .ensures, c .before .before .before .before .wide2 .ensures)) (c .before .before .before .before .before .before .before .before .before .before .before .chosen .ensures) (c .before .before .before .before .before .before .before .before .receive .ensures) (c .before .before .line-take .ensures),
+      λ z. absurd (z refl),
+    )
 
 pub schedule-in-spec : {M : Type 1} → statement M
 schedule-in-spec =
