@@ -163,7 +163,7 @@ module _ (n : Network) (j : ℕ) (few : length (n .sites) ≤ sitesMost) (s : Sh
       let last : ownSite own ≡ j = made-parts byNumber j own (s .stamps j (chosen-up .1)) .last in
       ap (λ (i : ℕ). appendedOrSame t i c) last ∙ append-room t j c (omega (arith, made-length p t head-made, chosen-up .0, chosen-up .1))
 
-  received-made : madeBy byNumber j (appendedOrSame (headStamp n (chosen n j) j) (ownSite (siteAt n j .stamp)) (ownCount (siteAt n j .stamp))) ≡ true
+  pub received-made : madeBy byNumber j (appendedOrSame (headStamp n (chosen n j) j) (ownSite (siteAt n j .stamp)) (ownCount (siteAt n j .stamp))) ≡ true
   received-made =
       let p = chosen n j in
       ap (madeBy byNumber j) received-stamp ∙ made-appended byNumber p j (ownCount (siteAt n j .stamp)) (headStamp n p j) head-made (chosen-up .0)

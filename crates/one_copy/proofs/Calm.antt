@@ -1,17 +1,17 @@
 -- Steps in which no child hears anything: commit, dummy, epoch, deliver. What they keep of the invariant, together.
-use mathlib.Core.Path.{_≡_, refl, ap, sym, subst, _∙_}
-use mathlib.Core.Bool.{Bool, true, false}
+use mathlib.Core.Path.{_≡_, ap, sym, subst, _∙_}
+use mathlib.Core.Bool.{true}
 use mathlib.Core.List.{List, [], _∷_, _++_}
 use mathlib.Core.Logic.{_⊎_, inl, inr}
-use Prim.Native.Nat.{ℕ, suc, _+_, _<_, _≤_}
+use Prim.Native.Nat.{ℕ, _<_}
 use native.Mathlib.Omega.{arith}
 use lib.IntN.{ℤ, pos}
 use lib.ListN.{length, getD}
 use Rattle.timestamp.specs.Timestamp.{Stamp}
-use Rattle.timestamp.specs.Order.{order, byNumber, notLater, isEarlier}
+use Rattle.timestamp.specs.Order.{order, byNumber, notLater}
 use Rattle.timestamp.specs.Made.{madeBy}
 use Rattle.site.specs.Site.{Site}
-use Rattle.placement.specs.Placement.{Item, copies, isLine}
+use Rattle.placement.specs.Placement.{copies, isLine}
 use Rattle.lines.specs.Lines.{Message, commit, Line}
 use Rattle.records.specs.Records.{Record}
 use Rattle.network.specs.Network.{Network, messageStamp, messageFits, wellShaped}

@@ -1,34 +1,32 @@
 -- Commit keeps the invariant.
 use mathlib.Core.Path.{_≡_, refl, ap, ap₂, sym, subst, _∙_}
-use mathlib.Core.Bool.{Bool, true, false, cond, not, _&&_, _||_}
+use mathlib.Core.Bool.{Bool, true, false, cond, _&&_, _||_}
 use mathlib.Core.List.{List, [], _∷_, _++_, map}
 use mathlib.Core.Logic.{_⊎_, inl, inr}
-use Prim.Native.Nat.{ℕ, zero, suc, _+_, _<_, _≤_}
+use Prim.Native.Nat.{ℕ, zero, suc, _<_}
 use native.Mathlib.Omega.{arith}
 use lib.IntN.{ℤ, pos}
-use lib.ListN.{length, getD, set}
+use lib.ListN.{length, getD}
 use lib.Dec.{eqb, ltb, leb}
 use borrow.Author.Tests.{leb-false, lt-leb, ltb-true}
 use Rattle.words.proofs.Walks.{and-true}
-use Rattle.timestamp.specs.Timestamp.{Stamp, raisedOrSame}
+use Rattle.timestamp.specs.Timestamp.{Stamp}
 use Rattle.timestamp.specs.Order.{order, byNumber, notLater, isEarlier}
 use Rattle.timestamp.specs.Made.{madeBy}
-use Rattle.timestamp.proofs.Made.{without}
-use Rattle.site.specs.Operations.{Op, reads, writes, worked}
+use Rattle.site.specs.Operations.{Op, reads}
 use Rattle.site.specs.Site.{Site, committed}
-use Rattle.site.specs.InWords.{tableSize}
-use Rattle.placement.specs.Placement.{Item, some, firstNumber, owns, copies, isLine}
-use Rattle.lines.specs.Lines.{Message, commit, dummy, Line}
+use Rattle.placement.specs.Placement.{Item, firstNumber, owns, copies, isLine}
+use Rattle.lines.specs.Lines.{Message, commit, dummy}
 use Rattle.lines.specs.InWords.{recordsMost}
 use Rattle.records.specs.Records.{Record}
-use Rattle.network.specs.Network.{Network, noRecord, noSite, siteAt, lineNumber, messageStamp, messageFits, wellShaped}
+use Rattle.network.specs.Network.{Network, noRecord, siteAt, messageStamp, messageFits, wellShaped}
 use Rattle.network.specs.Steps.{when, noSuchSite, countAtMost, someLineFull, opNumber, due, keep, opsOf, wrongLists, commitNumber, commitNetwork, recordOf}
 use Rattle.network.proofs.Numbers.{none-holds, none-first}
 use Rattle.network.proofs.Keeps.{noOp, OpShape, op-at, raised-made, keeps-commit}
 use Rattle.one_copy.specs.Agreement.{holds}
 use Rattle.one_copy.proofs.Values.{touches, wrote, lastFrom, lastValue, from-more, keep-more, none-kept, agree}
 use Rattle.one_copy.proofs.Works.{worked-length, getD-worked, worked-size, worked-kinds, worked-reads, wrote-worked}
-use Rattle.one_copy.proofs.Times.{Before, UpTo, upto-self, upto-before, upto-trans, upto-then, before-test, later-fails, test-fails, made-under, cut-upto, cut-before, cut-test}
+use Rattle.one_copy.proofs.Times.{Before, UpTo, upto-self, upto-before, upto-then, before-test, later-fails, test-fails, made-under, cut-upto, cut-before, cut-test}
 use Rattle.one_copy.proofs.Added.{added-size, added-old, added-new, added-each, added-rise}
 use Rattle.one_copy.proofs.Invariant.{stampAt, heardAt, tableAt, messagesAt, made, Named, Invariant, holder, touch-item, touch-owns, due-child, shaped, line-up, stamp-made, record-below, record-site, reaches}
 use Rattle.one_copy.proofs.Calm.{changed, Calm, calm-past, calm-queue, calm-ahead, calm-behind, calm-heard, calm-owed, settled-value}

@@ -1,38 +1,36 @@
 -- The invariant of every network that a set-up leads to, and what follows from it at once.
 use mathlib.Core.Path.{_≡_, refl, ap, sym, subst, _∙_}
-use mathlib.Core.Bool.{Bool, true, false, _&&_, _||_, true≢false}
-use mathlib.Core.List.{List, [], _∷_, _++_}
+use mathlib.Core.Bool.{Bool, true, false, _&&_, _||_}
+use mathlib.Core.List.{List}
 use mathlib.Core.Logic.{_⊎_, inl, inr}
-use Prim.Native.Nat.{ℕ, zero, suc, _+_, _*_, _/_, _%_, _<_, _≤_}
+use Prim.Native.Nat.{ℕ, _/_, _<_, _≤_}
 use native.Mathlib.Omega.{arith}
 use lib.IntN.{ℤ, pos}
-use lib.ListN.{length, getD, set, List·getD-eq-default}
-use lib.Dec.{eqb, ltb, leb}
-use borrow.Author.Tests.{eqb-true, eq-eqb, ltb-true, ltb-false, leb-true, leb-false}
-use Rattle.words.specs.Words.{every}
+use lib.ListN.{length, getD}
+use lib.Dec.{eqb}
+use borrow.Author.Tests.{eqb-true}
 use Rattle.words.proofs.Walks.{and-true, every-at}
 use Rattle.timestamp.specs.Timestamp.{Stamp}
 use Rattle.timestamp.specs.Order.{order, byNumber, notLater, isEarlier, Below}
 use Rattle.timestamp.specs.Made.{madeBy}
 use Rattle.timestamp.proofs.Made.{without}
 use Rattle.site.specs.Operations.{Op, reads, writes}
-use Rattle.site.specs.Site.{Site}
 use Rattle.site.specs.InWords.{tableSize}
 use Rattle.placement.specs.Masks.{bit}
 use Rattle.placement.specs.Placement.{Item, noItem, owns, copies, isLine, hasParents}
 use Rattle.placement.specs.InWords.{sitesMost}
-use Rattle.placement.proofs.Laws.{some-at, some-index, items-number-zero, item-copy-above, line-upward}
-use Rattle.lines.specs.Lines.{Message, commit, Line, noLine}
+use Rattle.placement.proofs.Laws.{some-at, some-index, line-upward}
+use Rattle.lines.specs.Lines.{Message, commit}
 use Rattle.records.specs.Records.{Record}
 use Rattle.network.specs.Layout.{linesMost}
-use Rattle.network.specs.Network.{Network, noRecord, siteAt, lineAt, lineNumber, messageStamp, messageFits, wellShaped}
+use Rattle.network.specs.Network.{Network, siteAt, lineAt, lineNumber, messageStamp, messageFits, wellShaped}
 use Rattle.network.specs.Steps.{due, keep}
-use Rattle.network.proofs.WellShaped.{LineShape, RecordShape, Shape, shape-parts}
+use Rattle.network.proofs.WellShaped.{Shape, shape-parts}
 use Rattle.network.proofs.Keeps.{noOp, OpShape}
 use Rattle.network.proofs.Chosen.{message-made}
 use Rattle.one_copy.specs.Agreement.{holds}
 use Rattle.one_copy.proofs.Values.{writesTo, touches, lastValue, recordAt}
-use Rattle.one_copy.proofs.Times.{Before, UpTo, upto-trans, made-under, cut-upto}
+use Rattle.one_copy.proofs.Times.{Before, UpTo, made-under}
 
 -- ---- a network's timestamps, tables and messages
 abbrev pub stampAt : Network → ℕ → Stamp

@@ -7,7 +7,7 @@ use Rattle.network.specs.Network.{Network}
 use Rattle.network.specs.Calls.{Call, setUp, Outcome, perform}
 use Rattle.network.specs.InWords.{meaning}
 use Rattle.network.specs.Promises.{Performed}
-use Rattle.one_copy.specs.Agreement.{Known, nothingKnown, witnessed, learned, learnedAll, Agreement, OneCopyAgreement}
+use Rattle.one_copy.specs.Agreement.{Known, nothingKnown, witnessed, learnedAll, Agreement, OneCopyAgreement}
 use Rattle.one_copy.specs.Played.{Event, Played, seenOf, witnessedAll, PlayedAgreement}
 
 abbrev calls : List Event → List Call

@@ -1,27 +1,25 @@
 -- Deliver, epoch and dummy keep the invariant.
 use mathlib.Core.Path.{_≡_, refl, ap, sym, subst, _∙_}
-use mathlib.Core.Bool.{Bool, true, false, not, true≢false, _||_}
+use mathlib.Core.Bool.{Bool, true, false, true≢false}
 use mathlib.Core.List.{List, [], _∷_, _++_}
 use mathlib.Core.Logic.{_⊎_, inl, inr}
-use Prim.Native.Nat.{ℕ, suc, _+_, _*_, _<_, _≤_}
+use Prim.Native.Nat.{ℕ, _<_}
 use native.Mathlib.Omega.{arith}
-use lib.IntN.{ℤ}
 use lib.ListN.{length, getD, set, length-set}
-use lib.Seq.{getD-set-same, getD-set-other}
+use lib.Seq.{getD-set-same}
 use lib.Dec.{eqb, leb}
 use borrow.Author.Tests.{eqb-true, eqb-false, leb-false}
-use Rattle.timestamp.specs.Timestamp.{Stamp, withEpoch, raised, raisedOrSame, ownCount, greatest}
+use Rattle.timestamp.specs.Timestamp.{raised, raisedOrSame, ownCount, greatest}
 use Rattle.timestamp.specs.Order.{byNumber}
 use Rattle.timestamp.proofs.Made.{without}
 use Rattle.timestamp.proofs.OrderLaws.{epoch-later}
 use Rattle.timestamp.proofs.Value.{raise-room}
 use Rattle.site.specs.Site.{Site, dummied, atEpoch}
 use Rattle.site.specs.InWords.{tableSize}
-use Rattle.placement.specs.Placement.{Item, isLine, hasParents}
+use Rattle.placement.specs.Placement.{isLine, hasParents}
 use Rattle.placement.specs.InWords.{sitesMost}
-use Rattle.lines.specs.Lines.{Message, commit, dummy, Line, noLine, sent, delivered}
+use Rattle.lines.specs.Lines.{Message, dummy, Line, noLine, delivered}
 use Rattle.records.specs.Records.{Record}
-use Rattle.network.specs.Layout.{linesMost}
 use Rattle.network.specs.Network.{Network, noSite, siteAt, lineAt, lineNumber, messageStamp, messageFits, wellShaped}
 use Rattle.network.specs.Steps.{when, noSuchSite, countAtMost, someLineFull, sentTo, dummyNumber, dummyNetwork, epochNumber, epochNetwork, deliverNumber, deliverNetwork}
 use Rattle.network.proofs.Numbers.{none-holds}

@@ -1,38 +1,35 @@
 -- Schedule keeps the invariant.
 use mathlib.Core.Path.{_≡_, refl, ap, ap₂, sym, subst, _∙_}
-use mathlib.Core.Bool.{Bool, true, false, cond, not, _&&_, _||_, true≢false}
-use mathlib.Core.List.{List, [], _∷_, _++_}
+use mathlib.Core.Bool.{Bool, true, false, cond, _&&_, _||_, true≢false}
+use mathlib.Core.List.{List, [], _∷_}
 use mathlib.Core.Logic.{_⊎_, inl, inr}
-use Prim.Native.Nat.{ℕ, zero, suc, _+_, _*_, _<_, _≤_}
+use Prim.Native.Nat.{ℕ, zero, suc, _<_, _≤_}
 use native.Mathlib.Omega.{arith}
 use lib.IntN.{ℤ, pos}
 use lib.ListN.{length, getD, set, drop, length-set, length-drop}
 use lib.Seq.{getD-set-same, getD-set-other}
 use lib.Dec.{eqb, ltb, leb}
-use borrow.Author.Tests.{eqb-true, eqb-false, lt-leb, ltb-true, eq-eqb}
+use borrow.Author.Tests.{eqb-true, eqb-false, lt-leb, ltb-true}
 use Rattle.words.proofs.Walks.{and-true}
-use Rattle.timestamp.specs.Timestamp.{Stamp, appended, appendedOrSame, ownSite, ownCount}
+use Rattle.timestamp.specs.Timestamp.{Stamp, appended, ownCount}
 use Rattle.timestamp.specs.Order.{order, byNumber, notLater, isEarlier}
 use Rattle.timestamp.specs.Made.{madeBy}
-use Rattle.timestamp.proofs.Made.{without, made-parts, made-length, made-appended}
+use Rattle.timestamp.proofs.Made.{without}
 use Rattle.timestamp.proofs.OrderLaws.{append-later}
-use Rattle.timestamp.proofs.Value.{append-room}
-use Rattle.site.specs.Operations.{Op, writes, worked}
+use Rattle.site.specs.Operations.{Op, writes}
 use Rattle.site.specs.Site.{Site, received}
-use Rattle.site.specs.InWords.{tableSize}
-use Rattle.placement.specs.Placement.{Item, noItem, owns, copies, isLine}
+use Rattle.placement.specs.Placement.{Item, copies, isLine}
 use Rattle.placement.specs.InWords.{sitesMost}
 use Rattle.lines.specs.Lines.{Message, commit, dummy, Line, noLine, taken}
 use Rattle.records.specs.Records.{Record}
-use Rattle.network.specs.Network.{Network, noRecord, noSite, siteAt, lineAt, lineNumber, messageStamp, messageOps, messageFits, wellShaped}
+use Rattle.network.specs.Network.{Network, noSite, siteAt, lineAt, lineNumber, messageStamp, messageFits, wellShaped}
 use Rattle.network.specs.Steps.{due, keep, head, headStamp, earlierOf, earliest, chosen, writesFor, scheduleNumber, scheduleNetwork}
-use Rattle.network.proofs.Numbers.{or-false}
-use Rattle.network.proofs.Chosen.{earliest-site, chosen-line, chosen-up, chosen-held, head-made, parent-held, keeps-schedule}
+use Rattle.network.proofs.Chosen.{earliest-site, chosen-line, chosen-up, head-made, parent-held, received-stamp, received-made, keeps-schedule}
 use Rattle.one_copy.specs.Agreement.{holds}
-use Rattle.one_copy.proofs.Values.{writesTo, touches, wrote, lastValue, recordAt, agree, joined}
+use Rattle.one_copy.proofs.Values.{writesTo, touches, wrote, lastValue, agree, joined}
 use Rattle.one_copy.proofs.Works.{worked-length, getD-worked}
 use Rattle.one_copy.proofs.Times.{Before, UpTo, upto-self, upto-before, upto-trans, before-trans, before-upto, upto-then, upto-other, never-before, later-fails, fails-later, test-before, test-upto, made-apart, without-appended, cut-upto, cut-before}
-use Rattle.one_copy.proofs.Invariant.{stampAt, heardAt, tableAt, messagesAt, messageAt, sentAt, made, Named, Sizes, Invariant, one-owner, touch-owns, touch-due, due-child, shaped, line-up, line-number, stamp-made, record-made, record-site, record-below, sent-made, sent-below, message-fits, reaches}
+use Rattle.one_copy.proofs.Invariant.{stampAt, heardAt, tableAt, messagesAt, messageAt, sentAt, made, Named, Invariant, one-owner, touch-owns, touch-due, due-child, shaped, line-up, line-number, stamp-made, record-site, record-below, sent-made, sent-below, message-fits, reaches}
 use Rattle.one_copy.proofs.Calm.{changed, EachSent, RisesSent}
 use Rattle.one_copy.proofs.Quiet.{moved, moved-many, moved-here, moved-sizes, moved-grows}
 
@@ -140,13 +137,10 @@ module _ (n : Network) (inv : Invariant n) (j : ℕ) (z : scheduleNumber n j ≡
   y-made = head-made n j (inv .sizes .sites) (shaped n inv) z
 
   stamp-is : new .stamp ≡ appended y j (ownCount (stampAt n j))
-  stamp-is =
-      let c = ownCount (stampAt n j) in
-      ap (λ (i : ℕ). appendedOrSame y i c) (made-parts byNumber j (stampAt n j) (stamp-made n inv j (up .1)) .last)
-      ∙ append-room y j c (omega (arith, made-length p y y-made, up .0, up .1, inv .sizes .sites))
+  stamp-is = received-stamp n j (inv .sizes .sites) (shaped n inv) z
 
   stamp-new : madeBy byNumber j (new .stamp) ≡ true
-  stamp-new = ap (madeBy byNumber j) stamp-is ∙ made-appended byNumber p j (ownCount (stampAt n j)) y y-made (up .0)
+  stamp-new = received-made n j (inv .sizes .sites) (shaped n inv) z
 
   hears : without (new .stamp) ≡ y
   hears = ap without stamp-is ∙ without-appended y j (ownCount (stampAt n j))

@@ -1,19 +1,18 @@
 -- Timestamps compared: the order's laws in the two relations that the invariant speaks of, and the cut at a site's own tuple.
-use mathlib.Core.Path.{_≡_, refl, ap, sym, subst, _∙_}
+use mathlib.Core.Path.{_≡_, refl, ap, sym, _∙_}
 use mathlib.Core.Bool.{Bool, true, false, false≢true}
 use mathlib.Core.List.{List, [], _∷_, _++_}
 use mathlib.Core.Logic.{_⊎_, inl, inr}
-use Prim.Native.Nat.{ℕ, _+_, _<_, _≤_}
+use Prim.Native.Nat.{ℕ, _+_, _<_}
 use native.Mathlib.Omega.{arith}
-use lib.ListN.{length}
 use Rattle.timestamp.specs.declared.Order.{Order}
 use Rattle.timestamp.specs.declared.Order.the-variants.{Earlier, Equal, Later}
-use Rattle.timestamp.specs.Timestamp.{Pair, Stamp, appended, raised, lastPair, ownCount}
+use Rattle.timestamp.specs.Timestamp.{Pair, Stamp, appended, raised, lastPair}
 use Rattle.timestamp.specs.Order.{order, orderBy, byNumber, notLater, isEarlier, IsEarlier, NotLater, Below}
 use Rattle.timestamp.specs.Made.{madeBy}
-use Rattle.timestamp.proofs.Comparisons.{irreflexive, asymmetric, total, same-not-later, earlier-not-later, not-later-cases, not-later-not-turned, not-later-turned, later-turned, earlier-then-not-later, not-later-then-earlier, not-later-trans}
-use Rattle.timestamp.proofs.OrderLaws.{by-number-laws, cut, cut-order, cut-not-later, cut-earlier-than, raise-later, append-later, raised-appended}
-use Rattle.timestamp.proofs.Made.{withoutLast, without, made-split, made-below, made-appended, made-parts, made-length}
+use Rattle.timestamp.proofs.Comparisons.{irreflexive, same-not-later, earlier-not-later, not-later-cases, not-later-not-turned, not-later-turned, later-turned, earlier-then-not-later, not-later-then-earlier, not-later-trans}
+use Rattle.timestamp.proofs.OrderLaws.{by-number-laws, cut, cut-order, cut-not-later, cut-earlier-than, raise-later, raised-appended}
+use Rattle.timestamp.proofs.Made.{withoutLast, without, made-split, made-below, made-appended, made-parts}
 
 abbrev pub Before : Stamp → Stamp → Type 0
 Before s t = IsEarlier byNumber s t
