@@ -9,6 +9,7 @@ use Rattle.network.specs.InWords.{meaning}
 use Rattle.network.specs.Promises.{Performed}
 use Rattle.one_copy.specs.Agreement.{Known, nothingKnown, witnessed, learnedAll, Agreement, OneCopyAgreement}
 use Rattle.one_copy.specs.Played.{Event, Played, seenOf, witnessedAll, PlayedAgreement}
+use Rattle.one_copy.proofs.Theorem.{one-copy-agreement}
 
 abbrev calls : List Event → List Call
 calls es = map (λ (e : Event). e .call) es
@@ -32,3 +33,6 @@ played-agreement theorem w e es sites items primaries masks c z (p, ps) =
     let asked : perform (meaning w) (setUp sites items primaries masks) .number ≡ 0 = ap (λ (x : Call). perform (meaning w) x .number) (sym c) ∙ sym (p .number-is) ∙ z in
     subst Agreement (ap (λ (x : Call). learnedAll start (x ∷ calls es)) (sym c) ∙ sym (witnessed-is w start (e ∷ es) refl (p, ps)))
     (theorem (meaning w) sites items primaries masks asked (calls es))
+
+pub one-copy-played : PlayedAgreement
+one-copy-played = played-agreement one-copy-agreement
