@@ -18,9 +18,10 @@ use Rattle.site.specs.InWords.{tableSize}
 use Rattle.site.proofs.Laws.{work-ops}
 use Rattle.records.specs.Records.{Record}
 use Rattle.network.specs.Steps.{keep}
+use Rattle.network.proofs.Keeps.{noOp}
 use Rattle.one_copy.specs.Run.{Turn, numbered, inTurn, after, run, zeros, find, upTo, shown, valueAt}
-use Rattle.one_copy.proofs.Values.{touches, wrote, lastFrom, lastValue, recordAt}
-use Rattle.one_copy.proofs.Works.{noOp, worked-length, getD-worked, wrote-untouched, recorded-other}
+use Rattle.one_copy.proofs.Values.{touches, wrote, lastFrom, lastValue, recordAt, untouched}
+use Rattle.one_copy.proofs.Works.{worked-length, getD-worked, recorded-other}
 use Rattle.one_copy.proofs.Sorting.{Chain, NotAfter, has, each-implied, map-keep, keep-turn, keep-none, chain-keep, keep-sorted, sorted-same, chain-sorted, chain-number, commits-numbered, each-found, has-turn, find-turn}
 
 -- ---- the value of an item after some turns
@@ -44,7 +45,7 @@ module _ (x : ℕ) where
     where
       go : (b : Bool) → writer r ≡ b → ((u : ℤ) → lastFrom x u rs ≡ lastFrom x u (keep writer rs)) → lastFrom x (wrote x v (r .ops)) rs ≡ lastFrom x v (cond b (r ∷ keep writer rs) (keep writer rs))
       go true e rest = rest (wrote x v (r .ops))
-      go false e rest = ap (λ (u : ℤ). lastFrom x u rs) (wrote-untouched x v (r .ops) e) ∙ rest v
+      go false e rest = ap (λ (u : ℤ). lastFrom x u rs) (untouched x v (r .ops) e) ∙ rest v
 
   last-turns : (v : ℤ) (cs : List Turn) → lastFrom x v (commits cs) ≡ lastFrom x v (commits (keep (λ c. writer (c .commit)) cs))
   last-turns v cs = last-writers v (commits cs) ∙ ap (lastFrom x v) (sym (map-keep (λ c. c .commit) writer cs))

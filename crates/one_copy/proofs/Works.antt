@@ -1,6 +1,6 @@
 -- What the operations of one commit do: to the value of an item, and to themselves as the history keeps them.
 use mathlib.Core.Path.{_≡_, refl, ap, sym, _∙_}
-use mathlib.Core.Bool.{Bool, true, false, cond, _&&_, _||_, false≢true}
+use mathlib.Core.Bool.{Bool, true, false, cond, _&&_, false≢true}
 use mathlib.Core.List.{List, [], _∷_}
 use Prim.Native.Nat.{ℕ, zero, suc, _<_}
 use native.Mathlib.Omega.{arith}
@@ -10,11 +10,8 @@ use lib.Seq.{getD-set-same, getD-set-other}
 use lib.Dec.{eqb}
 use borrow.Author.Tests.{eqb-true, eqb-false, ne-eqb}
 use Rattle.site.specs.Operations.{Op, reads, writes, readValue, recorded, written, work, worked}
-use Rattle.one_copy.proofs.Values.{writesTo, touches, wrote}
-
--- what stands where there is no operation
-abbrev pub noOp : Op
-noOp = record { kind = 0; item = 0; value = pos 0 }
+use Rattle.network.proofs.Keeps.{noOp}
+use Rattle.one_copy.proofs.Values.{writesTo, wrote}
 
 -- ---- the table: one operation, then all of them
 written-length : (table : List ℤ) (o : Op) → length (written table o) ≡ length table
@@ -52,15 +49,6 @@ worked-length table os = work-length table table os
 
 pub getD-worked : (table : List ℤ) (os : List Op) (x : ℕ) → x < length table → getD (worked table os .table) x (pos 0) ≡ wrote x (getD table x (pos 0)) os
 getD-worked table os x h = getD-work table table os x h
-
--- operations that do not write the item leave its value
-pub wrote-untouched : (x : ℕ) (v : ℤ) (os : List Op) → touches x os ≡ false → wrote x v os ≡ v
-wrote-untouched x v [] e = refl
-wrote-untouched x v (o ∷ os) e = go (writesTo x o) e (wrote-untouched x v os)
-  where
-    go : (b : Bool) → (b || touches x os) ≡ false → (touches x os ≡ false → wrote x v os ≡ v) → wrote x (cond b (o .value) v) os ≡ v
-    go true f rest = absurd (false≢true (sym f))
-    go false f rest = rest f
 
 -- ---- one operation as the history keeps it
 pub read-no-write : (o : Op) → reads o ≡ true → writes o ≡ false
