@@ -54,11 +54,21 @@ module _ (k : Known) (f : Follows k) where
   history-shown : n .history ≡ shown zeros (k .book .commits)
   history-shown = run-history n (f .inv) ∙ alike-shown (n .history) (k .book .commits) (f .commits-alike)
 
+  -- the sites and items of the calls are the network's
+  site-there : (i : ℕ) → i < length (k .book .stamps) → i < length (n .sites)
+  site-there i l = omega (arith, ap length (f .stamps-are), length-map (n .sites) (λ (s : Site). s .stamp))
+
+  item-there : (x : ℕ) → x < length (k .items) → x < length (n .items)
+  item-there x b = omega (arith, ap length (f .items-are))
+
+  table-reaches : (i x : ℕ) → i < length (k .book .stamps) → x < length (k .items) → x < length (tableAt n i)
+  table-reaches i x l b = omega (arith, item-there x b, f .inv .sizes .items, f .inv .sizes .tables i (site-there i l))
+
   copy-agrees : (i x : ℕ) → i < length (k .book .stamps) → x < length (k .items) → holds (k .items) i x ≡ true
       → getD (tableAt n i) x (pos 0) ≡ valueAt zeros (k .book .commits) (stampAt n i) x
   copy-agrees i x l b e =
-      let site : i < length (n .sites) = omega (arith, ap length (f .stamps-are), length-map (n .sites) (λ (s : Site). s .stamp)) in
-      let item : x < length (n .items) = omega (arith, ap length (f .items-are)) in
+      let site = site-there i l in
+      let item = item-there x b in
       let held : holds (n .items) i x ≡ true = ap (λ (xs : List Item). holds xs i x) (sym (f .items-are)) ∙ e in
       f .inv .copy i x site item held
       ∙ sym (run-value (n .history) x (omega (arith, f .inv .sizes .items)) (writers-rise n (f .inv) x) (stampAt n i))
@@ -73,6 +83,7 @@ module _ (k : Known) (f : Follows k) where
         history-agrees = history-shown;
         answers-agree = f .answers-are;
         stamps-agree = f .stamps-are;
+        tables-reach = table-reaches;
         copies-agree = copy-agrees;
       }
 

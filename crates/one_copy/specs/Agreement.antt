@@ -98,6 +98,8 @@ pub record Agreement (k : Known) : Type 0 where
   pub answers-agree : k .answered ≡ k .booked
   -- each site's own timestamp is the book's
   pub stamps-agree : map (λ s. s .stamp) (network .sites) ≡ k .book .stamps
+  -- every site's table has every item
+  pub tables-reach : (i x : ℕ) → i < length (k .book .stamps) → x < length (k .items) → x < length (siteAt network i .table)
   -- every item at each site that owns or copies it holds the run's value after exactly the commits not later than that site's timestamp
   pub copies-agree : (i x : ℕ) → i < length (k .book .stamps) → x < length (k .items) → holds (k .items) i x ≡ true
       → getD (siteAt network i .table) x (pos 0) ≡ valueAt zeros (k .book .commits) (siteAt network i .stamp) x
