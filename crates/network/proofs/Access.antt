@@ -99,19 +99,26 @@ module _ (w : List ℕ) (size : length w ≡ stateSize) where
     unfolding partsOf
     record-lent = ap recordIn (lent-part w recordStart recordSize) ∙ sym (record-read w size (range-parts w e .few-records) k b)
 
-    -- its operations' words, copied over as many others
+    -- its operations' words, as they are lent, and copied over as many others
+    ops-lent : opsIn (length (getD (networkIn w .history) k noRecord .ops)) (part w (recordStart + opsAt) (recordStart + opsAt + opsSize - (recordStart + opsAt))) ≡ getD (networkIn w .history) k noRecord .ops
+    unfolding partsOf recordIn
+    ops-lent =
+        let own = part w recordStart recordSize in
+        let read = record-read w size (range-parts w e .few-records) k b in
+        ap₂ opsIn (ap (λ (r : Record). length (r .ops)) read ∙ count-law own) (lent-part w (recordStart + opsAt) opsSize ∙ sym (part-part w recordStart recordSize opsAt opsSize (omega arith)))
+        ∙ sym (ap (λ (r : Record). r .ops) read)
+
+    pub ops-counted : (n : ℕ) → n ≡ length (getD (networkIn w .history) k noRecord .ops)
+        → opsIn n (part w (recordStart + opsAt) (recordStart + opsAt + opsSize - (recordStart + opsAt))) ≡ getD (networkIn w .history) k noRecord .ops
+    ops-counted n is = ap (λ (m : ℕ). opsIn m (part w (recordStart + opsAt) (recordStart + opsAt + opsSize - (recordStart + opsAt)))) is ∙ ops-lent
+
     pub record-copied : (d out : List ℕ) → length d ≡ opsSize → out ≡ overlaid d (part w (recordStart + opsAt) (recordStart + opsAt + opsSize - (recordStart + opsAt)))
         → opsIn (length (getD (networkIn w .history) k noRecord .ops)) out ≡ getD (networkIn w .history) k noRecord .ops
-    unfolding partsOf recordIn
+    unfolding partsOf
     record-copied d out long is =
         let few = range-parts w e .few-records in
-        let own = part w recordStart recordSize in
-        let ops = part w (recordStart + opsAt) opsSize in
-        let from = lent-part w (recordStart + opsAt) opsSize in
-        let read = record-read w size few k b in
-        let same : out ≡ part own opsAt opsSize
-        = is ∙ ap (overlaid d) from ∙ overlaid-same d ops (part-length w (recordStart + opsAt) opsSize (omega arith) ∙ sym long) ∙ sym (part-part w recordStart recordSize opsAt opsSize (omega arith)) in
-        ap₂ opsIn (ap (λ (r : Record). length (r .ops)) read ∙ count-law own) same ∙ sym (ap (λ (r : Record). r .ops) read)
+        let ops = part w (recordStart + opsAt) (recordStart + opsAt + opsSize - (recordStart + opsAt)) in
+        ap (opsIn (length (getD (networkIn w .history) k noRecord .ops))) (is ∙ overlaid-same d ops (lent-has w (recordStart + opsAt) opsSize (omega arith) ∙ sym long)) ∙ ops-lent
 
   -- a record more, written to the part behind the others
   pub record-added : inRange w ≡ true → getD w 2 0 < recordsMost → (k : ℕ) → k ≡ getD w 2 0 → (site count : ℕ) → 1 ≤ count → count ≤ opsMost → (stamp : Stamp) (ops : List ℕ) → length ops ≡ opsSize → (ys : List ℕ)
