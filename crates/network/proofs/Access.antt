@@ -1,11 +1,11 @@
 -- A site, a line or a record lent as a part of the state: what is read of it, and what a step on it does to the network.
-use mathlib.Core.Path.{_≡_, refl, sym, ap, ap₂, _∙_}
-use mathlib.Core.Bool.{Bool, true}
+use mathlib.Core.Path.{_≡_, sym, ap, ap₂, _∙_}
+use mathlib.Core.Bool.{true}
 use mathlib.Core.List.{List, []}
 use Prim.Native.Nat.{ℕ, _+_, _-_, _*_, _≤_, _<_, min}
 use native.Mathlib.Omega.{arith}
 use lib.ListN.{length, getD, set}
-use Rattle.words.specs.Words.{part, put, overlaid, every, Stepped}
+use Rattle.words.specs.Words.{part, put, overlaid, Stepped}
 use Rattle.words.proofs.Parts.{part-length, part-part, lent-part, lent-put, lent-size}
 use Rattle.words.proofs.Chunks.{chunks-length}
 use Rattle.words.proofs.Walks.{every-at, overlaid-same}
@@ -19,9 +19,9 @@ use Rattle.records.specs.Records.{Record}
 use Rattle.records.specs.InWords.{recordIn, recordSize, opsAt, Written}
 use Rattle.records.proofs.Laws.{count-law}
 use Rattle.network.specs.Layout.{sitesAt, sitesSize, linesAt, linesSize, linesMost, historyAt, stateSize}
-use Rattle.network.specs.Network.{Network, siteAt, withSite, withLine, withRecord, noRecord}
+use Rattle.network.specs.Network.{siteAt, withSite, withLine, withRecord, noRecord}
 use Rattle.network.specs.InWords.{siteWords, lineWords, networkIn, inRange, SiteStep, LineStep, RecordStep}
-use Rattle.network.proofs.Assembled.{Range, partsOf, range-parts, line-words, line-read, line-put, line-range, site-words, site-read, site-put, site-range, record-read, longer, record-put, record-range}
+use Rattle.network.proofs.Assembled.{partsOf, range-parts, line-words, line-read, line-put, line-range, site-words, site-read, site-put, site-range, record-read, longer, record-put, record-range}
 
 -- ---- a part from a place on, as it is lent
 module _ (w : List ℕ) (a k : ℕ) (fits : a + k ≤ length w) where

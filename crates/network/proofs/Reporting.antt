@@ -2,11 +2,11 @@
 use mathlib.Core.Path.{_≡_, refl, sym, ap, _∙_}
 use mathlib.Core.Bool.{Bool, true, false, cond, _&&_}
 use mathlib.Core.List.{List, [], _∷_, _++_, append-nil}
-use Prim.Native.Nat.{ℕ, zero, suc, _+_, _*_, _/_, _%_, _^_, _≤_, _<_, min}
+use Prim.Native.Nat.{ℕ, zero, suc, _+_, _*_, _%_, _^_, _≤_, _<_, min}
 use native.Mathlib.Omega.{arith}
 use native.Mathlib.Numerals.{add-one}
 use native.Mathlib.Nat.{zero-div}
-use lib.ListN.{length, getD, set, take, drop, List·getD-map, List·getD-eq-default}
+use lib.ListN.{length, getD, set, take, List·getD-map, List·getD-eq-default}
 use lib.Seq.{getD-take, take-suc-set, drop-set-lt}
 use lib.Dec.{eqb, ltb}
 use borrow.Author.Tests.{lt-ltb, le-ltb, ltb-true, ltb-false, eq-eqb, ne-eqb, eqb-true, eqb-false}
@@ -26,10 +26,10 @@ use Rattle.network.specs.Network.{Network, noStamp, noRecord, messageOps
 use Rattle.network.specs.Steps.{when, noSuchSite, someBelow}
 use Rattle.network.specs.Waiting.{writesItem, onLine, isWaiting, waitingNumber, named, occurrences, EachOnce, Collected}
 use Rattle.network.specs.Calls.{waiting, accepted, perform}
-use Rattle.network.specs.InWords.{networkIn, inRange, meaning, numberIn}
+use Rattle.network.specs.InWords.{networkIn, inRange, numberIn}
 use Rattle.network.specs.Promises.{Performed}
-use Rattle.network.proofs.Assembled.{Range, partsOf, range-parts, line-read}
-use Rattle.network.proofs.Performs.{records-count, items-count, shaped-range, shaped-well, meaning-some, number-none, number-shaped, site-found, site-first, performs-refused, performs-accepted}
+use Rattle.network.proofs.Assembled.{partsOf, range-parts, line-read}
+use Rattle.network.proofs.Performs.{records-count, items-count, shaped-range, shaped-well, meaning-some, number-shaped, site-found, site-first, performs-refused, performs-accepted}
 use Rattle.network.proofs.Sent.{some-below-at}
 
 -- ---- message i of a line, by its name

@@ -6,7 +6,7 @@ use Prim.Native.Nat.{ℕ}
 use lib.IntN.{ℤ}
 use lib.Dec.{eqb}
 use Rattle.timestamp.specs.Timestamp.{Stamp}
-use Rattle.site.specs.Operations.{worked, valuesRead}
+use Rattle.site.specs.Operations.{valuesRead}
 use Rattle.network.specs.Network.{Network, noStamp, siteAt}
 use Rattle.network.specs.Steps.{setUpNumber, setUpNetwork, opsOf, commitNumber, commitNetwork, recordOf, dummyNumber, dummyNetwork, epochNumber, epochNetwork, deliverNumber, deliverNetwork, scheduleNumber, scheduleNetwork, chosen, headStamp}
 use Rattle.network.specs.Waiting.{waitingNumber}

@@ -10,7 +10,7 @@ use Rattle.timestamp.specs.Timestamp.{Stamp, pairOf, room, none}
 use Rattle.site.specs.Operations.{Op, valuesRead}
 use Rattle.placement.specs.InWords.{itemsMost}
 use Rattle.network.specs.Network.{noStamp}
-use Rattle.network.specs.Calls.{Call, waiting, Outcome, perform}
+use Rattle.network.specs.Calls.{Call, waiting, perform}
 use Rattle.network.specs.Waiting.{EachOnce}
 use Rattle.network.specs.Steps.{recordOf, commitNetwork}
 use Rattle.network.specs.InWords.{networkIn, inRange, meaning}

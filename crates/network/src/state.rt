@@ -19,7 +19,7 @@ ghost use lib.ListN.{length, getD};
 ghost use Rattle.timestamp.specs.Timestamp.{stampOf};
 ghost use Rattle.site.specs.Operations.{worked};
 ghost use Rattle.site.specs.Site.{committed, dummied, atEpoch, received};
-ghost use Rattle.site.specs.InWords.{opsIn, opsMost, opsSize};
+ghost use Rattle.site.specs.InWords.{opsIn, opsMost};
 ghost use Rattle.placement.specs.Masks.{maskOf};
 ghost use Rattle.placement.specs.Placement.{some, isLine, hasParents, owns, copies};
 ghost use Rattle.placement.specs.InWords.{sitesMost};

@@ -1,6 +1,6 @@
 -- `collect` asks one item after another: those below k that are waiting have been put down, in order.
 use mathlib.Core.Path.{_≡_, refl, _∙_}
-use Prim.Native.Nat.{ℕ, _≤_, _-_}
+use Prim.Native.Nat.{_≤_, _-_}
 use native.Mathlib.Omega.{arith}
 use lib.ListN.{length, getD, take}
 use Rattle.placement.specs.InWords.{itemsMost}

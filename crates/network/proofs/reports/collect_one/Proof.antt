@@ -1,5 +1,5 @@
 -- `collect_one` puts the item behind those before it, where it is waiting.
-use mathlib.Core.Path.{_≡_, sym, _∙_}
+use mathlib.Core.Path.{sym, _∙_}
 use native.Mathlib.Omega.{arith}
 use borrow.Author.Tests.{not-true, not-false}
 use Rattle.network.specs.Waiting.{isWaiting}

@@ -1,7 +1,7 @@
 -- `is_waiting` asks for a copy, then leaves at the first line that carries a write of the item.
 use mathlib.Core.Path.{_≡_, refl, sym, _∙_}
 use mathlib.Core.Bool.{false}
-use Prim.Native.Nat.{ℕ, _≤_, _-_}
+use Prim.Native.Nat.{_≤_, _-_}
 use native.Mathlib.Omega.{arith}
 use borrow.Author.Tests.{not-true, not-false}
 use Rattle.placement.specs.InWords.{sitesMost}

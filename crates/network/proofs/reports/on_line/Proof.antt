@@ -1,8 +1,8 @@
 -- `on_line` leaves at the first message that writes the item.
 use mathlib.Core.Path.{_≡_, refl, sym, _∙_}
-use Prim.Native.Nat.{ℕ, _+_, _*_, _≤_, _<_, _-_}
+use Prim.Native.Nat.{_+_, _*_, _≤_, _-_}
 use native.Mathlib.Omega.{arith}
-use lib.ListN.{length, drop}
+use lib.ListN.{drop}
 use Rattle.placement.specs.Placement.{some}
 use Rattle.placement.specs.InWords.{sitesMost}
 use Rattle.placement.proofs.Walks.{some-true, some-next, some-done}

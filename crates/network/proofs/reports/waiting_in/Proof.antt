@@ -1,5 +1,5 @@
 -- `waiting_in` refuses with its number, or collects the items.
-use mathlib.Core.Path.{_≡_, refl, sym, subst, _∙_}
+use mathlib.Core.Path.{refl, sym, subst, _∙_}
 use mathlib.Core.List.{[]}
 use Prim.Native.Nat.{ℕ}
 use Rattle.network.specs.Network.{noStamp}
