@@ -1,11 +1,11 @@
 -- A site, a line or a record lent as a part of the state: what is read of it, and what a step on it does to the network.
-use mathlib.Core.Path.{_≡_, refl, sym, ap, ap₂, _∙_}
-use mathlib.Core.Bool.{Bool, true}
+use mathlib.Core.Path.{_≡_, sym, ap, ap₂, _∙_}
+use mathlib.Core.Bool.{true}
 use mathlib.Core.List.{List, []}
 use Prim.Native.Nat.{ℕ, _+_, _-_, _*_, _≤_, _<_, min}
 use native.Mathlib.Omega.{arith}
 use lib.ListN.{length, getD, set}
-use Rattle.words.specs.Words.{part, put, overlaid, every, Stepped}
+use Rattle.words.specs.Words.{part, put, overlaid, Stepped}
 use Rattle.words.proofs.Parts.{part-length, part-part, lent-part, lent-put, lent-size}
 use Rattle.words.proofs.Chunks.{chunks-length}
 use Rattle.words.proofs.Walks.{every-at, overlaid-same}
@@ -19,9 +19,9 @@ use Rattle.records.specs.Records.{Record}
 use Rattle.records.specs.InWords.{recordIn, recordSize, opsAt, Written}
 use Rattle.records.proofs.Laws.{count-law}
 use Rattle.network.specs.Layout.{sitesAt, sitesSize, linesAt, linesSize, linesMost, historyAt, stateSize}
-use Rattle.network.specs.Network.{Network, siteAt, withSite, withLine, withRecord, noRecord}
+use Rattle.network.specs.Network.{siteAt, withSite, withLine, withRecord, noRecord}
 use Rattle.network.specs.InWords.{siteWords, lineWords, networkIn, inRange, SiteStep, LineStep, RecordStep}
-use Rattle.network.proofs.Assembled.{Range, partsOf, range-parts, line-words, line-read, line-put, line-range, site-words, site-read, site-put, site-range, record-read, longer, record-put, record-range}
+use Rattle.network.proofs.Assembled.{partsOf, range-parts, line-words, line-read, line-put, line-range, site-words, site-read, site-put, site-range, record-read, longer, record-put, record-range}
 
 -- ---- a part from a place on, as it is lent
 module _ (w : List ℕ) (a k : ℕ) (fits : a + k ≤ length w) where
@@ -99,19 +99,26 @@ module _ (w : List ℕ) (size : length w ≡ stateSize) where
     unfolding partsOf
     record-lent = ap recordIn (lent-part w recordStart recordSize) ∙ sym (record-read w size (range-parts w e .few-records) k b)
 
-    -- its operations' words, copied over as many others
+    -- its operations' words, as they are lent, and copied over as many others
+    ops-lent : opsIn (length (getD (networkIn w .history) k noRecord .ops)) (part w (recordStart + opsAt) (recordStart + opsAt + opsSize - (recordStart + opsAt))) ≡ getD (networkIn w .history) k noRecord .ops
+    unfolding partsOf recordIn
+    ops-lent =
+        let own = part w recordStart recordSize in
+        let read = record-read w size (range-parts w e .few-records) k b in
+        ap₂ opsIn (ap (λ (r : Record). length (r .ops)) read ∙ count-law own) (lent-part w (recordStart + opsAt) opsSize ∙ sym (part-part w recordStart recordSize opsAt opsSize (omega arith)))
+        ∙ sym (ap (λ (r : Record). r .ops) read)
+
+    pub ops-counted : (n : ℕ) → n ≡ length (getD (networkIn w .history) k noRecord .ops)
+        → opsIn n (part w (recordStart + opsAt) (recordStart + opsAt + opsSize - (recordStart + opsAt))) ≡ getD (networkIn w .history) k noRecord .ops
+    ops-counted n is = ap (λ (m : ℕ). opsIn m (part w (recordStart + opsAt) (recordStart + opsAt + opsSize - (recordStart + opsAt)))) is ∙ ops-lent
+
     pub record-copied : (d out : List ℕ) → length d ≡ opsSize → out ≡ overlaid d (part w (recordStart + opsAt) (recordStart + opsAt + opsSize - (recordStart + opsAt)))
         → opsIn (length (getD (networkIn w .history) k noRecord .ops)) out ≡ getD (networkIn w .history) k noRecord .ops
-    unfolding partsOf recordIn
+    unfolding partsOf
     record-copied d out long is =
         let few = range-parts w e .few-records in
-        let own = part w recordStart recordSize in
-        let ops = part w (recordStart + opsAt) opsSize in
-        let from = lent-part w (recordStart + opsAt) opsSize in
-        let read = record-read w size few k b in
-        let same : out ≡ part own opsAt opsSize
-        = is ∙ ap (overlaid d) from ∙ overlaid-same d ops (part-length w (recordStart + opsAt) opsSize (omega arith) ∙ sym long) ∙ sym (part-part w recordStart recordSize opsAt opsSize (omega arith)) in
-        ap₂ opsIn (ap (λ (r : Record). length (r .ops)) read ∙ count-law own) same ∙ sym (ap (λ (r : Record). r .ops) read)
+        let ops = part w (recordStart + opsAt) (recordStart + opsAt + opsSize - (recordStart + opsAt)) in
+        ap (opsIn (length (getD (networkIn w .history) k noRecord .ops))) (is ∙ overlaid-same d ops (lent-has w (recordStart + opsAt) opsSize (omega arith) ∙ sym long)) ∙ ops-lent
 
   -- a record more, written to the part behind the others
   pub record-added : inRange w ≡ true → getD w 2 0 < recordsMost → (k : ℕ) → k ≡ getD w 2 0 → (site count : ℕ) → 1 ≤ count → count ≤ opsMost → (stamp : Stamp) (ops : List ℕ) → length ops ≡ opsSize → (ys : List ℕ)

@@ -14,4 +14,6 @@ pub mod Asked
 pub mod Committing
 pub mod SettingUp
 pub mod OperationWords
+pub mod Places
+pub mod Reporting
 pub mod Scheduling

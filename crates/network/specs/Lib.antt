@@ -1,6 +1,7 @@
 pub mod Layout
 pub mod Network
 pub mod Steps
+pub mod Waiting
 pub mod Calls
 pub mod InWords
 pub mod Promises

@@ -1,15 +1,17 @@
 -- What the contracts of the calls say: the answer and the state's words are those of `perform`, and where it refuses every word is as it came.
 use mathlib.Core.Path.{_≡_}
-use mathlib.Core.List.{List, map}
+use mathlib.Core.List.{List, [], map}
 use Prim.Native.Nat.{ℕ, _-_}
-use lib.IntN.{ℤ, pos}
-use lib.ListN.{drop, replicate}
+use lib.IntN.{ℤ}
+use lib.ListN.{take, drop, replicate}
 use mathlib.Core.Bool.{true}
 use Rattle.timestamp.specs.declared.Timestamp.{Timestamp}
 use Rattle.timestamp.specs.Timestamp.{Stamp, pairOf, room, none}
 use Rattle.site.specs.Operations.{Op, valuesRead}
-use Rattle.site.specs.InWords.{opsMost}
-use Rattle.network.specs.Calls.{Call, Outcome, perform}
+use Rattle.placement.specs.InWords.{itemsMost}
+use Rattle.network.specs.Network.{noStamp}
+use Rattle.network.specs.Calls.{Call, waiting, perform}
+use Rattle.network.specs.Waiting.{EachOnce}
 use Rattle.network.specs.Steps.{recordOf, commitNetwork}
 use Rattle.network.specs.InWords.{networkIn, inRange, meaning}
 
@@ -27,9 +29,9 @@ pub record Blank (t : Timestamp) : Type 0 where
   pub len-is : t .len ≡ 0
   pub tuples-are : map pairOf (t .tuples) ≡ replicate room none
 
--- of the eight places of values those past the first `count` are 0
-abbrev pub zeroPast : ℕ → List ℤ → Type 0
-zeroPast count vs = drop count vs ≡ replicate (opsMost - count) (pos 0)
+-- of so many places those past the first `count` are 0
+abbrev pub zeroPast : {A : Type 0} → A → ℕ → ℕ → List A → Type 0
+zeroPast zero places count vs = drop count vs ≡ replicate (places - count) zero
 
 -- what a commit of the operations `os` at site i that no cause refuses answers and leaves
 pub record Made (entry exit : List ℕ) (i : ℕ) (os : List Op) (number : ℕ) (stamp : Stamp) (values : List ℤ) : Type 0 where
@@ -38,3 +40,10 @@ pub record Made (entry exit : List ℕ) (i : ℕ) (os : List Op) (number : ℕ) 
   pub values-are : values ≡ valuesRead (recordOf (networkIn entry) i os .ops)
   pub network-is : networkIn exit ≡ commitNetwork (networkIn entry) i os
   pub ranged : inRange exit ≡ true
+
+-- what a waiting report at a site answers, the first `count` of 64 places being its items; the state is as it was
+pub record Reported (site : ℕ) (entry : List ℕ) (number count : ℕ) (items : List ℕ) : Type 0 where
+  pub performed : Performed (waiting site) entry entry number 0 noStamp []
+  pub each-once : number ≡ 0 → EachOnce (networkIn entry) site (take count items)
+  pub none-refused : (number ≡ 0 → ⊥) → count ≡ 0
+  pub zero-past : zeroPast 0 itemsMost count items

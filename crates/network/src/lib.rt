@@ -1,4 +1,4 @@
-// A network of sites in one lent array of words: set-up, commit, dummy, epoch, deliver, schedule.
+// A network of sites in one lent array of words: set-up, commit, dummy, epoch, deliver, schedule, waiting report.
 mod causes; // causes.rt: causes that several steps share
 mod commits; // commits.rt: commit
 mod deliveries; // deliveries.rt: deliver
@@ -7,6 +7,7 @@ mod dummies; // dummies.rt: dummy
 mod epochs; // epochs.rt: epoch
 mod operations; // operations.rt: a commit's operations in words, and the values read
 mod placing; // placing.rt: set-up
+mod reports; // reports.rt: waiting report
 mod schedules; // schedules.rt: schedule
 mod sending; // sending.rt: a message to several sites
 mod shape; // shape.rt: whether the words are those of a network
@@ -17,6 +18,7 @@ pub use deliveries::deliver;
 pub use dummies::dummy;
 pub use epochs::epoch;
 pub use placing::set_up;
+pub use reports::waiting;
 pub use schedules::schedule;
 use timestamp::Timestamp;
 
@@ -39,6 +41,13 @@ pub struct Scheduled {
     pub number: u32,
     pub parent: u32,
     pub stamp: Timestamp,
+}
+
+// What a waiting report answers: its number, and the first `count` items, those that are waiting; all zero where refused.
+pub struct Report {
+    pub number: u32,
+    pub count: usize,
+    pub items: [u32; 64],
 }
 
 // Where the parts of a state start, and its size.

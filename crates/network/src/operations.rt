@@ -6,7 +6,9 @@ ghost use lib.IntN.{pos};
 ghost use lib.ListN.{length, take, drop, getD};
 ghost use Rattle.site.specs.Operations.{valuesRead};
 ghost use Rattle.site.specs.InWords.{opAt, opsIn, opsMost};
+ghost use Rattle.placement.specs.Placement.{some};
 ghost use Rattle.network.specs.Steps.{opsOf};
+ghost use Rattle.network.specs.Waiting.{writesItem};
 ghost use Rattle.network.specs.Promises.{zeroPast};
 
 // The values that reads gave: the first `count` of eight places, in order; the rest are 0.
@@ -34,7 +36,7 @@ pub(crate) fn op_words(kinds: &[u8], items: &[u32], values: &[i32]) -> [u32; 24]
 pub(crate) fn values_read(ops: &[u32], n: usize) -> Given
     requires { ⌜ n ≤ opsMost ⌝ }
     ensures { λ r. ⌜ take (r .count) (r .values) ≡ valuesRead (opsIn n (now (ops .entry))) ⌝ }
-    ensures { λ r. ⌜ zeroPast (r .count) (r .values) ⌝ }
+    ensures { λ r. ⌜ zeroPast (pos 0) opsMost (r .count) (r .values) ⌝ }
 {
     let mut values = [0i32; 8];
     let mut count = 0;
@@ -44,6 +46,32 @@ pub(crate) fn values_read(ops: &[u32], n: usize) -> Given
         i += 1;
     }
     Given { count, values }
+}
+
+// Whether one of the first n operations writes the item.
+pub(crate) fn writes_item(ops: &[u32], n: usize, item: u32) -> bool
+    requires { ⌜ n ≤ opsMost ⌝ }
+    ensures { λ r. ⌜ r ≡ some (writesItem item) (opsIn n (now (ops .entry))) ⌝ }
+{
+    let mut k = 0;
+    while k < n {
+        if is_write_of(ops, k, item) {
+            return true;
+        }
+        k += 1;
+    }
+    false
+}
+
+// Whether operation k writes the item.
+fn is_write_of(ops: &[u32], k: usize, item: u32) -> bool
+    requires { ⌜ k < opsMost ⌝ }
+    ensures { λ r. ⌜ r ≡ writesItem item (opAt (now (ops .entry)) k) ⌝ }
+{
+    if words::word(ops, 3 * k) != 1 {
+        return false;
+    }
+    words::word(ops, 3 * k + 1) == item
 }
 
 // Operation i, from the lists of the fields, after the i before it.

@@ -6,6 +6,7 @@ use crate::LINES;
 use crate::RECORD;
 use crate::SITE;
 use crate::SITES;
+use crate::operations;
 use lines::Message;
 use timestamp::Count;
 use timestamp::Epoch;
@@ -18,15 +19,16 @@ ghost use lib.ListN.{length, getD};
 ghost use Rattle.timestamp.specs.Timestamp.{stampOf};
 ghost use Rattle.site.specs.Operations.{worked};
 ghost use Rattle.site.specs.Site.{committed, dummied, atEpoch, received};
-ghost use Rattle.site.specs.InWords.{opsIn, opsMost, opsSize};
+ghost use Rattle.site.specs.InWords.{opsIn, opsMost};
 ghost use Rattle.placement.specs.Masks.{maskOf};
-ghost use Rattle.placement.specs.Placement.{isLine, hasParents, owns, copies};
+ghost use Rattle.placement.specs.Placement.{some, isLine, hasParents, owns, copies};
 ghost use Rattle.placement.specs.InWords.{sitesMost};
 ghost use Rattle.lines.specs.Lines.{commit, noLine, heldMost, sentOrSame, deliveredOrSame, takenOrSame};
 ghost use Rattle.lines.specs.InWords.{messageOf, recordsMost};
 ghost use Rattle.network.specs.Layout.{stateSize, linesMost};
 ghost use Rattle.network.specs.Network.{siteAt, noRecord, noStamp};
 ghost use Rattle.network.specs.Steps.{noSuchSite, countAtMost};
+ghost use Rattle.network.specs.Waiting.{writesItem, named};
 ghost use Rattle.network.specs.InWords.{networkIn, inRange, SiteStep, LineStep, RecordStep};
 ghost use Rattle.network.specs.Promises.{Blank};
 
@@ -116,6 +118,14 @@ pub(crate) fn line_first(state: &[u32], k: usize) -> Message
     let a = LINES + k * LINE;
     let e = a + LINE;
     lines::first(&state[a..e])
+}
+
+// The name of message i of a line: 256 and more where it is a dummy.
+pub(crate) fn line_name(state: &[u32], k: usize, i: usize) -> u32
+    requires { ⌜ (length (now state) ≡ stateSize) × (k < linesMost) × (i < length (getD (networkIn (now state) .lines) k noLine .messages)) ⌝ }
+    ensures { λ r. ⌜ min r recordsMost ≡ named (getD (getD (networkIn (now (state .entry)) .lines) k noLine .messages) i (commit 0)) ⌝ }
+{
+    words::word(state, LINES + k * LINE + 2 + i * 19)
 }
 
 pub(crate) fn line_send(state: &mut [u32], k: usize, m: Message)
@@ -247,6 +257,17 @@ pub(crate) fn record_count(state: &[u32], k: usize) -> usize
     let a = HISTORY + k * RECORD;
     let e = a + RECORD;
     records::count(&state[a..e])
+}
+
+// Whether an operation of a record writes the item.
+pub(crate) fn record_writes(state: &[u32], k: usize, item: u32) -> bool
+    requires { ⌜ (length (now state) ≡ stateSize) × (inRange (now state) ≡ true) × (k < getD (now state) 2 0) × (k < recordsMost) ⌝ }
+    ensures { λ r. ⌜ r ≡ some (writesItem item) (getD (networkIn (now (state .entry)) .history) k noRecord .ops) ⌝ }
+{
+    let n = record_count(state, k);
+    let a = HISTORY + k * RECORD + 20;
+    let e = a + 24;
+    operations::writes_item(&state[a..e], n, item)
 }
 
 // The words of a record's operations.

@@ -1,4 +1,4 @@
-// The ten lines of the worked example as calls on one state, then refusals, each answer printed as a script's line.
+// The ten lines of the worked example as calls on one state, then refusals, each answer printed as a script's line; then waiting reports.
 use libc::STDOUT_FILENO;
 use network::WORDS;
 use timestamp::Timestamp;
@@ -7,10 +7,12 @@ fn main() {
     let mut state = [0u32; WORDS];
     number(network::deliver(&mut state, 0, 1));
     end();
+    report(&state, 0);
     ten_lines(&mut state);
     set_ups(&mut state);
     refusals(&mut state);
     going_on(&mut state);
+    waiting(&mut state);
 }
 
 // p 3 2 0 6 1 4 and the nine lines after it.
@@ -77,6 +79,68 @@ fn going_on(state: &mut [u32; WORDS]) {
     end();
     schedule(state, 1);
     read_and_write(state, 1, 0, 1, 2147483647);
+}
+
+// Item 2 has a copy at site 1 alone, item 1 at site 2 alone, item 0 at both.
+fn waiting(state: &mut [u32; WORDS]) {
+    let primaries = [0u32, 1, 0];
+    let masks = [6u8, 4, 2];
+    number(network::set_up(state, 3, 3, &primaries, &masks));
+    end();
+    report(state, 2);
+    report(state, 3);
+    write(state, 0, 0, 1);
+    write(state, 1, 1, 1);
+    number(network::deliver(state, 1, 2));
+    end();
+    report(state, 2);
+    write_twice(state, 0, 0, 2);
+    report(state, 2);
+    dummy(state, 0);
+    report(state, 1);
+    report(state, 2);
+    number(network::deliver(state, 0, 2));
+    end();
+    schedule(state, 2);
+    report(state, 2);
+    report(state, 0);
+}
+
+// The number of a waiting report and, since the order of its items is left open, how often each of the items 0, 1 and 2 stands in it.
+fn report(state: &[u32; WORDS], site: u32) {
+    let answer = network::waiting(state, site);
+    let items = answer.items;
+    number(answer.number);
+    if answer.number == 0 {
+        space();
+        number(times(&items, answer.count, 0));
+        space();
+        number(times(&items, answer.count, 1));
+        space();
+        number(times(&items, answer.count, 2));
+    }
+    end();
+}
+
+// How often k stands in the first `count` of the items.
+fn times(items: &[u32; 64], count: usize, k: u32) -> u32 {
+    let mut n = 0u32;
+    let mut i = 0usize;
+    while i < 64 {
+        if i < count && items[i] == k {
+            n = std::num::wrapping_add_u32(n, 1);
+        }
+        i += 1;
+    }
+    n
+}
+
+// Writes of one item, twice, and of another, in one commit.
+fn write_twice(state: &mut [u32; WORDS], site: u32, item: u32, other: u32) {
+    let kinds = [1u8, 1, 1];
+    let items = [item, other, item];
+    let values = [7i32, 8, 9];
+    committed(network::commit(state, site, &kinds, &items, &values));
 }
 
 fn write(state: &mut [u32; WORDS], site: u32, item: u32, value: i32) {

@@ -16,7 +16,8 @@ use Rattle.placement.specs.InWords.{sitesMost, itemsMost}
 use Rattle.lines.specs.InWords.{recordsMost}
 use Rattle.network.specs.Network.{Network, noRecord, siteAt, lineAt}
 use Rattle.network.specs.Steps.{when, outside, itemsOf, noSuchSite, countAtMost, someBelow, someLineFull, opsOf, opNumber, due, wrongLists, setUpNumber, commitNumber, dummyNumber, epochNumber, deliverNumber, scheduleNumber}
-use Rattle.network.specs.Calls.{Call, setUp, commit, dummy, epoch, deliver, schedule, perform}
+use Rattle.network.specs.Waiting.{waitingNumber}
+use Rattle.network.specs.Calls.{Call, setUp, commit, dummy, epoch, deliver, schedule, waiting, perform}
 use Rattle.one_copy.specs.Agreement.{Known, StampsDiffer, Never6}
 use Rattle.one_copy.proofs.Alike.{Alike, matched-length, matched-at}
 use Rattle.one_copy.proofs.Follows.{Follows, always}
@@ -114,6 +115,10 @@ module _ (n : Network) where
       when-not6 (noSuchSite n j) 7 refl
       (when-not6 (not (hasParents (n .items) j)) 19 refl (when-not6 (someBelow (λ p. isLine (n .items) p j && eqb (lineAt n p j .arrived) 0) sitesMost) 20 refl zero-not6))
 
+  waiting-not6 : (i : ℕ) → Not6 (waitingNumber n i)
+  unfolding waitingNumber
+  waiting-not6 i = when-not6 (noSuchSite n i) 7 refl zero-not6
+
   call-not6 : (c : Call) → Not6 (perform (some n) c .number)
   unfolding perform
   call-not6 (setUp sites items ps ms) = by-number (setUpNumber sites items ps ms) (λ e. rw e zero-not6) (λ e. rw e (set-up-not6 sites items ps ms))
@@ -122,6 +127,7 @@ module _ (n : Network) where
   call-not6 (epoch i h) = by-number (epochNumber n i h) (λ e. rw e zero-not6) (λ e. rw e (epoch-not6 i h))
   call-not6 (deliver p c) = by-number (deliverNumber n p c) (λ e. rw e zero-not6) (λ e. rw e (deliver-not6 p c))
   call-not6 (schedule j) = by-number (scheduleNumber n j) (λ e. rw e zero-not6) (λ e. rw e (schedule-not6 j))
+  call-not6 (waiting i) = by-number (waitingNumber n i) (λ e. rw e zero-not6) (λ e. rw e (waiting-not6 i))
 
 never : (k : Known) → Follows k → (c : Call) → perform (k .state) c .number ≡ 6 → ⊥
 never k f c = eqb-false (perform (k .state) c .number) 6 (ap (λ (s : Option Network). eqb (perform s c .number) 6) (f .state-is) ∙ call-not6 (f .network) c .differs)

@@ -17,7 +17,8 @@ use Rattle.site.specs.Site.{Site, committed, dummied, atEpoch, received}
 use Rattle.records.specs.Records.{Record}
 use Rattle.network.specs.Network.{Network, noStamp, noSite, siteAt}
 use Rattle.network.specs.Steps.{startSites, setUpNumber, setUpNetwork, opsOf, commitNumber, commitNetwork, recordOf, dummyNumber, dummyNetwork, epochNumber, epochNetwork, deliverNumber, deliverNetwork, scheduleNumber, scheduleNetwork, chosen, head, headStamp, writesFor}
-use Rattle.network.specs.Calls.{Call, setUp, commit, dummy, epoch, deliver, schedule, Outcome, refused, accepted, judged, perform}
+use Rattle.network.specs.Waiting.{waitingNumber}
+use Rattle.network.specs.Calls.{Call, setUp, commit, dummy, epoch, deliver, schedule, waiting, Outcome, refused, accepted, judged, perform}
 use Rattle.network.proofs.Chosen.{received-stamp}
 use Rattle.one_copy.specs.Book.{Book, stampIn, withStamp, startStamps, noted}
 use Rattle.one_copy.specs.Agreement.{Known, nothingKnown, witnessed, learned, learnedAll, Always}
@@ -173,19 +174,30 @@ module _ (k : Known) (f : Follows k) where
         answers-are = f .answers-are;
       }
 
-  deliver-follows : (p c : ℕ) → deliverNumber n p c ≡ 0 → Follows (witnessed k (deliver p c) (accepted 0 noStamp [] (deliverNetwork n p c)))
-  unfolding noted deliverNetwork
-  deliver-follows p c z =
+  -- another network with the same items, timestamps and history, of which the book hears nothing
+  abbrev stillAt : Network → Known
+  stillAt m = record { state = some m; book = k .book; items = k .items; values = k .values; answered = k .answered; booked = k .booked }
+
+  still-follows : (m : Network) → Invariant m → m .items ≡ n .items → map (λ (s : Site). s .stamp) (m .sites) ≡ map (λ (s : Site). s .stamp) (n .sites) → m .history ≡ n .history → Follows (stillAt m)
+  still-follows m inv items stamps history =
       record {
-        network = deliverNetwork n p c;
+        network = m;
         state-is = refl;
-        inv = deliver-keeps n (f .inv) p c z;
-        items-are = f .items-are;
-        stamps-are = f .stamps-are;
-        commits-alike = f .commits-alike;
-        values-are = f .values-are;
+        inv = inv;
+        items-are = f .items-are ∙ sym items;
+        stamps-are = stamps ∙ f .stamps-are;
+        commits-alike = subst (λ (h : List Record). AllAlike h (k .book .commits)) (sym history) (f .commits-alike);
+        values-are = f .values-are ∙ ap valuesOf (sym history);
         answers-are = f .answers-are;
       }
+
+  deliver-follows : (p c : ℕ) → deliverNumber n p c ≡ 0 → Follows (witnessed k (deliver p c) (accepted 0 noStamp [] (deliverNetwork n p c)))
+  unfolding noted deliverNetwork
+  deliver-follows p c z = still-follows (deliverNetwork n p c) (deliver-keeps n (f .inv) p c z) refl refl refl
+
+  waiting-follows : (i : ℕ) → waitingNumber n i ≡ 0 → Follows (witnessed k (waiting i) (accepted 0 noStamp [] n))
+  unfolding noted
+  waiting-follows i z = still-follows n (f .inv) refl refl refl
 
   schedule-follows : (j : ℕ) → scheduleNumber n j ≡ 0
       → Follows (witnessed k (schedule j) (accepted (chosen n j) (headStamp n (chosen n j) j) [] (scheduleNetwork n j)))
@@ -215,6 +227,7 @@ call-follows k f (dummy i) = judged-follows k f (dummy i) _ _ refl (dummy-follow
 call-follows k f (epoch i e) = judged-follows k f (epoch i e) _ _ refl (epoch-follows k f i e)
 call-follows k f (deliver p c) = judged-follows k f (deliver p c) _ _ refl (deliver-follows k f p c)
 call-follows k f (schedule j) = judged-follows k f (schedule j) _ _ refl (schedule-follows k f j)
+call-follows k f (waiting i) = judged-follows k f (waiting i) _ _ refl (waiting-follows k f i)
 
 calls-follow : (k : Known) → Follows k → (cs : List Call) → Follows (learnedAll k cs)
 calls-follow k f [] = f

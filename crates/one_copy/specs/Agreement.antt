@@ -13,7 +13,7 @@ use Rattle.placement.specs.Placement.{Item, owns, copies}
 use Rattle.records.specs.Records.{Record}
 use Rattle.network.specs.Network.{Network, noRecord, siteAt}
 use Rattle.network.specs.Steps.{itemsOf}
-use Rattle.network.specs.Calls.{Call, setUp, commit, dummy, epoch, deliver, schedule, Outcome, perform}
+use Rattle.network.specs.Calls.{Call, setUp, commit, dummy, epoch, deliver, schedule, waiting, Outcome, perform}
 use Rattle.one_copy.specs.Book.{Book, noBook, stampIn, kept}
 use Rattle.one_copy.specs.Run.{zeros, shown, valueAt}
 
@@ -43,6 +43,7 @@ placedBy (dummy i) xs = xs
 placedBy (epoch i e) xs = xs
 placedBy (deliver p c) xs = xs
 placedBy (schedule j) xs = xs
+placedBy (waiting i) xs = xs
 
 abbrev pub valuesBy : Call → List ℤ → List (List ℤ) → List (List ℤ)
 valuesBy (setUp sites items ps ms) vs all = []
@@ -51,6 +52,7 @@ valuesBy (dummy i) vs all = all
 valuesBy (epoch i e) vs all = all
 valuesBy (deliver p c) vs all = all
 valuesBy (schedule j) vs all = all
+valuesBy (waiting i) vs all = all
 
 -- the timestamps of the commits and dummies, with one more taken from `at` the call's site
 abbrev pub stampsBy : Call → (ℕ → Stamp) → List Stamp → List Stamp
@@ -60,6 +62,7 @@ stampsBy (dummy i) at all = all ++ (at i ∷ [])
 stampsBy (epoch i e) at all = all
 stampsBy (deliver p c) at all = all
 stampsBy (schedule j) at all = all
+stampsBy (waiting i) at all = all
 
 -- one more call, with what it answered and left
 abbrev pub witnessed : Known → Call → Outcome → Known
