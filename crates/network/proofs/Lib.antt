@@ -14,4 +14,5 @@ pub mod Asked
 pub mod Committing
 pub mod SettingUp
 pub mod OperationWords
+pub mod Places
 pub mod Scheduling

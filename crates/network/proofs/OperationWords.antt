@@ -2,13 +2,13 @@
 use mathlib.Core.Path.{_≡_, refl, sym, ap, _∙_}
 use mathlib.Core.Bool.{Bool, true, false, cond}
 use mathlib.Core.List.{List, [], _∷_, _++_, append-nil}
-use Prim.Native.Nat.{ℕ, zero, suc, _+_, _*_, _-_, _≤_, _<_}
+use Prim.Native.Nat.{ℕ, zero, suc, _+_, _*_, _≤_, _<_}
 use native.Mathlib.Omega.{arith}
 use native.Mathlib.Numerals.{add-one}
 use native.Mathlib.Nat.{not-suc-le-zero}
 use lib.IntN.{ℤ, pos}
-use lib.ListN.{length, getD, set, take, drop, replicate}
-use lib.Seq.{take-all, take-suc-set, drop-drop}
+use lib.ListN.{length, getD, set, take}
+use lib.Seq.{take-all, take-suc-set}
 use borrow.Author.Tests.{eq-eqb, ne-eqb}
 use mir.Val.{toZ, ofZ, SFits}
 use mir.ValLaws.{toZ-ofZ}
@@ -19,7 +19,6 @@ use Rattle.site.specs.Operations.{Op, reads, valuesRead}
 use Rattle.site.specs.InWords.{opAt, opsIn, opsMost, opsSize}
 use Rattle.site.proofs.Laws.{op-word, laid-op, ops-last}
 use Rattle.network.specs.Steps.{opsOf}
-use Rattle.network.specs.Promises.{zeroPast}
 
 -- ---- operations from the lists of their fields
 -- operation i of the lists
@@ -91,22 +90,3 @@ module _ (ops : List ℕ) (i kind : ℕ) (k : kind ≡ getD ops (3 * i) 0) (coun
       ∙ take-suc-set vs count (again z) h
       ∙ ap (λ (x : ℤ). take count vs ++ (x ∷ [])) value
       ∙ sym (rw (eq-eqb (opAt ops i .kind) 0 (sym same-kind ∙ n)))
-
--- ---- the places past the values
-zeros-same : (m n : ℕ) → m ≡ n → replicate m (pos 0) ≡ replicate n (pos 0)
-zeros-same m n e = ap (λ (k : ℕ). replicate k (pos 0)) e
-
-drop-zeros : (k n : ℕ) → drop k (replicate n (pos 0)) ≡ replicate (n - k) (pos 0)
-drop-zeros zero n = zeros-same n (n - 0) (omega arith)
-drop-zeros (suc k) zero = zeros-same 0 (0 - suc k) (omega arith)
-drop-zeros (suc k) (suc n) = drop-zeros k n ∙ zeros-same (n - k) (suc n - suc k) (omega arith)
-
-pub zero-past-next : (count count′ : ℕ) (vs vs′ : List ℤ) → zeroPast count vs → count ≤ count′ → drop count′ vs′ ≡ drop count′ vs → zeroPast count′ vs′
-zero-past-next count count′ vs vs′ z h e =
-    let step : count′ ≡ count + (count′ - count) = omega arith in
-    e
-    ∙ ap (λ (k : ℕ). drop k vs) step
-    ∙ sym (drop-drop (count′ - count) count vs)
-    ∙ ap (λ (l : List ℤ). drop (count′ - count) l) z
-    ∙ drop-zeros (count′ - count) (opsMost - count)
-    ∙ zeros-same (opsMost - count - (count′ - count)) (opsMost - count′) (omega arith)

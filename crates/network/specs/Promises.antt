@@ -1,15 +1,14 @@
 -- What the contracts of the calls say: the answer and the state's words are those of `perform`, and where it refuses every word is as it came.
 use mathlib.Core.Path.{_≡_}
 use mathlib.Core.List.{List, map}
-use Prim.Native.Nat.{ℕ, _-_}
-use lib.IntN.{ℤ, pos}
+use Prim.Native.Nat.{ℕ, _-_, _≤_}
+use lib.IntN.{ℤ}
 use lib.ListN.{drop, replicate}
 use mathlib.Core.Bool.{true}
 use Rattle.timestamp.specs.declared.Timestamp.{Timestamp}
 use Rattle.timestamp.specs.Timestamp.{Stamp, pairOf, room, none}
 use Rattle.site.specs.Operations.{Op, valuesRead}
-use Rattle.site.specs.InWords.{opsMost}
-use Rattle.network.specs.Calls.{Call, Outcome, perform}
+use Rattle.network.specs.Calls.{Call, perform}
 use Rattle.network.specs.Steps.{recordOf, commitNetwork}
 use Rattle.network.specs.InWords.{networkIn, inRange, meaning}
 
@@ -27,9 +26,10 @@ pub record Blank (t : Timestamp) : Type 0 where
   pub len-is : t .len ≡ 0
   pub tuples-are : map pairOf (t .tuples) ≡ replicate room none
 
--- of the eight places of values those past the first `count` are 0
-abbrev pub zeroPast : ℕ → List ℤ → Type 0
-zeroPast count vs = drop count vs ≡ replicate (opsMost - count) (pos 0)
+-- of so many places the first `count` are used, and the rest are 0
+pub record Filled {A : Type 0} (z : A) (places count : ℕ) (vs : List A) : Type 0 where
+  pub fits : count ≤ places
+  pub rest-is : drop count vs ≡ replicate (places - count) z
 
 -- what a commit of the operations `os` at site i that no cause refuses answers and leaves
 pub record Made (entry exit : List ℕ) (i : ℕ) (os : List Op) (number : ℕ) (stamp : Stamp) (values : List ℤ) : Type 0 where

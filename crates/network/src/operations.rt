@@ -7,7 +7,7 @@ ghost use lib.ListN.{length, take, drop, getD};
 ghost use Rattle.site.specs.Operations.{valuesRead};
 ghost use Rattle.site.specs.InWords.{opAt, opsIn, opsMost};
 ghost use Rattle.network.specs.Steps.{opsOf};
-ghost use Rattle.network.specs.Promises.{zeroPast};
+ghost use Rattle.network.specs.Promises.{Filled};
 
 // The values that reads gave: the first `count` of eight places, in order; the rest are 0.
 pub struct Given {
@@ -34,7 +34,7 @@ pub(crate) fn op_words(kinds: &[u8], items: &[u32], values: &[i32]) -> [u32; 24]
 pub(crate) fn values_read(ops: &[u32], n: usize) -> Given
     requires { ⌜ n ≤ opsMost ⌝ }
     ensures { λ r. ⌜ take (r .count) (r .values) ≡ valuesRead (opsIn n (now (ops .entry))) ⌝ }
-    ensures { λ r. ⌜ zeroPast (r .count) (r .values) ⌝ }
+    ensures { λ r. ⌜ Filled (pos 0) opsMost (r .count) (r .values) ⌝ }
 {
     let mut values = [0i32; 8];
     let mut count = 0;

@@ -1,14 +1,13 @@
 -- `commit_done` works the operations, adds the record and sends the message: three steps on the network.
-use mathlib.Core.Path.{_≡_, refl, sym, ap, subst, subst₂, _∙_}
+use mathlib.Core.Path.{_≡_, refl, sym, ap, subst₂, _∙_}
 use mathlib.Core.Bool.{Bool, true, false, cond}
 use mathlib.Core.List.{List}
 use Prim.Native.Nat.{ℕ, min, _≤_, _<_}
 use native.Mathlib.Omega.{arith}
-use lib.IntN.{ℤ}
 use lib.ListN.{length, getD}
 use lib.Dec.{ltb}
 use borrow.Author.Tests.{lt-ltb}
-use Rattle.timestamp.specs.Timestamp.{Stamp, stampOf}
+use Rattle.timestamp.specs.Timestamp.{stampOf}
 use Rattle.site.specs.Operations.{Op, worked, valuesRead}
 use Rattle.site.specs.Site.{committed}
 use Rattle.site.specs.InWords.{opsIn, opsMost}
@@ -21,7 +20,7 @@ use Rattle.network.specs.Network.{Network, siteAt}
 use Rattle.network.specs.Steps.{someLineFull, due, recordOf}
 use Rattle.network.specs.InWords.{networkIn, inRange, SiteStep, RecordStep, SentStep}
 use Rattle.network.proofs.Performs.{shaped-range, site-below, site-step-below, records-count}
-use Rattle.network.proofs.Committing.{causes-none, stamp-now, history-now, room-now, network-now}
+use Rattle.network.proofs.Committing.{causes-none, stamp-now, room-now, network-now}
 use borrow.Author.Needs.{needs}
 use Rattle.network.proofs.commits.commit_done.Statement.{statement}
 use Rattle.network.proofs.commits.commit_done.Tie as tie

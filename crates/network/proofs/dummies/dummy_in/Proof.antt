@@ -3,15 +3,14 @@ use mathlib.Core.Path.{_≡_, refl, sym, ap, subst, _∙_}
 use mathlib.Core.Bool.{true}
 use Prim.Native.Nat.{ℕ, _<_}
 use native.Mathlib.Omega.{arith}
-use lib.ListN.{length, getD}
+use lib.ListN.{getD}
 use Rattle.timestamp.specs.Timestamp.{stampOf}
 use Rattle.site.specs.Site.{dummied}
 use Rattle.placement.specs.Masks.{bit}
 use Rattle.placement.specs.InWords.{sitesMost}
 use Rattle.lines.specs.Lines.{dummy as dummyMessage}
-use Rattle.network.specs.Layout.{stateSize}
 use Rattle.network.specs.Network.{siteAt}
-use Rattle.network.specs.Steps.{noSuchSite, someLineFull, dummyNumber}
+use Rattle.network.specs.Steps.{someLineFull, dummyNumber}
 use Rattle.network.specs.InWords.{networkIn, inRange, numberIn, SiteStep, SentStep}
 use Rattle.network.proofs.Performs.{number-none, shaped-range, site-below, site-step-below}
 use Rattle.network.proofs.Dummying.{dummy-accepted, dummy-refused, room-after, dummy-done}
