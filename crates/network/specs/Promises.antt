@@ -1,7 +1,7 @@
 -- What the contracts of the calls say: the answer and the state's words are those of `perform`, and where it refuses every word is as it came.
 use mathlib.Core.Path.{_≡_}
 use mathlib.Core.List.{List, [], map}
-use Prim.Native.Nat.{ℕ, _-_}
+use Prim.Native.Nat.{ℕ, _-_, _≤_}
 use lib.IntN.{ℤ}
 use lib.ListN.{take, drop, replicate}
 use mathlib.Core.Bool.{true}
@@ -29,9 +29,10 @@ pub record Blank (t : Timestamp) : Type 0 where
   pub len-is : t .len ≡ 0
   pub tuples-are : map pairOf (t .tuples) ≡ replicate room none
 
--- of so many places those past the first `count` are 0
-abbrev pub zeroPast : {A : Type 0} → A → ℕ → ℕ → List A → Type 0
-zeroPast zero places count vs = drop count vs ≡ replicate (places - count) zero
+-- of so many places the first `count` are used, and the rest are 0
+pub record Filled {A : Type 0} (z : A) (places count : ℕ) (vs : List A) : Type 0 where
+  pub fits : count ≤ places
+  pub rest-is : drop count vs ≡ replicate (places - count) z
 
 -- what a commit of the operations `os` at site i that no cause refuses answers and leaves
 pub record Made (entry exit : List ℕ) (i : ℕ) (os : List Op) (number : ℕ) (stamp : Stamp) (values : List ℤ) : Type 0 where
@@ -46,4 +47,4 @@ pub record Reported (site : ℕ) (entry : List ℕ) (number count : ℕ) (items 
   pub performed : Performed (waiting site) entry entry number 0 noStamp []
   pub each-once : number ≡ 0 → EachOnce (networkIn entry) site (take count items)
   pub none-refused : (number ≡ 0 → ⊥) → count ≡ 0
-  pub zero-past : zeroPast 0 itemsMost count items
+  pub filled : Filled 0 itemsMost count items

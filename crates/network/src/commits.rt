@@ -19,7 +19,7 @@ ghost use Rattle.network.specs.Layout.{stateSize};
 ghost use Rattle.network.specs.Steps.{noSuchSite, commitCauses, wrongLists, commitNumber};
 ghost use Rattle.network.specs.Calls.{commit as commitCall};
 ghost use Rattle.network.specs.InWords.{networkIn, inRange, shaped, numberIn};
-ghost use Rattle.network.specs.Promises.{Performed, Made, Blank, zeroPast};
+ghost use Rattle.network.specs.Promises.{Performed, Made, Blank, Filled};
 
 // A commit at a site: operations as three lists of their fields. It answers its number, the timestamp and the values read.
 pub fn commit(
@@ -31,7 +31,7 @@ pub fn commit(
 ) -> Committed
     ensures { λ r. ⌜ Performed (commitCall site (now (kinds .entry)) (now (items .entry)) (now (values .entry))) (now (state .entry)) (now (state .exit)) (r .number) 0 (stampOf (r .stamp)) (take (r .count) (r .values)) ⌝ }
     ensures { λ r. ⌜ ((r .number ≡ 0 → ⊥) → Blank (r .stamp) × (r .count ≡ 0)) ⌝ }
-    ensures { λ r. ⌜ zeroPast (pos 0) opsMost (r .count) (r .values) ⌝ }
+    ensures { λ r. ⌜ Filled (pos 0) opsMost (r .count) (r .values) ⌝ }
 {
     commit_in(state, site, kinds, items, values)
 }
@@ -40,7 +40,7 @@ fn commit_in(state: &mut [u32], site: u32, kinds: &[u8], items: &[u32], values: 
     requires { ⌜ length (now state) ≡ stateSize ⌝ }
     ensures { λ r. ⌜ Performed (commitCall site (now (kinds .entry)) (now (items .entry)) (now (values .entry))) (now (state .entry)) (now (state .exit)) (r .number) 0 (stampOf (r .stamp)) (take (r .count) (r .values)) ⌝ }
     ensures { λ r. ⌜ ((r .number ≡ 0 → ⊥) → Blank (r .stamp) × (r .count ≡ 0)) ⌝ }
-    ensures { λ r. ⌜ zeroPast (pos 0) opsMost (r .count) (r .values) ⌝ }
+    ensures { λ r. ⌜ Filled (pos 0) opsMost (r .count) (r .values) ⌝ }
 {
     let number = commit_number(state, site, kinds, items, values);
     if number != 0 {
@@ -76,7 +76,7 @@ fn commit_number(state: &[u32], site: u32, kinds: &[u8], items: &[u32], values: 
 fn commit_done(state: &mut [u32], site: u32, ops: &[u32], n: usize) -> Committed
     requires { ⌜ (length (now state) ≡ stateSize) × (shaped (now state) ≡ true) × (noSuchSite (networkIn (now state)) site ≡ false) × (1 ≤ n) × (n ≤ opsMost) × (firstNumber (commitCauses (networkIn (now state)) site (opsIn n (now ops))) ≡ 0) ⌝ }
     ensures { λ r. ⌜ Made (now (state .entry)) (now (state .exit)) site (opsIn n (now (ops .entry))) (r .number) (stampOf (r .stamp)) (take (r .count) (r .values)) ⌝ }
-    ensures { λ r. ⌜ zeroPast (pos 0) opsMost (r .count) (r .values) ⌝ }
+    ensures { λ r. ⌜ Filled (pos 0) opsMost (r .count) (r .values) ⌝ }
 {
     let i = words::wide(site);
     let made = state[2];

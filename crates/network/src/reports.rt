@@ -14,7 +14,7 @@ ghost use Rattle.network.specs.Layout.{stateSize, linesMost};
 ghost use Rattle.network.specs.Network.{messageOps};
 ghost use Rattle.network.specs.Waiting.{writesItem, onLine, isWaiting, EachOnce, Collected};
 ghost use Rattle.network.specs.InWords.{networkIn, inRange};
-ghost use Rattle.network.specs.Promises.{Reported, zeroPast};
+ghost use Rattle.network.specs.Promises.{Reported, Filled};
 
 // The waiting report of a site. It answers its number and the items.
 pub fn waiting(state: &[u32; WORDS], site: u32) -> Report
@@ -41,7 +41,7 @@ fn waiting_in(state: &[u32], site: u32) -> Report
 // The items that are waiting at a site, from item 0 on.
 fn collect(state: &[u32], site: u32) -> Report
     requires { ⌜ (length (now state) ≡ stateSize) × (inRange (now state) ≡ true) × (site < sitesMost) ⌝ }
-    ensures { λ r. ⌜ (r .number ≡ 0) × EachOnce (networkIn (now (state .entry))) site (take (r .count) (r .items)) × zeroPast 0 itemsMost (r .count) (r .items) ⌝ }
+    ensures { λ r. ⌜ (r .number ≡ 0) × EachOnce (networkIn (now (state .entry))) site (take (r .count) (r .items)) × Filled 0 itemsMost (r .count) (r .items) ⌝ }
 {
     let mut items = [0u32; 64];
     let placed = state[1];

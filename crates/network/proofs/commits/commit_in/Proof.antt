@@ -1,6 +1,7 @@
 -- `commit_in` refuses with its number, or makes the commit.
 use mathlib.Core.Path.{_≡_, refl, sym, ap, _∙_}
 use mathlib.Core.List.{List}
+use native.Mathlib.Omega.{arith}
 use lib.ListN.{length}
 use Rattle.timestamp.specs.Timestamp.{stampOf}
 use Rattle.site.specs.Operations.{Op}
@@ -35,7 +36,7 @@ same-length c = search needs
 returns : tie.Need-returns
 returns c =
     let A = c .before .before .before .before .before .before .before .args in
-    (commit-refused (A .state .now) (A .site) (A .kinds .now) (A .items .now) (A .values .now) (c .before .before .commit-number .result) (stampOf (c .no-stamp .result)) _ (c .before .before .commit-number .ensures) (c .before .if1 .taken) (c .no-stamp .ensures .0) refl, (λ _. (c .no-stamp .ensures .1, refl), refl))
+    (commit-refused (A .state .now) (A .site) (A .kinds .now) (A .items .now) (A .values .now) (c .before .before .commit-number .result) (stampOf (c .no-stamp .result)) _ (c .before .before .commit-number .ensures) (c .before .if1 .taken) (c .no-stamp .ensures .0) refl, (λ _. (c .no-stamp .ensures .1, refl), record { fits = omega arith; rest-is = refl }))
 
 op-words-requires : tie.Need-op-words-requires
 op-words-requires c κs =

@@ -7,22 +7,22 @@ use lib.ListN.{length, take}
 use Rattle.words.specs.Words.{chunks}
 use Rattle.site.specs.Operations.{valuesRead}
 use Rattle.site.specs.InWords.{opsIn, opsMost}
-use Rattle.network.specs.Promises.{zeroPast}
+use Rattle.network.specs.Promises.{Filled}
 use Rattle.network.proofs.OperationWords.{read-next}
-use Rattle.network.proofs.Places.{zero-past-next}
+use Rattle.network.proofs.Places.{filled-more}
 use borrow.Author.Needs.{needs}
 use Rattle.network.proofs.operations.values_read.Statement.{statement}
 use Rattle.network.proofs.operations.values_read.Tie as tie
 
 abbrev Inv-loop : tie.InvT-loop
-Inv-loop ops n values₀ count₀ i₀ values count i = (i ≤ n) × (count ≤ i) × (length values ≡ opsMost) × (take count values ≡ valuesRead (opsIn i ops)) × zeroPast (pos 0) opsMost count values
+Inv-loop ops n values₀ count₀ i₀ values count i = (i ≤ n) × (count ≤ i) × (length values ≡ opsMost) × (take count values ≡ valuesRead (opsIn i ops)) × Filled (pos 0) opsMost count values
 
 abbrev μ-loop : tie.MeasureT-loop
 μ-loop ops n values₀ count₀ i₀ values count i = n - i
 
 loop-holds : tie.Need-loop-holds Inv-loop μ-loop
 unfolding chunks
-loop-holds c = (omega arith, omega arith, refl, refl, refl)
+loop-holds c = (omega arith, omega arith, refl, refl, record { fits = omega arith; rest-is = refl })
 
 slice-aggregate-value-read : tie.Need-slice-aggregate-value-read Inv-loop μ-loop
 slice-aggregate-value-read c = search needs
@@ -41,7 +41,7 @@ loop-again c =
     let l = c .before .before .before .before .loop in
     let A = c .before .before .before .before .before .before .args in
     let q = c .before .value-read in
-    (omega arith, q .ensures .0, q .kept .0 ∙ l .inv .2, read-next (A .ops .now) (l .i) (l .count) (l .values) (l .inv .3) (q .result) (q .last .0) (q .ensures .1), zero-past-next (pos 0) opsMost (l .count) (q .result) (l .values) (q .last .0) (l .inv .4) (q .ensures .2) (q .ensures .3))
+    (omega arith, q .ensures .0, q .kept .0 ∙ l .inv .2, read-next (A .ops .now) (l .i) (l .count) (l .values) (l .inv .3) (q .result) (q .last .0) (q .ensures .1), filled-more (pos 0) opsMost (l .count) (q .result) (l .values) (q .last .0) (l .inv .4) (q .ensures .2) (omega (arith, q .ensures .0)) (q .ensures .3))
 
 returns : tie.Need-returns Inv-loop μ-loop
 returns c =

@@ -6,15 +6,15 @@ use lib.ListN.{length, getD, take}
 use Rattle.placement.specs.InWords.{itemsMost}
 use Rattle.network.specs.Waiting.{isWaiting}
 use Rattle.network.specs.InWords.{networkIn}
-use Rattle.network.specs.Promises.{zeroPast}
-use Rattle.network.proofs.Places.{zero-past-next}
+use Rattle.network.specs.Promises.{Filled}
+use Rattle.network.proofs.Places.{filled-more}
 use Rattle.network.proofs.Reporting.{passing, each-once, collected-next, few-placed}
 use borrow.Author.Needs.{needs}
 use Rattle.network.proofs.reports.collect.Statement.{statement}
 use Rattle.network.proofs.reports.collect.Tie as tie
 
 abbrev Inv-loop : tie.InvT-loop
-Inv-loop state site items₀ placed count₀ k₀ items count k = (k ≤ placed) × (count ≤ k) × (length items ≡ itemsMost) × (take count items ≡ passing (isWaiting (networkIn state) site) k) × zeroPast 0 itemsMost count items
+Inv-loop state site items₀ placed count₀ k₀ items count k = (k ≤ placed) × (count ≤ k) × (length items ≡ itemsMost) × (take count items ≡ passing (isWaiting (networkIn state) site) k) × Filled 0 itemsMost count items
 
 abbrev μ-loop : tie.MeasureT-loop
 μ-loop state site items₀ placed count₀ k₀ items count k = placed - k
@@ -23,7 +23,7 @@ shared-slice-read-placed : tie.Need-shared-slice-read-placed Inv-loop μ-loop
 shared-slice-read-placed c = search needs
 
 loop-holds : tie.Need-loop-holds Inv-loop μ-loop
-loop-holds c = (omega arith, omega arith, refl, refl, refl)
+loop-holds c = (omega arith, omega arith, refl, refl, record { fits = omega arith; rest-is = refl })
 
 slice-aggregate-collect-one : tie.Need-slice-aggregate-collect-one Inv-loop μ-loop
 slice-aggregate-collect-one c = search needs
@@ -49,7 +49,7 @@ loop-again c =
       q .ensures .below,
       q .kept .0 ∙ l .inv .2,
       collected-next (isWaiting (networkIn (A .state .now)) (A .site)) (l .items) (q .last .0) (l .count) (q .result) (l .k) (l .inv .3) (q .ensures),
-      zero-past-next 0 itemsMost (l .count) (q .result) (l .items) (q .last .0) (l .inv .4) (q .ensures .above) (q .ensures .rest-is),
+      filled-more 0 itemsMost (l .count) (q .result) (l .items) (q .last .0) (l .inv .4) (q .ensures .above) (omega (arith, q .ensures .below, few-placed (A .state .now) (c .before .before .before .before .before .before .before .pre .1))) (q .ensures .rest-is),
     )
 
 returns : tie.Need-returns Inv-loop μ-loop

@@ -2,6 +2,7 @@
 use mathlib.Core.Path.{refl, sym, subst, _∙_}
 use mathlib.Core.List.{[]}
 use Prim.Native.Nat.{ℕ}
+use native.Mathlib.Omega.{arith}
 use Rattle.network.specs.Network.{noStamp}
 use Rattle.network.specs.Calls.{waiting}
 use Rattle.network.specs.Promises.{Performed}
@@ -22,7 +23,7 @@ returns c =
       performed = waiting-refused (A .state .now) (A .site) (n .result) (n .ensures) (c .if1 .taken);
       each-once = λ z. absurd (c .if1 .taken z);
       none-refused = λ _. refl;
-      zero-past = refl;
+      filled = record { fits = omega arith; rest-is = refl };
     }
 
 collect-requires : tie.Need-collect-requires
@@ -41,7 +42,7 @@ returns-2 c =
       performed = subst (λ (r : ℕ). Performed (waiting (A .site)) w w r 0 noStamp []) (sym (e .0)) (waiting-done w (A .site) (sym (c .before .before .site-number .ensures) ∙ c .before .if1 .left));
       each-once = λ _. e .1;
       none-refused = λ h. absurd (h (e .0));
-      zero-past = e .2;
+      filled = e .2;
     }
 
 pub waiting-in-spec : {M : Type 1} → statement M
