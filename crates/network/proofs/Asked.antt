@@ -11,7 +11,7 @@ use Rattle.site.specs.Operations.{Op, reads, writes}
 use Rattle.site.specs.InWords.{opAt}
 use Rattle.site.proofs.Laws.{op-word}
 use Rattle.placement.specs.Placement.{Item, firstNumber, owns, copies}
-use Rattle.network.specs.Steps.{when, opNumber}
+use Rattle.network.specs.Steps.{numberIf, opNumber}
 
 -- ---- the fields of operation k
 module _ (ops : List ℕ) (k : ℕ) where
@@ -23,7 +23,7 @@ module _ (ops : List ℕ) (k : ℕ) where
 
 -- ---- the number of an operation, by the outcomes of its tests
 abbrev byTests : Bool → Bool → Bool → Bool → Bool → Bool → ℕ
-byTests kind item read own copy write = firstNumber (when (kind || item) 9 ∷ when (read && not (own || copy)) 10 ∷ when (write && not own) 11 ∷ [])
+byTests kind item read own copy write = firstNumber (numberIf (kind || item) 9 ∷ numberIf (read && not (own || copy)) 10 ∷ numberIf (write && not own) 11 ∷ [])
 
 owned : (read copy write : Bool) → byTests false false read true copy write ≡ 0
 owned true copy true = refl

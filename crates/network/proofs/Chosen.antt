@@ -22,7 +22,7 @@ use Rattle.lines.specs.Lines.{Message, commit, dummy, Line, noLine, taken}
 use Rattle.records.specs.Records.{Record}
 use Rattle.network.specs.Layout.{linesMost}
 use Rattle.network.specs.Network.{Network, noRecord, siteAt, lineAt, lineNumber, messageStamp, messageFits, isEmpty, wellShaped}
-use Rattle.network.specs.Steps.{when, noSuchSite, someBelow, scheduleNumber, head, headStamp, earlierOf, earliest, chosen, writesFor, scheduleNetwork}
+use Rattle.network.specs.Steps.{numberIf, noSuchSite, someBelow, scheduleNumber, head, headStamp, earlierOf, earliest, chosen, writesFor, scheduleNetwork}
 use Rattle.network.proofs.Numbers.{none-holds, or-false}
 use Rattle.network.proofs.WellShaped.{set-each, LineShape, Shape, shape-parts, shape-whole}
 use Rattle.network.proofs.Keeps.{placed-set, stamps-set, records-set}
@@ -102,8 +102,8 @@ module _ (n : Network) (j : ℕ) (few : length (n .sites) ≤ sitesMost) (s : Sh
   causes =
       let orphan = not (hasParents (n .items) j) in
       let waits = someBelow (λ p. isLine (n .items) p j && eqb (lineAt n p j .arrived) 0) sitesMost in
-      let a = none-holds (noSuchSite n j) 6 (when orphan 19 ∷ (when waits 20 ∷ [])) z in
-      let b = none-holds orphan 18 (when waits 20 ∷ []) (a .1) in
+      let a = none-holds (noSuchSite n j) 6 (numberIf orphan 19 ∷ (numberIf waits 20 ∷ [])) z in
+      let b = none-holds orphan 18 (numberIf waits 20 ∷ []) (a .1) in
       (a .0, not-false (hasParents (n .items) j) (b .0), none-holds waits 19 [] (b .1) .0)
 
   -- ---- each parent's line has a message that has arrived

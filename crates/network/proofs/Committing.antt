@@ -20,7 +20,7 @@ use Rattle.records.specs.Records.{Record}
 use Rattle.placement.specs.Placement.{firstNumber}
 use Rattle.lines.specs.InWords.{recordsMost}
 use Rattle.network.specs.Network.{Network, noStamp, noSite, siteAt, withSite, withLines, withRecord}
-use Rattle.network.specs.Steps.{when, outside, noSuchSite, countAtMost, someLineFull, due, sentTo, opNumber, opsOf, commitCauses, wrongLists, commitNumber, recordOf, commitNetwork}
+use Rattle.network.specs.Steps.{numberIf, outside, noSuchSite, countAtMost, someLineFull, due, sentTo, opNumber, opsOf, commitCauses, wrongLists, commitNumber, recordOf, commitNetwork}
 use Rattle.network.specs.Calls.{Outcome, commit, accepted, perform}
 use Rattle.network.specs.InWords.{networkIn, inRange, meaning, numberIn, SiteStep, RecordStep, SentStep}
 use Rattle.network.specs.Promises.{Performed, Made}
@@ -35,13 +35,13 @@ module _ (n : Network) (i : ℕ) (os : List Op) where
   full = someLineFull n i (due (n .items) os)
 
   last : List ℕ
-  last = when (countAtMost n i) 14 ∷ []
+  last = numberIf (countAtMost n i) 14 ∷ []
 
   lined : List ℕ
-  lined = when full 13 ∷ last
+  lined = numberIf full 13 ∷ last
 
   booked : List ℕ
-  booked = when (leb recordsMost (length (n .history))) 12 ∷ lined
+  booked = numberIf (leb recordsMost (length (n .history))) 12 ∷ lined
 
   abbrev refusal : ℕ
   refusal = firstNumber (map (opNumber (n .items) i) os)
@@ -117,13 +117,13 @@ module _ (n : Network) (i : ℕ) (ks is : List ℕ) (vs : List ℤ) where
   pub commit-lists : noSuchSite n i ≡ false → wrongLists (length ks) (length is) (length vs) ≡ true → commitNumber n i ks is vs ≡ 8
   unfolding commitNumber
   commit-lists a b =
-      first-fails (noSuchSite n i) 7 (when (wrongLists (length ks) (length is) (length vs)) 8 ∷ commitCauses n i (opsOf ks is vs)) a
+      first-fails (noSuchSite n i) 7 (numberIf (wrongLists (length ks) (length is) (length vs)) 8 ∷ commitCauses n i (opsOf ks is vs)) a
       ∙ first-holds (wrongLists (length ks) (length is) (length vs)) 7 (commitCauses n i (opsOf ks is vs)) b
 
   pub commit-later : noSuchSite n i ≡ false → wrongLists (length ks) (length is) (length vs) ≡ false → commitNumber n i ks is vs ≡ firstNumber (commitCauses n i (opsOf ks is vs))
   unfolding commitNumber
   commit-later a b =
-      first-fails (noSuchSite n i) 7 (when (wrongLists (length ks) (length is) (length vs)) 8 ∷ commitCauses n i (opsOf ks is vs)) a
+      first-fails (noSuchSite n i) 7 (numberIf (wrongLists (length ks) (length is) (length vs)) 8 ∷ commitCauses n i (opsOf ks is vs)) a
       ∙ first-fails (wrongLists (length ks) (length is) (length vs)) 8 (commitCauses n i (opsOf ks is vs)) b
 
   pub record Accepted : Type 0 where
@@ -134,7 +134,7 @@ module _ (n : Network) (i : ℕ) (ks is : List ℕ) (vs : List ℤ) where
   pub commit-accepted : commitNumber n i ks is vs ≡ 0 → Accepted
   unfolding commitNumber
   commit-accepted z =
-      let x = none-holds (noSuchSite n i) 6 (when (wrongLists (length ks) (length is) (length vs)) 8 ∷ commitCauses n i (opsOf ks is vs)) z in
+      let x = none-holds (noSuchSite n i) 6 (numberIf (wrongLists (length ks) (length is) (length vs)) 8 ∷ commitCauses n i (opsOf ks is vs)) z in
       let y = none-holds (wrongLists (length ks) (length is) (length vs)) 7 (commitCauses n i (opsOf ks is vs)) (x .1) in
       record { there = x .0; lists = y .0; later = y .1 }
 

@@ -14,7 +14,7 @@ use Rattle.lines.specs.Lines.{Line, noLine, delivered, deliveredOrSame}
 use Rattle.lines.proofs.Boxes.{deliver-some}
 use Rattle.network.specs.Layout.{linesMost}
 use Rattle.network.specs.Network.{Network, noStamp, lineAt, lineNumber, withLine}
-use Rattle.network.specs.Steps.{when, noSuchSite, deliverNumber, deliverNetwork}
+use Rattle.network.specs.Steps.{numberIf, noSuchSite, deliverNumber, deliverNetwork}
 use Rattle.network.specs.Calls.{deliver, accepted, perform}
 use Rattle.network.specs.InWords.{networkIn, inRange, meaning, numberIn, LineStep}
 use Rattle.network.specs.Promises.{Performed}
@@ -57,8 +57,8 @@ module _ (n : Network) (p c : ℕ) where
   pub deliver-accepted : deliverNumber n p c ≡ 0 → Accepted
   unfolding deliverNumber
   deliver-accepted e =
-      let last : List ℕ = when (leb (length (lineAt n p c .messages)) (lineAt n p c .arrived)) 18 ∷ [] in
-      let x = none-holds (noSuchSite n p || noSuchSite n c) 6 (when (not (isLine (n .items) p c)) 17 ∷ last) e in
+      let last : List ℕ = numberIf (leb (length (lineAt n p c .messages)) (lineAt n p c .arrived)) 18 ∷ [] in
+      let x = none-holds (noSuchSite n p || noSuchSite n c) 6 (numberIf (not (isLine (n .items) p c)) 17 ∷ last) e in
       let y = none-holds (not (isLine (n .items) p c)) 16 last (x .1) in
       let z = none-holds (leb (length (lineAt n p c .messages)) (lineAt n p c .arrived)) 17 [] (y .1) in
       let o = or-false (noSuchSite n p) (noSuchSite n c) (x .0) in

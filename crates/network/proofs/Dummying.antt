@@ -17,7 +17,7 @@ use Rattle.placement.proofs.Laws.{bit-mask-of}
 use Rattle.lines.specs.Lines.{Line, Message, heldMost, dummy as dummyMessage}
 use Rattle.network.specs.Layout.{linesMost}
 use Rattle.network.specs.Network.{Network, noStamp, noSite, siteAt, lineAt, withSite, withLines}
-use Rattle.network.specs.Steps.{when, noSuchSite, countAtMost, someLineFull, sentTo, dummyNumber, dummyNetwork}
+use Rattle.network.specs.Steps.{numberIf, noSuchSite, countAtMost, someLineFull, sentTo, dummyNumber, dummyNetwork}
 use Rattle.network.specs.Calls.{dummy, accepted, perform}
 use Rattle.network.specs.InWords.{networkIn, inRange, meaning, numberIn, SiteStep, SentStep}
 use Rattle.network.specs.Promises.{Performed}
@@ -46,26 +46,26 @@ module _ (n : Network) (i : ℕ) where
   full = someLineFull n i (isLine (n .items) i)
 
   rest : List ℕ
-  rest = when (countAtMost n i) 14 ∷ []
+  rest = numberIf (countAtMost n i) 14 ∷ []
 
   module _ (a : noSuchSite n i ≡ false) where
     pub dummy-full : someLineFull n i (isLine (n .items) i) ≡ true → dummyNumber n i ≡ 13
     unfolding dummyNumber full rest
-    dummy-full b = first-fails (noSuchSite n i) 7 (when full 13 ∷ rest) a ∙ first-holds full 12 rest b
+    dummy-full b = first-fails (noSuchSite n i) 7 (numberIf full 13 ∷ rest) a ∙ first-holds full 12 rest b
 
     module _ (b : someLineFull n i (isLine (n .items) i) ≡ false) where
       pub dummy-largest : countAtMost n i ≡ true → dummyNumber n i ≡ 14
       unfolding dummyNumber full rest
-      dummy-largest c = first-fails (noSuchSite n i) 7 (when full 13 ∷ rest) a ∙ first-fails full 13 rest b ∙ first-holds (countAtMost n i) 13 [] c
+      dummy-largest c = first-fails (noSuchSite n i) 7 (numberIf full 13 ∷ rest) a ∙ first-fails full 13 rest b ∙ first-holds (countAtMost n i) 13 [] c
 
       pub dummy-free : countAtMost n i ≡ false → dummyNumber n i ≡ 0
       unfolding dummyNumber full rest
-      dummy-free c = first-fails (noSuchSite n i) 7 (when full 13 ∷ rest) a ∙ first-fails full 13 rest b ∙ first-fails (countAtMost n i) 14 [] c
+      dummy-free c = first-fails (noSuchSite n i) 7 (numberIf full 13 ∷ rest) a ∙ first-fails full 13 rest b ∙ first-fails (countAtMost n i) 14 [] c
 
   pub dummy-accepted : dummyNumber n i ≡ 0 → (noSuchSite n i ≡ false) × (someLineFull n i (isLine (n .items) i) ≡ false)
   unfolding dummyNumber full rest
   dummy-accepted z =
-      let x = none-holds (noSuchSite n i) 6 (when full 13 ∷ rest) z in
+      let x = none-holds (noSuchSite n i) 6 (numberIf full 13 ∷ rest) z in
       let y = none-holds full 12 rest (x .1) in
       (x .0, y .0)
 

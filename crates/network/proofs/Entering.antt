@@ -10,7 +10,7 @@ use Rattle.site.specs.Site.{atEpoch}
 use Rattle.placement.specs.Placement.{hasParents}
 use Rattle.placement.specs.InWords.{sitesMost}
 use Rattle.network.specs.Network.{Network, noStamp, siteAt, withSite}
-use Rattle.network.specs.Steps.{when, noSuchSite, epochNumber, epochNetwork}
+use Rattle.network.specs.Steps.{numberIf, noSuchSite, epochNumber, epochNetwork}
 use Rattle.network.specs.Calls.{epoch, accepted, perform}
 use Rattle.network.specs.InWords.{networkIn, inRange, meaning, numberIn, SiteStep}
 use Rattle.network.specs.Promises.{Performed}
@@ -40,7 +40,7 @@ module _ (n : Network) (i e : ℕ) where
 
   pub epoch-site : epochNumber n i e ≡ 0 → noSuchSite n i ≡ false
   unfolding epochNumber
-  epoch-site z = none-holds (noSuchSite n i) 6 (when (hasParents (n .items) i) 15 ∷ when (leb e (siteAt n i .stamp .epoch)) 16 ∷ []) z .0
+  epoch-site z = none-holds (noSuchSite n i) 6 (numberIf (hasParents (n .items) i) 15 ∷ numberIf (leb e (siteAt n i .stamp .epoch)) 16 ∷ []) z .0
 
 -- ---- the step on words
 module _ (w : List ℕ) (i e : ℕ) where

@@ -29,7 +29,7 @@ use Rattle.lines.specs.InWords.{recordsMost}
 use Rattle.records.specs.Records.{Record, opFits}
 use Rattle.network.specs.Layout.{linesMost}
 use Rattle.network.specs.Network.{Network, noSite, noRecord, siteAt, lineAt, lineNumber, messageFits, isEmpty, wellShaped}
-use Rattle.network.specs.Steps.{when, outside, itemsOf, startSite, startSites, setUpNumber, setUpNetwork, noSuchSite, countAtMost, someLineFull, opsOf, opNumber, due, commitNumber, recordOf, commitNetwork, dummyNumber, dummyNetwork, epochNumber, epochNetwork, deliverNumber, deliverNetwork}
+use Rattle.network.specs.Steps.{numberIf, outside, itemsOf, startSite, startSites, setUpNumber, setUpNetwork, noSuchSite, countAtMost, someLineFull, opsOf, opNumber, due, commitNumber, recordOf, commitNetwork, dummyNumber, dummyNetwork, epochNumber, epochNetwork, deliverNumber, deliverNetwork}
 use Rattle.network.proofs.Numbers.{none-holds, none-first, or-false}
 use Rattle.network.proofs.WellShaped.{every-all, set-each, sent-each, LineShape, RecordShape, Shape, shape-parts, shape-whole}
 
@@ -51,7 +51,7 @@ unfolding setUpNumber setUpNetwork
 keeps-set-up sites items ps ms z =
     let xs = itemsOf ps ms in
     let wrong = outside 1 itemsMost items || (not (eqb (length ps) items) || not (eqb (length ms) items)) in
-    let a = none-holds (outside 1 sitesMost sites) 0 (when wrong 2 ∷ (itemsNumber sites xs ∷ [])) z in
+    let a = none-holds (outside 1 sitesMost sites) 0 (numberIf wrong 2 ∷ (itemsNumber sites xs ∷ [])) z in
     let b = none-holds wrong 1 (itemsNumber sites xs ∷ []) (a .1) in
     let c = none-first (itemsNumber sites xs) [] (b .1) in
     let number : (k : ℕ) → 0 + k ≡ k = λ k. omega arith in
@@ -76,8 +76,8 @@ keeps-deliver n p c e z =
     let l = lineAt n p c in
     let all = leb (length (l .messages)) (l .arrived) in
     let none = not (isLine (n .items) p c) in
-    let x = none-holds (noSuchSite n p || noSuchSite n c) 6 (when none 17 ∷ (when all 18 ∷ [])) z in
-    let y = none-holds none 16 (when all 18 ∷ []) (x .1) in
+    let x = none-holds (noSuchSite n p || noSuchSite n c) 6 (numberIf none 17 ∷ (numberIf all 18 ∷ [])) z in
+    let y = none-holds none 16 (numberIf all 18 ∷ []) (x .1) in
     let some-left : l .arrived < length (l .messages) = leb-false (length (l .messages)) (l .arrived) (none-holds all 17 [] (y .1) .0) in
     shape-whole (deliverNetwork n p c)
     (record {
@@ -109,7 +109,7 @@ unfolding epochNumber epochNetwork
 keeps-epoch n i e w z =
     let s = shape-parts n w in
     let low = leb e (siteAt n i .stamp .epoch) in
-    let site : i < length (n .sites) = leb-false (length (n .sites)) i (none-holds (noSuchSite n i) 6 (when (hasParents (n .items) i) 15 ∷ (when low 16 ∷ [])) z .0) in
+    let site : i < length (n .sites) = leb-false (length (n .sites)) i (none-holds (noSuchSite n i) 6 (numberIf (hasParents (n .items) i) 15 ∷ (numberIf low 16 ∷ [])) z .0) in
     let new = atEpoch e (siteAt n i) in
     shape-whole (epochNetwork n i e)
     (record {
@@ -147,8 +147,8 @@ unfolding dummyNumber dummyNetwork
 keeps-dummy n i _ _ e z =
     let s = shape-parts n e in
     let gets = isLine (n .items) i in
-    let a = none-holds (noSuchSite n i) 6 (when (someLineFull n i gets) 13 ∷ (when (countAtMost n i) 14 ∷ [])) z in
-    let b = none-holds (someLineFull n i gets) 12 (when (countAtMost n i) 14 ∷ []) (a .1) in
+    let a = none-holds (noSuchSite n i) 6 (numberIf (someLineFull n i gets) 13 ∷ (numberIf (countAtMost n i) 14 ∷ [])) z in
+    let b = none-holds (someLineFull n i gets) 12 (numberIf (countAtMost n i) 14 ∷ []) (a .1) in
     let c = none-holds (countAtMost n i) 13 [] (b .1) in
     let new = dummied (siteAt n i) in
     let made = raised-made n s i (a .0) (c .0) in
@@ -226,8 +226,8 @@ op-shape xs i o z =
     let odd = ltb 1 (o .kind) || leb (length xs) (o .item) in
     let unread = reads o && not (owns xs i (o .item) || copies xs i (o .item)) in
     let unowned = writes o && not (owns xs i (o .item)) in
-    let a = none-holds odd 8 (when unread 10 ∷ (when unowned 11 ∷ [])) z in
-    let b = none-holds unread 9 (when unowned 11 ∷ []) (a .1) in
+    let a = none-holds odd 8 (numberIf unread 10 ∷ (numberIf unowned 11 ∷ [])) z in
+    let b = none-holds unread 9 (numberIf unowned 11 ∷ []) (a .1) in
     let c = none-holds unowned 10 [] (b .1) in
     let d = or-false (ltb 1 (o .kind)) (leb (length xs) (o .item)) (a .0) in
     record {
@@ -281,11 +281,11 @@ keeps-commit n i ks is vs _ _ e z =
     let gets = due xs os in
     let sized = outside 1 opsMost (length ks) || (not (eqb (length is) (length ks)) || not (eqb (length vs) (length ks))) in
     let full = leb recordsMost (length (n .history)) in
-    let most : List ℕ = when (countAtMost n i) 14 ∷ [] in
-    let a = none-holds (noSuchSite n i) 6 (when sized 8 ∷ (firstNumber (map (opNumber xs i) os) ∷ (when full 12 ∷ (when (someLineFull n i gets) 13 ∷ most)))) z in
-    let b = none-holds sized 7 (firstNumber (map (opNumber xs i) os) ∷ (when full 12 ∷ (when (someLineFull n i gets) 13 ∷ most))) (a .1) in
-    let c = none-first (firstNumber (map (opNumber xs i) os)) (when full 12 ∷ (when (someLineFull n i gets) 13 ∷ most)) (b .1) in
-    let d = none-holds full 11 (when (someLineFull n i gets) 13 ∷ most) (c .1) in
+    let most : List ℕ = numberIf (countAtMost n i) 14 ∷ [] in
+    let a = none-holds (noSuchSite n i) 6 (numberIf sized 8 ∷ (firstNumber (map (opNumber xs i) os) ∷ (numberIf full 12 ∷ (numberIf (someLineFull n i gets) 13 ∷ most)))) z in
+    let b = none-holds sized 7 (firstNumber (map (opNumber xs i) os) ∷ (numberIf full 12 ∷ (numberIf (someLineFull n i gets) 13 ∷ most))) (a .1) in
+    let c = none-first (firstNumber (map (opNumber xs i) os)) (numberIf full 12 ∷ (numberIf (someLineFull n i gets) 13 ∷ most)) (b .1) in
+    let d = none-holds full 11 (numberIf (someLineFull n i gets) 13 ∷ most) (c .1) in
     let f = none-holds (someLineFull n i gets) 12 most (d .1) in
     let g = none-holds (countAtMost n i) 13 [] (f .1) in
     let new = committed os (siteAt n i) in

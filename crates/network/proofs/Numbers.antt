@@ -7,14 +7,14 @@ use native.Mathlib.Omega.{arith}
 use lib.Dec.{eqb}
 use borrow.Author.Tests.{eq-eqb, ne-eqb, eqb-true}
 use Rattle.placement.specs.Placement.{firstNumber}
-use Rattle.network.specs.Steps.{when}
+use Rattle.network.specs.Steps.{numberIf}
 
 -- the first cause holds
-pub first-holds : (b : Bool) (k : ℕ) (ns : List ℕ) → b ≡ true → firstNumber (when b (suc k) ∷ ns) ≡ suc k
+pub first-holds : (b : Bool) (k : ℕ) (ns : List ℕ) → b ≡ true → firstNumber (numberIf b (suc k) ∷ ns) ≡ suc k
 first-holds b k ns e = rw (e, ne-eqb (suc k) 0 (λ z. omega arith))
 
 -- it does not
-pub first-fails : (b : Bool) (k : ℕ) (ns : List ℕ) → b ≡ false → firstNumber (when b k ∷ ns) ≡ firstNumber ns
+pub first-fails : (b : Bool) (k : ℕ) (ns : List ℕ) → b ≡ false → firstNumber (numberIf b k ∷ ns) ≡ firstNumber ns
 first-fails b k ns e = rw e
 
 -- a list of causes in a row, one of which may hold
@@ -25,7 +25,7 @@ pub first-none : (n : ℕ) (ns : List ℕ) → n ≡ 0 → firstNumber (n ∷ ns
 first-none n ns e = rw (eq-eqb n 0 e)
 
 -- no cause holds
-pub none-holds : (b : Bool) (k : ℕ) (ns : List ℕ) → firstNumber (when b (suc k) ∷ ns) ≡ 0 → (b ≡ false) × (firstNumber ns ≡ 0)
+pub none-holds : (b : Bool) (k : ℕ) (ns : List ℕ) → firstNumber (numberIf b (suc k) ∷ ns) ≡ 0 → (b ≡ false) × (firstNumber ns ≡ 0)
 none-holds true k ns e = absurd (let z : suc k ≡ 0 = sym (first-holds true k ns refl) ∙ e in omega arith)
 none-holds false k ns e = (refl, e)
 

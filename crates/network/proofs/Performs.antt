@@ -22,7 +22,7 @@ use Rattle.lines.specs.InWords.{lineIn, lineSize, recordsMost}
 use Rattle.records.specs.InWords.{recordIn, recordSize}
 use Rattle.network.specs.Layout.{itemsAt, itemsSize, sitesAt, sitesSize, linesAt, linesSize, linesMost, historyAt, historySize}
 use Rattle.network.specs.Network.{Network, noStamp, siteAt, wellShaped}
-use Rattle.network.specs.Steps.{when, noSuchSite}
+use Rattle.network.specs.Steps.{numberIf, noSuchSite}
 use Rattle.network.specs.Calls.{Call, Outcome, refused, judged, perform}
 use Rattle.network.specs.InWords.{siteWords, lineWords, recordWords, networkIn, inRange, shaped, meaning, numberIn, SiteStep}
 use Rattle.network.specs.Promises.{Performed}
@@ -137,18 +137,18 @@ site-below w e i h =
 
 -- ---- the causes that come first: 6, then 7
 module _ (w : List ℕ) (i : ℕ) where
-  pub site-found : numberIn w (λ n. when (noSuchSite n i) 7) ≡ 0 → (shaped w ≡ true) × (noSuchSite (networkIn w) i ≡ false)
-  site-found z = let q = number-none w (λ n. when (noSuchSite n i) 7) z in (q .0, none-holds (noSuchSite (networkIn w) i) 6 [] (rw (q .1)) .0)
+  pub site-found : numberIn w (λ n. numberIf (noSuchSite n i) 7) ≡ 0 → (shaped w ≡ true) × (noSuchSite (networkIn w) i ≡ false)
+  site-found z = let q = number-none w (λ n. numberIf (noSuchSite n i) 7) z in (q .0, none-holds (noSuchSite (networkIn w) i) 6 [] (rw (q .1)) .0)
 
   -- where one of them holds, it is the number of every step that asks for them first
-  pub site-first : (rest : Network → List ℕ) (r : ℕ) → r ≡ numberIn w (λ n. when (noSuchSite n i) 7) → (r ≡ 0 → ⊥) → r ≡ numberIn w (λ n. firstNumber (when (noSuchSite n i) 7 ∷ rest n))
+  pub site-first : (rest : Network → List ℕ) (r : ℕ) → r ≡ numberIn w (λ n. numberIf (noSuchSite n i) 7) → (r ≡ 0 → ⊥) → r ≡ numberIn w (λ n. firstNumber (numberIf (noSuchSite n i) 7 ∷ rest n))
   unfolding numberIn
   site-first rest r e h = go (shaped w) refl
     where
-      go : (b : Bool) → shaped w ≡ b → r ≡ numberIn w (λ n. firstNumber (when (noSuchSite n i) 7 ∷ rest n))
+      go : (b : Bool) → shaped w ≡ b → r ≡ numberIn w (λ n. firstNumber (numberIf (noSuchSite n i) 7 ∷ rest n))
       go true s =
-          let f : r ≡ when (noSuchSite (networkIn w) i) 7 = e ∙ rw s refl in
-          rw s (f ∙ sym (first-some (when (noSuchSite (networkIn w) i) 7) (rest (networkIn w)) (λ z. h (f ∙ z))))
+          let f : r ≡ numberIf (noSuchSite (networkIn w) i) 7 = e ∙ rw s refl in
+          rw s (f ∙ sym (first-some (numberIf (noSuchSite (networkIn w) i) 7) (rest (networkIn w)) (λ z. h (f ∙ z))))
       go false s = e ∙ rw s refl
 
 pub few-sites : (w : List ℕ) → inRange w ≡ true → length (networkIn w .sites) ≤ sitesMost

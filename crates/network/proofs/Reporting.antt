@@ -15,7 +15,7 @@ use Rattle.words.proofs.Parts.{part-getD, part-part}
 use Rattle.words.proofs.Chunks.{chunks-at}
 use Rattle.timestamp.specs.InWords.{stampIn, stampSize}
 use Rattle.placement.specs.Masks.{bit}
-use Rattle.placement.specs.Placement.{Item, some, noItem, copies}
+use Rattle.placement.specs.Placement.{Item, any, noItem, copies}
 use Rattle.placement.specs.InWords.{sitesMost, itemsMost}
 use Rattle.lines.specs.Lines.{Line, Message, commit, dummy, noLine, heldMost}
 use Rattle.lines.specs.InWords.{messageIn, messageSize, lineIn, lineSize, boxesIn, boxesSize, recordsMost}
@@ -23,7 +23,7 @@ use Rattle.lines.proofs.Boxes.{messages-length}
 use Rattle.records.specs.Records.{Record}
 use Rattle.network.specs.Layout.{linesAt, linesMost, stateSize}
 use Rattle.network.specs.Network.{Network, noStamp, noRecord, messageOps, lineNumber}
-use Rattle.network.specs.Steps.{when, noSuchSite, someBelow}
+use Rattle.network.specs.Steps.{numberIf, noSuchSite, someBelow}
 use Rattle.network.specs.Waiting.{writesItem, onLine, isWaiting, waitingNumber, named, occurrences, EachOnce, Collected}
 use Rattle.network.specs.Calls.{waiting, accepted, perform}
 use Rattle.network.specs.InWords.{networkIn, inRange, numberIn}
@@ -76,21 +76,21 @@ module _ (item : ℕ) (h : List Record) (few : length h ≤ recordsMost) (m : Me
   ops-by-name (commit k) = refl
   ops-by-name (dummy t) = sym (ap (λ (r : Record). r .ops) (List·getD-eq-default h noRecord {n = recordsMost} few))
 
-  pub message-none : length h ≤ x → false ≡ some (writesItem item) (messageOps h m)
-  message-none g = sym (ap (some (writesItem item)) (ops-by-name m ∙ ap (λ (r : Record). r .ops) (List·getD-eq-default h noRecord {n = named m} (omega arith))))
+  pub message-none : length h ≤ x → false ≡ any (writesItem item) (messageOps h m)
+  message-none g = sym (ap (any (writesItem item)) (ops-by-name m ∙ ap (λ (r : Record). r .ops) (List·getD-eq-default h noRecord {n = named m} (omega arith))))
 
-  pub message-some : x < length h → some (writesItem item) (getD h x noRecord .ops) ≡ some (writesItem item) (messageOps h m)
-  message-some g = let is : x ≡ named m = omega arith in ap (λ (k : ℕ). some (writesItem item) (getD h k noRecord .ops)) is ∙ sym (ap (some (writesItem item)) (ops-by-name m))
+  pub message-some : x < length h → any (writesItem item) (getD h x noRecord .ops) ≡ any (writesItem item) (messageOps h m)
+  message-some g = let is : x ≡ named m = omega arith in ap (λ (k : ℕ). any (writesItem item) (getD h k noRecord .ops)) is ∙ sym (ap (any (writesItem item)) (ops-by-name m))
 
 -- ---- the messages of line k, and whether one of them writes the item
 abbrev pub onIt : List ℕ → ℕ → List Message
 onIt w k = getD (networkIn w .lines) k noLine .messages
 
 abbrev pub carries : List ℕ → ℕ → Message → Bool
-carries w item m = some (writesItem item) (messageOps (networkIn w .history) m)
+carries w item m = any (writesItem item) (messageOps (networkIn w .history) m)
 
-pub carried : (w : List ℕ) (p site item k : ℕ) → k ≡ lineNumber p site → some (carries w item) (onIt w k) ≡ onLine (networkIn w) site item p
-carried w p site item k e = ap (λ (j : ℕ). some (carries w item) (onIt w j)) e
+pub carried : (w : List ℕ) (p site item k : ℕ) → k ≡ lineNumber p site → any (carries w item) (onIt w k) ≡ onLine (networkIn w) site item p
+carried w p site item k e = ap (λ (j : ℕ). any (carries w item) (onIt w j)) e
 
 -- ---- an item, by the tests of the code
 module _ (n : Network) (i k : ℕ) where
@@ -195,12 +195,12 @@ few-placed w e = range-parts w e .few-items
 
 -- ---- the call
 module _ (w : List ℕ) (i : ℕ) where
-  pub waiting-refused : (r : ℕ) → r ≡ numberIn w (λ n. when (noSuchSite n i) 7) → (r ≡ 0 → ⊥) → Performed (waiting i) w w r 0 noStamp []
+  pub waiting-refused : (r : ℕ) → r ≡ numberIn w (λ n. numberIf (noSuchSite n i) 7) → (r ≡ 0 → ⊥) → Performed (waiting i) w w r 0 noStamp []
   unfolding perform waitingNumber
   waiting-refused r e h =
       performs-refused (waiting i) (λ n. waitingNumber n i) (λ n. accepted 0 noStamp [] n) (λ n. refl) refl w r (site-first w i (λ n. []) r e h) h
 
-  pub waiting-done : numberIn w (λ n. when (noSuchSite n i) 7) ≡ 0 → Performed (waiting i) w w 0 0 noStamp []
+  pub waiting-done : numberIn w (λ n. numberIf (noSuchSite n i) 7) ≡ 0 → Performed (waiting i) w w 0 0 noStamp []
   unfolding perform waitingNumber
   waiting-done z =
       let q = site-found w i z in

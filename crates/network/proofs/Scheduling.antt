@@ -30,7 +30,7 @@ use Rattle.lines.proofs.Boxes.{take-some}
 use Rattle.records.specs.Records.{opFits}
 use Rattle.network.specs.Layout.{itemsAt, itemsSize, linesMost}
 use Rattle.network.specs.Network.{Network, noStamp, noRecord, siteAt, lineAt, lineNumber, withSite, withLine, messageStamp, messageFits}
-use Rattle.network.specs.Steps.{when, noSuchSite, someBelow, scheduleNumber, head, headStamp, earlierOf, earliest, chosen, keep, writesFor, scheduleNetwork}
+use Rattle.network.specs.Steps.{numberIf, noSuchSite, someBelow, scheduleNumber, head, headStamp, earlierOf, earliest, chosen, keep, writesFor, scheduleNetwork}
 use Rattle.network.specs.Calls.{schedule, accepted, perform}
 use Rattle.network.specs.InWords.{networkIn, inRange, numberIn, SiteStep, LineStep}
 use Rattle.network.specs.Promises.{Performed}
@@ -61,7 +61,7 @@ module _ (n : Network) (j : ℕ) where
   lacks p = isLine (n .items) p j && eqb (lineAt n p j .arrived) 0
 
   abbrev second : List ℕ
-  second = when (not (hasParents (n .items) j)) 19 ∷ (when (someBelow lacks sitesMost) 20 ∷ [])
+  second = numberIf (not (hasParents (n .items) j)) 19 ∷ (numberIf (someBelow lacks sitesMost) 20 ∷ [])
 
   pub no-site : noSuchSite n j ≡ true → scheduleNumber n j ≡ 7
   unfolding scheduleNumber
@@ -70,25 +70,25 @@ module _ (n : Network) (j : ℕ) where
   module _ (a : noSuchSite n j ≡ false) where
     pub no-parents : hasParents (n .items) j ≡ false → scheduleNumber n j ≡ 19
     unfolding scheduleNumber
-    no-parents e = first-fails (noSuchSite n j) 7 second a ∙ first-holds (not (hasParents (n .items) j)) 18 (when (someBelow lacks sitesMost) 20 ∷ []) (ap not e)
+    no-parents e = first-fails (noSuchSite n j) 7 second a ∙ first-holds (not (hasParents (n .items) j)) 18 (numberIf (someBelow lacks sitesMost) 20 ∷ []) (ap not e)
 
     module _ (b : hasParents (n .items) j ≡ true) where
-      parented : scheduleNumber n j ≡ when (someBelow lacks sitesMost) 20
+      parented : scheduleNumber n j ≡ numberIf (someBelow lacks sitesMost) 20
       unfolding scheduleNumber
       parented =
           first-fails (noSuchSite n j) 7 second a
-          ∙ first-fails (not (hasParents (n .items) j)) 19 (when (someBelow lacks sitesMost) 20 ∷ []) (ap not b)
+          ∙ first-fails (not (hasParents (n .items) j)) 19 (numberIf (someBelow lacks sitesMost) 20 ∷ []) (ap not b)
           ∙ alone (someBelow lacks sitesMost)
         where
-          alone : (x : Bool) → cond (eqb (when x 20) 0) 0 (when x 20) ≡ when x 20
+          alone : (x : Bool) → cond (eqb (numberIf x 20) 0) 0 (numberIf x 20) ≡ numberIf x 20
           alone true = refl
           alone false = refl
 
       pub some-lack : someBelow lacks sitesMost ≡ true → scheduleNumber n j ≡ 20
-      some-lack e = parented ∙ ap (λ (x : Bool). when x 20) e
+      some-lack e = parented ∙ ap (λ (x : Bool). numberIf x 20) e
 
       pub none-lack : someBelow lacks sitesMost ≡ false → scheduleNumber n j ≡ 0
-      none-lack e = parented ∙ ap (λ (x : Bool). when x 20) e
+      none-lack e = parented ∙ ap (λ (x : Bool). numberIf x 20) e
 
 -- a bit of the mask of the parents
 pub parent-bit : (xs : List Item) (j mask p : ℕ) → mask ≡ maskOf (λ q. isLine xs q j) sitesMost → p < sitesMost → bit mask p ≡ isLine xs p j

@@ -24,7 +24,7 @@ use Rattle.lines.specs.InWords.{lineIn, lineRange, lineSize}
 use Rattle.records.specs.InWords.{recordIn, recordRange, recordSize}
 use Rattle.network.specs.Layout.{itemsAt, itemsSize, sitesAt, sitesSize, linesAt, linesSize, linesMost, historyAt, historySize, stateSize}
 use Rattle.network.specs.Network.{Network, noStamp}
-use Rattle.network.specs.Steps.{when, outside, itemsOf, startSite, startSites, setUpNumber, setUpNetwork}
+use Rattle.network.specs.Steps.{numberIf, outside, itemsOf, startSite, startSites, setUpNumber, setUpNetwork}
 use Rattle.network.specs.Calls.{setUp, Outcome, refused, accepted, perform}
 use Rattle.network.specs.InWords.{networkIn, inRange, meaning}
 use Rattle.network.specs.Promises.{Performed}
@@ -76,18 +76,18 @@ module _ (items : ℕ) (ps ms : List ℕ) where
 module _ (sites items : ℕ) (ps ms : List ℕ) where
   pub sites-refused : outside 1 sitesMost sites ≡ true → setUpNumber sites items ps ms ≡ 1
   unfolding setUpNumber
-  sites-refused e = first-holds (outside 1 sitesMost sites) 0 (when (wrongItems items ps ms) 2 ∷ (itemsNumber sites (itemsOf ps ms) ∷ [])) e
+  sites-refused e = first-holds (outside 1 sitesMost sites) 0 (numberIf (wrongItems items ps ms) 2 ∷ (itemsNumber sites (itemsOf ps ms) ∷ [])) e
 
   module _ (e : outside 1 sitesMost sites ≡ false) where
     pub items-refused : wrongItems items ps ms ≡ true → setUpNumber sites items ps ms ≡ 2
     unfolding setUpNumber
     items-refused f =
-        first-fails (outside 1 sitesMost sites) 1 (when (wrongItems items ps ms) 2 ∷ (itemsNumber sites (itemsOf ps ms) ∷ [])) e ∙ first-holds (wrongItems items ps ms) 1 (itemsNumber sites (itemsOf ps ms) ∷ []) f
+        first-fails (outside 1 sitesMost sites) 1 (numberIf (wrongItems items ps ms) 2 ∷ (itemsNumber sites (itemsOf ps ms) ∷ [])) e ∙ first-holds (wrongItems items ps ms) 1 (itemsNumber sites (itemsOf ps ms) ∷ []) f
 
     pub placement-number : wrongItems items ps ms ≡ false → setUpNumber sites items ps ms ≡ itemsNumber sites (itemsOf ps ms)
     unfolding setUpNumber
     placement-number f =
-        first-fails (outside 1 sitesMost sites) 1 (when (wrongItems items ps ms) 2 ∷ (itemsNumber sites (itemsOf ps ms) ∷ [])) e
+        first-fails (outside 1 sitesMost sites) 1 (numberIf (wrongItems items ps ms) 2 ∷ (itemsNumber sites (itemsOf ps ms) ∷ [])) e
         ∙ first-fails (wrongItems items ps ms) 2 (itemsNumber sites (itemsOf ps ms) ∷ []) f
         ∙ single (itemsNumber sites (itemsOf ps ms))
 
@@ -360,7 +360,7 @@ module _ (sites items : ℕ) (ps ms : List ℕ) where
   set-up-accepted z =
       let wrong = wrongItems items ps ms in
       let last : List ℕ = itemsNumber sites (itemsOf ps ms) ∷ [] in
-      let a = none-holds (outside 1 sitesMost sites) 0 (when wrong 2 ∷ last) z in
+      let a = none-holds (outside 1 sitesMost sites) 0 (numberIf wrong 2 ∷ last) z in
       (inside 1 sitesMost sites (a .0), agreeing items ps ms (none-holds wrong 1 last (a .1) .0))
 
   abbrev done : Outcome

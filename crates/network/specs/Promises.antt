@@ -6,7 +6,7 @@ use lib.IntN.{ℤ}
 use lib.ListN.{take, drop, replicate}
 use mathlib.Core.Bool.{true}
 use Rattle.timestamp.specs.declared.Timestamp.{Timestamp}
-use Rattle.timestamp.specs.Timestamp.{Stamp, pairOf, room, none}
+use Rattle.timestamp.specs.Timestamp.{Stamp, pairOf, room, noPair}
 use Rattle.site.specs.Operations.{Op, valuesRead}
 use Rattle.placement.specs.InWords.{itemsMost}
 use Rattle.network.specs.Network.{noStamp}
@@ -27,7 +27,7 @@ pub record Performed (call : Call) (entry exit : List ℕ) (number parent : ℕ)
 pub record Blank (t : Timestamp) : Type 0 where
   pub epoch-is : t .epoch .0 ≡ 0
   pub len-is : t .len ≡ 0
-  pub tuples-are : map pairOf (t .tuples) ≡ replicate room none
+  pub tuples-are : map pairOf (t .tuples) ≡ replicate room noPair
 
 -- of so many places the first `count` are used, and the rest are 0
 pub record Filled {A : Type 0} (z : A) (places count : ℕ) (vs : List A) : Type 0 where

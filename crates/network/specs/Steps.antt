@@ -13,7 +13,7 @@ use Rattle.timestamp.specs.Order.{order, isEarlier}
 use Rattle.site.specs.Operations.{Op, reads, writes, worked}
 use Rattle.site.specs.Site.{Site, committed, dummied, atEpoch, received}
 use Rattle.site.specs.InWords.{opsMost, tableSize}
-use Rattle.placement.specs.Placement.{Item, itemsNumber, firstNumber, some, noItem, owns, copies, isLine, hasParents}
+use Rattle.placement.specs.Placement.{Item, itemsNumber, firstNumber, any, noItem, owns, copies, isLine, hasParents}
 use Rattle.placement.specs.InWords.{sitesMost, itemsMost}
 use Rattle.lines.specs.Lines.{Message, commit, dummy, Line, noLine, heldMost, sent, delivered, taken}
 use Rattle.lines.specs.InWords.{recordsMost}
@@ -22,8 +22,8 @@ use Rattle.network.specs.Layout.{linesMost}
 use Rattle.network.specs.Network.{Network, withSite, withLine, siteAt, lineAt, lineNumber, messageStamp, messageOps}
 
 -- a cause that holds has its number, any other 0; a step's number is the first of its causes that hold
-abbrev pub when : Bool → ℕ → ℕ
-when b k = cond b k 0
+abbrev pub numberIf : Bool → ℕ → ℕ
+numberIf b k = cond b k 0
 
 -- ---- set-up (sites, items, a primary and a mask for each item)
 abbrev pub itemsOf : List ℕ → List ℕ → List Item
@@ -37,8 +37,8 @@ outside low high k = ltb k low || ltb high k
 unfoldable pub setUpNumber : ℕ → ℕ → List ℕ → List ℕ → ℕ
 setUpNumber sites items ps ms =
     firstNumber
-    (when (outside 1 sitesMost sites) 1
-    ∷ when (outside 1 itemsMost items || (not (eqb (length ps) items) || not (eqb (length ms) items))) 2
+    (numberIf (outside 1 sitesMost sites) 1
+    ∷ numberIf (outside 1 itemsMost items || (not (eqb (length ps) items) || not (eqb (length ms) items))) 2
     ∷ itemsNumber sites (itemsOf ps ms)
     ∷ [])
 
@@ -88,22 +88,22 @@ opsOf (k ∷ ks) (i ∷ is) (v ∷ vs) = record { kind = k; item = i; value = v 
 abbrev pub opNumber : List Item → ℕ → Op → ℕ
 opNumber xs i o =
     firstNumber
-    (when (ltb 1 (o .kind) || leb (length xs) (o .item)) 9
-    ∷ when (reads o && not (owns xs i (o .item) || copies xs i (o .item))) 10
-    ∷ when (writes o && not (owns xs i (o .item))) 11
+    (numberIf (ltb 1 (o .kind) || leb (length xs) (o .item)) 9
+    ∷ numberIf (reads o && not (owns xs i (o .item) || copies xs i (o .item))) 10
+    ∷ numberIf (writes o && not (owns xs i (o .item))) 11
     ∷ [])
 
 -- site c has a copy of an item that is written
 abbrev pub due : List Item → List Op → ℕ → Bool
-due xs os c = some (λ (o : Op). writes o && copies xs c (o .item)) os
+due xs os c = any (λ (o : Op). writes o && copies xs c (o .item)) os
 
 -- the causes that come after the lists' lengths
 abbrev pub commitCauses : Network → ℕ → List Op → List ℕ
 commitCauses n i os =
     firstNumber (map (opNumber (n .items) i) os)
-    ∷ when (leb recordsMost (length (n .history))) 12
-    ∷ when (someLineFull n i (due (n .items) os)) 13
-    ∷ when (countAtMost n i) 14
+    ∷ numberIf (leb recordsMost (length (n .history))) 12
+    ∷ numberIf (someLineFull n i (due (n .items) os)) 13
+    ∷ numberIf (countAtMost n i) 14
     ∷ []
 
 -- not 1 to 8 operations, or lists of several lengths
@@ -112,7 +112,7 @@ wrongLists kinds items values = outside 1 opsMost kinds || (not (eqb items kinds
 
 unfoldable pub commitNumber : Network → ℕ → List ℕ → List ℕ → List ℤ → ℕ
 commitNumber n i ks is vs =
-    firstNumber (when (noSuchSite n i) 7 ∷ when (wrongLists (length ks) (length is) (length vs)) 8 ∷ commitCauses n i (opsOf ks is vs))
+    firstNumber (numberIf (noSuchSite n i) 7 ∷ numberIf (wrongLists (length ks) (length is) (length vs)) 8 ∷ commitCauses n i (opsOf ks is vs))
 
 -- the record that a commit makes
 abbrev pub recordOf : Network → ℕ → List Op → Record
@@ -131,9 +131,9 @@ commitNetwork n i os =
 unfoldable pub dummyNumber : Network → ℕ → ℕ
 dummyNumber n i =
     firstNumber
-    (when (noSuchSite n i) 7
-    ∷ when (someLineFull n i (isLine (n .items) i)) 13
-    ∷ when (countAtMost n i) 14
+    (numberIf (noSuchSite n i) 7
+    ∷ numberIf (someLineFull n i (isLine (n .items) i)) 13
+    ∷ numberIf (countAtMost n i) 14
     ∷ [])
 
 unfoldable pub dummyNetwork : Network → ℕ → Network
@@ -149,9 +149,9 @@ dummyNetwork n i =
 unfoldable pub epochNumber : Network → ℕ → ℕ → ℕ
 epochNumber n i e =
     firstNumber
-    (when (noSuchSite n i) 7
-    ∷ when (hasParents (n .items) i) 15
-    ∷ when (leb e (siteAt n i .stamp .epoch)) 16
+    (numberIf (noSuchSite n i) 7
+    ∷ numberIf (hasParents (n .items) i) 15
+    ∷ numberIf (leb e (siteAt n i .stamp .epoch)) 16
     ∷ [])
 
 unfoldable pub epochNetwork : Network → ℕ → ℕ → Network
@@ -161,9 +161,9 @@ epochNetwork n i e = withSite n i (atEpoch e (siteAt n i))
 unfoldable pub deliverNumber : Network → ℕ → ℕ → ℕ
 deliverNumber n p c =
     firstNumber
-    (when (noSuchSite n p || noSuchSite n c) 7
-    ∷ when (not (isLine (n .items) p c)) 17
-    ∷ when (leb (length (lineAt n p c .messages)) (lineAt n p c .arrived)) 18
+    (numberIf (noSuchSite n p || noSuchSite n c) 7
+    ∷ numberIf (not (isLine (n .items) p c)) 17
+    ∷ numberIf (leb (length (lineAt n p c .messages)) (lineAt n p c .arrived)) 18
     ∷ [])
 
 unfoldable pub deliverNetwork : Network → ℕ → ℕ → Network
@@ -173,9 +173,9 @@ deliverNetwork n p c = withLine n (lineNumber p c) (delivered (lineAt n p c))
 unfoldable pub scheduleNumber : Network → ℕ → ℕ
 scheduleNumber n j =
     firstNumber
-    (when (noSuchSite n j) 7
-    ∷ when (not (hasParents (n .items) j)) 19
-    ∷ when (someBelow (λ p. isLine (n .items) p j && eqb (lineAt n p j .arrived) 0) sitesMost) 20
+    (numberIf (noSuchSite n j) 7
+    ∷ numberIf (not (hasParents (n .items) j)) 19
+    ∷ numberIf (someBelow (λ p. isLine (n .items) p j && eqb (lineAt n p j .arrived) 0) sitesMost) 20
     ∷ [])
 
 -- the oldest message on the line from p to j, and its timestamp

@@ -6,12 +6,12 @@ use Prim.Native.Nat.{ℕ, _+_, _≤_}
 use lib.ListN.{take, drop}
 use lib.Dec.{eqb}
 use Rattle.site.specs.Operations.{Op, writes}
-use Rattle.placement.specs.Placement.{firstNumber, some, copies}
+use Rattle.placement.specs.Placement.{firstNumber, any, copies}
 use Rattle.placement.specs.InWords.{sitesMost}
 use Rattle.lines.specs.Lines.{Message, commit, dummy}
 use Rattle.lines.specs.InWords.{recordsMost}
 use Rattle.network.specs.Network.{Network, lineAt, messageOps}
-use Rattle.network.specs.Steps.{when, noSuchSite, someBelow}
+use Rattle.network.specs.Steps.{numberIf, noSuchSite, someBelow}
 
 -- the operation writes item k
 abbrev pub writesItem : ℕ → Op → Bool
@@ -19,14 +19,14 @@ writesItem k o = writes o && eqb (o .item) k
 
 -- a message on the line from p to site i writes item k
 abbrev pub onLine : Network → ℕ → ℕ → ℕ → Bool
-onLine n i k p = some (λ (m : Message). some (writesItem k) (messageOps (n .history) m)) (lineAt n p i .messages)
+onLine n i k p = any (λ (m : Message). any (writesItem k) (messageOps (n .history) m)) (lineAt n p i .messages)
 
 -- site i has a copy of item k, and a message on some line into it writes it
 unfoldable pub isWaiting : Network → ℕ → ℕ → Bool
 isWaiting n i k = copies (n .items) i k && someBelow (onLine n i k) sitesMost
 
 unfoldable pub waitingNumber : Network → ℕ → ℕ
-waitingNumber n i = firstNumber (when (noSuchSite n i) 7 ∷ [])
+waitingNumber n i = firstNumber (numberIf (noSuchSite n i) 7 ∷ [])
 
 -- how often a number stands in a list
 abbrev pub occurrences : ℕ → List ℕ → ℕ

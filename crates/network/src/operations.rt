@@ -6,7 +6,7 @@ ghost use lib.IntN.{pos};
 ghost use lib.ListN.{length, take, drop, getD};
 ghost use Rattle.site.specs.Operations.{valuesRead};
 ghost use Rattle.site.specs.InWords.{opAt, opsIn, opsMost};
-ghost use Rattle.placement.specs.Placement.{some};
+ghost use Rattle.placement.specs.Placement.{any};
 ghost use Rattle.network.specs.Steps.{opsOf};
 ghost use Rattle.network.specs.Waiting.{writesItem};
 ghost use Rattle.network.specs.Promises.{Filled};
@@ -51,7 +51,7 @@ pub(crate) fn values_read(ops: &[u32], n: usize) -> Given
 // Whether one of the first n operations writes the item.
 pub(crate) fn writes_item(ops: &[u32], n: usize, item: u32) -> bool
     requires { ⌜ n ≤ opsMost ⌝ }
-    ensures { λ r. ⌜ r ≡ some (writesItem item) (opsIn n (now (ops .entry))) ⌝ }
+    ensures { λ r. ⌜ r ≡ any (writesItem item) (opsIn n (now (ops .entry))) ⌝ }
 {
     let mut k = 0;
     while k < n {

@@ -7,7 +7,7 @@ ghost use mathlib.Core.Path.{_≡_};
 ghost use mathlib.Core.Bool.{true};
 ghost use Prim.Native.Nat.{_≤_, _<_};
 ghost use lib.ListN.{length, take, getD};
-ghost use Rattle.placement.specs.Placement.{some};
+ghost use Rattle.placement.specs.Placement.{any};
 ghost use Rattle.placement.specs.InWords.{sitesMost, itemsMost};
 ghost use Rattle.lines.specs.Lines.{commit, noLine};
 ghost use Rattle.network.specs.Layout.{stateSize, linesMost};
@@ -108,7 +108,7 @@ fn on_line(state: &[u32], p: u32, site: u32, item: u32) -> bool
 // Whether message i of line k writes the item: a dummy names no record, and writes nothing.
 fn in_message(state: &[u32], k: usize, i: usize, item: u32) -> bool
     requires { ⌜ (length (now state) ≡ stateSize) × (inRange (now state) ≡ true) × (k < linesMost) × (i < length (getD (networkIn (now state) .lines) k noLine .messages)) ⌝ }
-    ensures { λ r. ⌜ r ≡ some (writesItem item) (messageOps (networkIn (now (state .entry)) .history) (getD (getD (networkIn (now (state .entry)) .lines) k noLine .messages) i (commit 0))) ⌝ }
+    ensures { λ r. ⌜ r ≡ any (writesItem item) (messageOps (networkIn (now (state .entry)) .history) (getD (getD (networkIn (now (state .entry)) .lines) k noLine .messages) i (commit 0))) ⌝ }
 {
     let name = state::line_name(state, k, i);
     if state[2] <= name {

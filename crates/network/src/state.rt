@@ -21,7 +21,7 @@ ghost use Rattle.site.specs.Operations.{worked};
 ghost use Rattle.site.specs.Site.{committed, dummied, atEpoch, received};
 ghost use Rattle.site.specs.InWords.{opsIn, opsMost};
 ghost use Rattle.placement.specs.Masks.{maskOf};
-ghost use Rattle.placement.specs.Placement.{some, isLine, hasParents, owns, copies};
+ghost use Rattle.placement.specs.Placement.{any, isLine, hasParents, owns, copies};
 ghost use Rattle.placement.specs.InWords.{sitesMost};
 ghost use Rattle.lines.specs.Lines.{commit, noLine, heldMost, sentOrSame, deliveredOrSame, takenOrSame};
 ghost use Rattle.lines.specs.InWords.{messageOf, recordsMost};
@@ -262,7 +262,7 @@ pub(crate) fn record_count(state: &[u32], k: usize) -> usize
 // Whether an operation of a record writes the item.
 pub(crate) fn record_writes(state: &[u32], k: usize, item: u32) -> bool
     requires { ⌜ (length (now state) ≡ stateSize) × (inRange (now state) ≡ true) × (k < getD (now state) 2 0) × (k < recordsMost) ⌝ }
-    ensures { λ r. ⌜ r ≡ some (writesItem item) (getD (networkIn (now (state .entry)) .history) k noRecord .ops) ⌝ }
+    ensures { λ r. ⌜ r ≡ any (writesItem item) (getD (networkIn (now (state .entry)) .history) k noRecord .ops) ⌝ }
 {
     let n = record_count(state, k);
     let a = HISTORY + k * RECORD + 20;

@@ -15,7 +15,7 @@ use Rattle.placement.specs.Placement.{Item, firstNumber, namesMissing, namesBel
 use Rattle.placement.specs.InWords.{sitesMost, itemsMost}
 use Rattle.lines.specs.InWords.{recordsMost}
 use Rattle.network.specs.Network.{Network, noRecord, siteAt, lineAt}
-use Rattle.network.specs.Steps.{when, outside, itemsOf, noSuchSite, countAtMost, someBelow, someLineFull, opsOf, opNumber, due, wrongLists, setUpNumber, commitNumber, dummyNumber, epochNumber, deliverNumber, scheduleNumber}
+use Rattle.network.specs.Steps.{numberIf, outside, itemsOf, noSuchSite, countAtMost, someBelow, someLineFull, opsOf, opNumber, due, wrongLists, setUpNumber, commitNumber, dummyNumber, epochNumber, deliverNumber, scheduleNumber}
 use Rattle.network.specs.Waiting.{waitingNumber}
 use Rattle.network.specs.Calls.{Call, setUp, commit, dummy, epoch, deliver, schedule, waiting, perform}
 use Rattle.one_copy.specs.Agreement.{Known, StampsDiffer, Never6}
@@ -48,7 +48,7 @@ first-not6 : {m rest : ℕ} → Not6 m → Not6 rest → Not6 (cond (eqb m 0) re
 first-not6 {m = m} f g = either-not6 (eqb m 0) g f
 
 -- the first of a cause and the rest
-when-not6 : {rest : ℕ} (b : Bool) (m : ℕ) → eqb m 6 ≡ false → Not6 rest → Not6 (cond (eqb (when b m) 0) rest (when b m))
+when-not6 : {rest : ℕ} (b : Bool) (m : ℕ) → eqb m 6 ≡ false → Not6 rest → Not6 (cond (eqb (numberIf b m) 0) rest (numberIf b m))
 when-not6 b m e g = first-not6 (either-not6 b (record { differs = e }) zero-not6) g
 
 all-not6 : {A : Type 0} (f : A → ℕ) → ((x : A) → Not6 (f x)) → (xs : List A) → Not6 (firstNumber (map f xs))

@@ -20,7 +20,7 @@ use Rattle.lines.specs.Lines.{Message, commit, dummy}
 use Rattle.lines.specs.InWords.{recordsMost}
 use Rattle.records.specs.Records.{Record}
 use Rattle.network.specs.Network.{Network, noRecord, siteAt, messageStamp, messageFits, wellShaped}
-use Rattle.network.specs.Steps.{when, noSuchSite, countAtMost, someLineFull, opNumber, due, keep, opsOf, wrongLists, commitNumber, commitNetwork, recordOf}
+use Rattle.network.specs.Steps.{numberIf, noSuchSite, countAtMost, someLineFull, opNumber, due, keep, opsOf, wrongLists, commitNumber, commitNetwork, recordOf}
 use Rattle.network.proofs.Numbers.{none-holds, none-first}
 use Rattle.network.proofs.Keeps.{noOp, OpShape, op-at, raised-made, keeps-commit}
 use Rattle.one_copy.specs.Agreement.{holds}
@@ -234,12 +234,12 @@ commit-causes n i ks is vs z =
     let sized = wrongLists (length ks) (length is) (length vs) in
     let full = leb recordsMost (length (n .history)) in
     let mail = someLineFull n i (due xs os) in
-    let most : List ℕ = when (countAtMost n i) 14 ∷ [] in
-    let rest : List ℕ = when full 12 ∷ (when mail 13 ∷ most) in
-    let a = none-holds (noSuchSite n i) 6 (when sized 8 ∷ (firstNumber (map (opNumber xs i) os) ∷ rest)) z in
+    let most : List ℕ = numberIf (countAtMost n i) 14 ∷ [] in
+    let rest : List ℕ = numberIf full 12 ∷ (numberIf mail 13 ∷ most) in
+    let a = none-holds (noSuchSite n i) 6 (numberIf sized 8 ∷ (firstNumber (map (opNumber xs i) os) ∷ rest)) z in
     let b = none-holds sized 7 (firstNumber (map (opNumber xs i) os) ∷ rest) (a .1) in
     let c = none-first (firstNumber (map (opNumber xs i) os)) rest (b .1) in
-    let d = none-holds full 11 (when mail 13 ∷ most) (c .1) in
+    let d = none-holds full 11 (numberIf mail 13 ∷ most) (c .1) in
     let f = none-holds mail 12 most (d .1) in
     let g = none-holds (countAtMost n i) 13 [] (f .1) in
     (leb-false (length (n .sites)) i (a .0), g .0, c .0)

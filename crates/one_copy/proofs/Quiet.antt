@@ -21,7 +21,7 @@ use Rattle.placement.specs.InWords.{sitesMost}
 use Rattle.lines.specs.Lines.{Message, dummy, Line, noLine, delivered}
 use Rattle.records.specs.Records.{Record}
 use Rattle.network.specs.Network.{Network, noSite, siteAt, lineAt, lineNumber, messageStamp, messageFits, wellShaped}
-use Rattle.network.specs.Steps.{when, noSuchSite, countAtMost, someLineFull, sentTo, dummyNumber, dummyNetwork, epochNumber, epochNetwork, deliverNumber, deliverNetwork}
+use Rattle.network.specs.Steps.{numberIf, noSuchSite, countAtMost, someLineFull, sentTo, dummyNumber, dummyNetwork, epochNumber, epochNetwork, deliverNumber, deliverNetwork}
 use Rattle.network.proofs.Numbers.{none-holds}
 use Rattle.network.proofs.WellShaped.{set-each, sent-length, sent-other, sent-here}
 use Rattle.network.proofs.Keeps.{keeps-deliver, keeps-epoch, keeps-dummy}
@@ -126,8 +126,8 @@ epoch-keeps n inv i e z =
     let t = stampAt n i in
     let low = leb e (t .epoch) in
     let new = atEpoch e (siteAt n i) in
-    let a = none-holds (noSuchSite n i) 6 (when (hasParents (n .items) i) 15 ∷ (when low 16 ∷ [])) z in
-    let b = none-holds (hasParents (n .items) i) 14 (when low 16 ∷ []) (a .1) in
+    let a = none-holds (noSuchSite n i) 6 (numberIf (hasParents (n .items) i) 15 ∷ (numberIf low 16 ∷ [])) z in
+    let b = none-holds (hasParents (n .items) i) 14 (numberIf low 16 ∷ []) (a .1) in
     let c = none-holds low 15 [] (b .1) in
     let site : i < length (n .sites) = leb-false (length (n .sites)) i (a .0) in
     let later : Before t (new .stamp) = epoch-later byNumber t (new .stamp) (leb-false e (t .epoch) (c .0)) in
@@ -196,8 +196,8 @@ pub dummy-causes : (n : Network) (i : ℕ) → dummyNumber n i ≡ 0 → (i < le
 unfolding dummyNumber
 dummy-causes n i z =
     let gets = isLine (n .items) i in
-    let a = none-holds (noSuchSite n i) 6 (when (someLineFull n i gets) 13 ∷ (when (countAtMost n i) 14 ∷ [])) z in
-    let b = none-holds (someLineFull n i gets) 12 (when (countAtMost n i) 14 ∷ []) (a .1) in
+    let a = none-holds (noSuchSite n i) 6 (numberIf (someLineFull n i gets) 13 ∷ (numberIf (countAtMost n i) 14 ∷ [])) z in
+    let b = none-holds (someLineFull n i gets) 12 (numberIf (countAtMost n i) 14 ∷ []) (a .1) in
     (leb-false (length (n .sites)) i (a .0), none-holds (countAtMost n i) 13 [] (b .1) .0)
 
 pub dummy-keeps : (n : Network) → Invariant n → (i : ℕ) → dummyNumber n i ≡ 0 → Invariant (dummyNetwork n i)

@@ -19,7 +19,7 @@ use Rattle.placement.proofs.Laws.{line-upward}
 use Rattle.lines.specs.Lines.{Line, noLine}
 use Rattle.network.specs.Layout.{linesMost}
 use Rattle.network.specs.Network.{Network, siteAt, lineNumber}
-use Rattle.network.specs.Steps.{when, outside, itemsOf, startSite, setUpNumber, setUpNetwork}
+use Rattle.network.specs.Steps.{numberIf, outside, itemsOf, startSite, setUpNumber, setUpNetwork}
 use Rattle.network.proofs.Numbers.{none-holds, none-first, or-false}
 use Rattle.network.proofs.Keeps.{start-length, start-at, keeps-set-up}
 use Rattle.one_copy.proofs.Times.{UpTo}
@@ -37,7 +37,7 @@ module _ (sites items : ℕ) (ps ms : List ℕ) (z : setUpNumber sites items ps 
   causes =
       let xs = itemsOf ps ms in
       let lists = not (eqb (length ps) items) || not (eqb (length ms) items) in
-      let a = none-holds (outside 1 sitesMost sites) 0 (when (outside 1 itemsMost items || lists) 2 ∷ (itemsNumber sites xs ∷ [])) z in
+      let a = none-holds (outside 1 sitesMost sites) 0 (numberIf (outside 1 itemsMost items || lists) 2 ∷ (itemsNumber sites xs ∷ [])) z in
       let b = none-holds (outside 1 itemsMost items || lists) 1 (itemsNumber sites xs ∷ []) (a .1) in
       let c = or-false (outside 1 itemsMost items) lists (b .0) in
       let few = ltb-false sitesMost sites (or-false (ltb sites 1) (ltb sitesMost sites) (a .0) .1) in

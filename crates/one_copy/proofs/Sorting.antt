@@ -10,7 +10,7 @@ use borrow.Author.Tests.{eqb-true, eq-eqb, ne-eqb}
 use Rattle.timestamp.specs.Order.{byNumber, orderBy, notLater}
 use Rattle.timestamp.proofs.Comparisons.{not-later-trans, later-turned}
 use Rattle.timestamp.proofs.OrderLaws.{by-number-laws}
-use Rattle.placement.specs.Placement.{some}
+use Rattle.placement.specs.Placement.{any}
 use Rattle.records.specs.Records.{Record}
 use Rattle.network.specs.Steps.{keep}
 use Rattle.one_copy.specs.Run.{Turn, numbered, comesFirst, insert, sorted, inTurn, find}
@@ -161,7 +161,7 @@ module _ (p : Turn → Bool) where
 
 -- ---- a turn found by its number
 abbrev pub has : ℕ → List Turn → Bool
-has k cs = some (λ (c : Turn). eqb (c .number) k) cs
+has k cs = any (λ (c : Turn). eqb (c .number) k) cs
 
 pub each-found : (P : Record → Type 0) (cs : List Turn) (k : ℕ) → Each (λ c. P (c .commit)) cs → has k cs ≡ true → P (find cs k)
 each-found P [] k h e = absurd (false≢true e)

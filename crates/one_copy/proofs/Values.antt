@@ -8,7 +8,7 @@ use lib.IntN.{ℤ, pos}
 use lib.ListN.{length, getD}
 use lib.Dec.{eqb}
 use Rattle.site.specs.Operations.{Op, writes}
-use Rattle.placement.specs.Placement.{some}
+use Rattle.placement.specs.Placement.{any}
 use Rattle.records.specs.Records.{Record}
 use Rattle.network.specs.Network.{noRecord}
 use Rattle.network.specs.Steps.{keep}
@@ -19,7 +19,7 @@ writesTo x o = writes o && eqb (o .item) x
 
 -- some operation writes the item
 abbrev pub touches : ℕ → List Op → Bool
-touches x os = some (writesTo x) os
+touches x os = any (writesTo x) os
 
 -- the item's value after operations, from the value before
 abbrev pub wrote : ℕ → ℤ → List Op → ℤ

@@ -11,7 +11,7 @@ use Rattle.words.specs.Words.{chunks}
 use Rattle.words.proofs.Parts.{part-getD}
 use Rattle.words.proofs.Chunks.{chunks-length, chunks-at}
 use Rattle.placement.specs.Masks.{bit}
-use Rattle.placement.specs.Placement.{Item, some, namesMissing, namesBelow, itemNumber, itemsNumber, noItem}
+use Rattle.placement.specs.Placement.{Item, any, namesMissing, namesBelow, itemNumber, itemsNumber, noItem}
 use Rattle.placement.specs.InWords.{itemSize, itemIn, itemAt, itemsIn}
 use Rattle.placement.proofs.Walks.{some-true, some-next, some-done, first-here, first-next, first-done}
 
@@ -90,14 +90,14 @@ module _ (n : ℕ) (w : List ℕ) where
   items-at k h = List·getD-map itemIn (chunks itemSize n w) k [] ∙ ap itemIn (chunks-at itemSize n w k h)
 
 -- a walk that leaves at the first item that passes a test
-module _ (test : Item → Bool) (n : ℕ) (w : List ℕ) (k : ℕ) (e : some test (itemsIn n w) ≡ some test (drop k (itemsIn n w))) where
-  pub found : k < n → test (itemAt w k) ≡ true → some test (itemsIn n w) ≡ true
+module _ (test : Item → Bool) (n : ℕ) (w : List ℕ) (k : ℕ) (e : any test (itemsIn n w) ≡ any test (drop k (itemsIn n w))) where
+  pub found : k < n → test (itemAt w k) ≡ true → any test (itemsIn n w) ≡ true
   found h q = some-true test (itemsIn n w) k noItem e (omega (arith, items-length n w)) (ap test (items-at n w k h) ∙ q)
 
-  pub not-yet : k < n → test (itemAt w k) ≡ false → some test (itemsIn n w) ≡ some test (drop (k + 1) (itemsIn n w))
+  pub not-yet : k < n → test (itemAt w k) ≡ false → any test (itemsIn n w) ≡ any test (drop (k + 1) (itemsIn n w))
   not-yet h q = some-next test (itemsIn n w) k noItem e (omega (arith, items-length n w)) (ap test (items-at n w k h) ∙ q)
 
-  pub not-found : n ≤ k → some test (itemsIn n w) ≡ false
+  pub not-found : n ≤ k → any test (itemsIn n w) ≡ false
   not-found h = some-done test (itemsIn n w) k noItem e (omega (arith, items-length n w))
 
 -- a walk that leaves at the first faulty item

@@ -11,7 +11,7 @@ use lib.Dec.{eqb, ltb, leb}
 use borrow.Author.Tests.{eqb-true, eqb-false, leb-false, ltb-true, ltb-false}
 use Rattle.words.proofs.Walks.{and-true}
 use Rattle.placement.specs.Masks.{bit, maskOf}
-use Rattle.placement.specs.Placement.{Item, some, namesMissing, namesBelow, itemNumber, itemsNumber, noItem, isLine}
+use Rattle.placement.specs.Placement.{Item, any, namesMissing, namesBelow, itemNumber, itemsNumber, noItem, isLine}
 use Rattle.placement.proofs.Items.{joined, copied}
 
 -- ---- the bits of a mask
@@ -100,16 +100,16 @@ module _ (sites : ℕ) (x : Item) (k : ℕ) (z : itemNumber sites x ≡ 0) (b : 
 
 -- ---- some element, by its place
 module _ {A : Type 0} (p : A → Bool) where
-  pub some-at : (xs : List A) (i : ℕ) (d : A) → i < length xs → p (getD xs i d) ≡ true → some p xs ≡ true
+  pub some-at : (xs : List A) (i : ℕ) (d : A) → i < length xs → p (getD xs i d) ≡ true → any p xs ≡ true
   some-at [] i d h q = absurd (not-suc-le-zero h)
-  some-at (x ∷ xs) zero d h q = ap (λ (b : Bool). b || some p xs) q
+  some-at (x ∷ xs) zero d h q = ap (λ (b : Bool). b || any p xs) q
   some-at (x ∷ xs) (suc i) d h q = ap (λ (b : Bool). p x || b) (some-at xs i d (omega arith) q) ∙ or-true (p x)
 
-  pub some-index : (xs : List A) (d : A) → some p xs ≡ true → (i : ℕ) × (i < length xs) × (p (getD xs i d) ≡ true)
+  pub some-index : (xs : List A) (d : A) → any p xs ≡ true → (i : ℕ) × (i < length xs) × (p (getD xs i d) ≡ true)
   some-index [] d e = absurd (false≢true e)
   some-index (x ∷ xs) d e = go (p x) refl e (some-index xs d)
     where
-      go : (b : Bool) → p x ≡ b → (b || some p xs) ≡ true → (some p xs ≡ true → (i : ℕ) × (i < length xs) × (p (getD xs i d) ≡ true)) → (i : ℕ) × (i < suc (length xs)) × (p (getD (x ∷ xs) i d) ≡ true)
+      go : (b : Bool) → p x ≡ b → (b || any p xs) ≡ true → (any p xs ≡ true → (i : ℕ) × (i < length xs) × (p (getD xs i d) ≡ true)) → (i : ℕ) × (i < suc (length xs)) × (p (getD (x ∷ xs) i d) ≡ true)
       go true q e rest = (0, omega arith, q)
       go false q e rest = let s = rest e in (suc (s .0), omega arith, s .2)
 

@@ -8,20 +8,20 @@ use lib.ListN.{length, getD, drop, drop-of-length-le}
 use lib.Seq.{drop-cons}
 use lib.Dec.{eqb}
 use borrow.Author.Tests.{eq-eqb, ne-eqb}
-use Rattle.placement.specs.Placement.{some, firstNumber}
+use Rattle.placement.specs.Placement.{any, firstNumber}
 
-module _ {A : Type 0} (p : A → Bool) (l : List A) (i : ℕ) (d : A) (e : some p l ≡ some p (drop i l)) where
-  some-step : i < length l → some p l ≡ (p (getD l i d) || some p (drop (suc i) l))
+module _ {A : Type 0} (p : A → Bool) (l : List A) (i : ℕ) (d : A) (e : any p l ≡ any p (drop i l)) where
+  some-step : i < length l → any p l ≡ (p (getD l i d) || any p (drop (suc i) l))
   some-step h = e ∙ rw (drop-cons l i d h)
 
-  pub some-true : i < length l → p (getD l i d) ≡ true → some p l ≡ true
-  some-true h q = some-step h ∙ ap (λ (b : Bool). b || some p (drop (suc i) l)) q
+  pub some-true : i < length l → p (getD l i d) ≡ true → any p l ≡ true
+  some-true h q = some-step h ∙ ap (λ (b : Bool). b || any p (drop (suc i) l)) q
 
-  pub some-next : i < length l → p (getD l i d) ≡ false → some p l ≡ some p (drop (i + 1) l)
-  some-next h q = some-step h ∙ ap (λ (b : Bool). b || some p (drop (suc i) l)) q ∙ ap (λ (k : ℕ). some p (drop k l)) (sym (add-one i))
+  pub some-next : i < length l → p (getD l i d) ≡ false → any p l ≡ any p (drop (i + 1) l)
+  some-next h q = some-step h ∙ ap (λ (b : Bool). b || any p (drop (suc i) l)) q ∙ ap (λ (k : ℕ). any p (drop k l)) (sym (add-one i))
 
-  pub some-done : length l ≤ i → some p l ≡ false
-  some-done h = e ∙ ap (some p) (drop-of-length-le l {i = i} h)
+  pub some-done : length l ≤ i → any p l ≡ false
+  some-done h = e ∙ ap (any p) (drop-of-length-le l {i = i} h)
 
 module _ {A : Type 0} (f : A → ℕ) (l : List A) (i : ℕ) (d : A) (e : firstNumber (map f l) ≡ firstNumber (map f (drop i l))) where
   first-step : i < length l → (b : Bool) → eqb (f (getD l i d)) 0 ≡ b → firstNumber (map f l) ≡ cond b (firstNumber (map f (drop (suc i) l))) (f (getD l i d))

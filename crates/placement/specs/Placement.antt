@@ -11,9 +11,9 @@ pub record Item : Type 0 where
   pub mask : ℕ
 
 -- some element passes the test
-abbrev pub some : {A : Type 0} → (A → Bool) → List A → Bool
-some p [] = false
-some p (x ∷ xs) = p x || some p xs
+abbrev pub any : {A : Type 0} → (A → Bool) → List A → Bool
+any p [] = false
+any p (x ∷ xs) = p x || any p xs
 
 -- the first number that is not 0, or 0
 abbrev pub firstNumber : List ℕ → ℕ
@@ -53,8 +53,8 @@ copies xs i k = bit (getD xs k noItem .mask) i
 
 -- there is a line from site p to site c: some item has its primary at p and a copy at c
 unfoldable pub isLine : List Item → ℕ → ℕ → Bool
-isLine xs p c = some (λ (x : Item). eqb (x .primary) p && bit (x .mask) c) xs
+isLine xs p c = any (λ (x : Item). eqb (x .primary) p && bit (x .mask) c) xs
 
 -- site c has a parent: some item has a copy there
 unfoldable pub hasParents : List Item → ℕ → Bool
-hasParents xs c = some (λ (x : Item). bit (x .mask) c) xs
+hasParents xs c = any (λ (x : Item). bit (x .mask) c) xs

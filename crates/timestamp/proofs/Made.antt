@@ -10,7 +10,7 @@ use lib.Seq.{drop-cons, getD-take, length-take-le}
 use lib.Dec.{ltb, leb, eqb}
 use borrow.Author.Tests.{lt-ltb, le-ltb, le-leb, lt-leb, ltb-true, leb-true, leb-false, eqb-true, eq-eqb}
 use Rattle.words.proofs.Walks.{and-true}
-use Rattle.timestamp.specs.Timestamp.{Pair, Stamp, none, room, appended, raisedLast, raised, lastPair, ownSite}
+use Rattle.timestamp.specs.Timestamp.{Pair, Stamp, noPair, room, appended, raisedLast, raised, lastPair, ownSite}
 use Rattle.timestamp.specs.Order.{byNumber, Below}
 use Rattle.timestamp.specs.InWords.{pairAt, pairsAt, stampIn}
 use Rattle.timestamp.specs.Made.{rising, madeBy, stampShaped}
@@ -18,21 +18,21 @@ use Rattle.timestamp.proofs.Value.{last-at, last-snoc}
 
 -- ---- the sites of a list, one after another
 module _ (place : ℕ → ℕ) (ps : List Pair) (k : ℕ) where
-  rise-step : suc k < length ps → rising place (drop k ps) ≡ (ltb (place (getD ps k none .site)) (place (getD ps (suc k) none .site)) && rising place (drop (suc k) ps))
+  rise-step : suc k < length ps → rising place (drop k ps) ≡ (ltb (place (getD ps k noPair .site)) (place (getD ps (suc k) noPair .site)) && rising place (drop (suc k) ps))
   unfolding rising
   rise-step h =
-      let next = drop-cons ps (suc k) none h in
-      ap (rising place) (drop-cons ps k none (omega arith) ∙ ap {B = List Pair} (λ r. getD ps k none ∷ r) next)
-      ∙ ap (λ (r : List Pair). ltb (place (getD ps k none .site)) (place (getD ps (suc k) none .site)) && rising place r) (sym next)
+      let next = drop-cons ps (suc k) noPair h in
+      ap (rising place) (drop-cons ps k noPair (omega arith) ∙ ap {B = List Pair} (λ r. getD ps k noPair ∷ r) next)
+      ∙ ap (λ (r : List Pair). ltb (place (getD ps k noPair .site)) (place (getD ps (suc k) noPair .site)) && rising place r) (sym next)
 
   module _ (same : rising place ps ≡ rising place (drop k ps)) where
-    pub rise-stops : suc k < length ps → place (getD ps (suc k) none .site) ≤ place (getD ps k none .site) → rising place ps ≡ false
+    pub rise-stops : suc k < length ps → place (getD ps (suc k) noPair .site) ≤ place (getD ps k noPair .site) → rising place ps ≡ false
     rise-stops h b =
-        same ∙ rise-step h ∙ ap (λ (t : Bool). t && rising place (drop (suc k) ps)) (le-ltb (place (getD ps k none .site)) (place (getD ps (suc k) none .site)) b)
+        same ∙ rise-step h ∙ ap (λ (t : Bool). t && rising place (drop (suc k) ps)) (le-ltb (place (getD ps k noPair .site)) (place (getD ps (suc k) noPair .site)) b)
 
-    pub rise-goes-on : suc k < length ps → place (getD ps k none .site) < place (getD ps (suc k) none .site) → rising place ps ≡ rising place (drop (suc k) ps)
+    pub rise-goes-on : suc k < length ps → place (getD ps k noPair .site) < place (getD ps (suc k) noPair .site) → rising place ps ≡ rising place (drop (suc k) ps)
     rise-goes-on h b =
-        same ∙ rise-step h ∙ ap (λ (t : Bool). t && rising place (drop (suc k) ps)) (lt-ltb (place (getD ps k none .site)) (place (getD ps (suc k) none .site)) b)
+        same ∙ rise-step h ∙ ap (λ (t : Bool). t && rising place (drop (suc k) ps)) (lt-ltb (place (getD ps k noPair .site)) (place (getD ps (suc k) noPair .site)) b)
 
     pub rise-ends : length ps ≤ suc k → rising place ps ≡ true
     unfolding rising
@@ -42,14 +42,14 @@ module _ (place : ℕ → ℕ) (ps : List Pair) (k : ℕ) where
         go true e = same ∙ ap (rising place) (drop-of-length-le ps {i = k} (leb-true (length ps) k e))
         go false e =
             same
-            ∙ ap (rising place) (drop-cons ps k none (omega (arith, leb-false (length ps) k e)) ∙ ap {B = List Pair} (λ r. getD ps k none ∷ r) (drop-of-length-le ps {i = suc k} h))
+            ∙ ap (rising place) (drop-cons ps k noPair (omega (arith, leb-false (length ps) k e)) ∙ ap {B = List Pair} (λ r. getD ps k noPair ∷ r) (drop-of-length-le ps {i = suc k} h))
 
 -- ---- in words
 pairs-length : (w : List ℕ) (at n : ℕ) → length (pairsAt w at n) ≡ n
 pairs-length w at zero = refl
 pairs-length w at (suc n) = ap suc (pairs-length w (at + 2) n)
 
-pairs-at : (w : List ℕ) (at n i : ℕ) → i < n → getD (pairsAt w at n) i none ≡ pairAt w (at + 2 * i)
+pairs-at : (w : List ℕ) (at n i : ℕ) → i < n → getD (pairsAt w at n) i noPair ≡ pairAt w (at + 2 * i)
 pairs-at w at zero i h = absurd (not-suc-le-zero h)
 pairs-at w at (suc n) zero h = let e : at ≡ at + 2 * 0 = omega arith in ap (pairAt w) e
 pairs-at w at (suc n) (suc i) h = let e : at + 2 + 2 * i ≡ at + 2 * suc i = omega arith in pairs-at w (at + 2) n i (omega arith) ∙ ap (pairAt w) e
@@ -61,9 +61,9 @@ module _ (w : List ℕ) (n : ℕ) (few : n ≤ room) where
   pub held-length : length held ≡ n
   held-length = length-take-le n (pairsAt w 2 room) (omega (arith, pairs-length w 2 room))
 
-  pub held-site : (i at : ℕ) → i < n → at ≡ 2 + 2 * i → getD held i none .site ≡ getD w at 0
+  pub held-site : (i at : ℕ) → i < n → at ≡ 2 + 2 * i → getD held i noPair .site ≡ getD w at 0
   held-site i at h e =
-      ap (λ (p : Pair). p .site) (getD-take n (pairsAt w 2 room) i none h ∙ pairs-at w 2 room i (omega arith)) ∙ ap (λ (j : ℕ). getD w j 0) (sym e)
+      ap (λ (p : Pair). p .site) (getD-take n (pairsAt w 2 room) i noPair h ∙ pairs-at w 2 room i (omega arith)) ∙ ap (λ (j : ℕ). getD w j 0) (sym e)
 
   pub held-own : 0 < n → lastPair held .site ≡ getD w (2 * n) 0
   held-own h =

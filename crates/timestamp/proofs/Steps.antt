@@ -8,7 +8,7 @@ use lib.Seq.{drop-cons}
 use borrow.Author.Tests.{lt-ltb, le-ltb}
 use Rattle.timestamp.specs.declared.Order.{Order}
 use Rattle.timestamp.specs.declared.Order.the-variants.{Earlier, Equal, Later}
-use Rattle.timestamp.specs.Timestamp.{Pair, none}
+use Rattle.timestamp.specs.Timestamp.{Pair, noPair}
 use Rattle.timestamp.specs.Order.{thenBy, numberOrder, pairOrder, tuplesOrder}
 
 module _ (a b : ℕ) where
@@ -26,18 +26,18 @@ module _ (a b : ℕ) where
 
 -- two lists that do not differ before i
 module _ (place : ℕ → ℕ) (xs ys : List Pair) (i : ℕ) (same : tuplesOrder place xs ys ≡ tuplesOrder place (drop i xs) (drop i ys)) where
-  pub both-go-on : i < length xs → i < length ys → (r : Order) → pairOrder place (getD xs i none) (getD ys i none) ≡ r → tuplesOrder place xs ys ≡ thenBy r (tuplesOrder place (drop (suc i) xs) (drop (suc i) ys))
+  pub both-go-on : i < length xs → i < length ys → (r : Order) → pairOrder place (getD xs i noPair) (getD ys i noPair) ≡ r → tuplesOrder place xs ys ≡ thenBy r (tuplesOrder place (drop (suc i) xs) (drop (suc i) ys))
   unfolding tuplesOrder
   both-go-on p q r e =
-      same ∙ rw (drop-cons xs i none p, drop-cons ys i none q) (ap (λ (o : Order). thenBy o (tuplesOrder place (drop (suc i) xs) (drop (suc i) ys))) e)
+      same ∙ rw (drop-cons xs i noPair p, drop-cons ys i noPair q) (ap (λ (o : Order). thenBy o (tuplesOrder place (drop (suc i) xs) (drop (suc i) ys))) e)
 
   pub second-ends : i < length xs → length ys ≤ i → tuplesOrder place xs ys ≡ Later
   unfolding tuplesOrder
-  second-ends p q = same ∙ rw (drop-cons xs i none p, drop-of-length-le ys {i = i} q)
+  second-ends p q = same ∙ rw (drop-cons xs i noPair p, drop-of-length-le ys {i = i} q)
 
   pub first-ends : length xs ≤ i → i < length ys → tuplesOrder place xs ys ≡ Earlier
   unfolding tuplesOrder
-  first-ends p q = same ∙ rw (drop-of-length-le xs {i = i} p, drop-cons ys i none q)
+  first-ends p q = same ∙ rw (drop-of-length-le xs {i = i} p, drop-cons ys i noPair q)
 
   pub both-end : length xs ≤ i → length ys ≤ i → tuplesOrder place xs ys ≡ Equal
   unfolding tuplesOrder

@@ -11,7 +11,7 @@ use borrow.Author.Tests.{lt-ltb, le-ltb}
 use Rattle.words.proofs.Walks.{take-min}
 use Rattle.timestamp.specs.declared.Tuple.{Tuple}
 use Rattle.timestamp.specs.declared.Epoch.{Epoch}
-use Rattle.timestamp.specs.Timestamp.{Pair, Stamp, pairOf, stampOf, none, room, greatest, appended, appendedOrSame, lastPair, ownCount, raisedLast, raised, raisedOrSame}
+use Rattle.timestamp.specs.Timestamp.{Pair, Stamp, pairOf, stampOf, noPair, room, greatest, appended, appendedOrSame, lastPair, ownCount, raisedLast, raised, raisedOrSame}
 
 -- the tuples of the first n places
 abbrev pub pairs : ℕ → List Tuple → List Pair
@@ -22,12 +22,12 @@ noTuple = record { site = 0; count = record { 0 = 0 } }
 
 -- ---- laws of the definitions
 -- the last tuple stands at the last place
-pub last-at : (ps : List Pair) → lastPair ps ≡ getD ps (length ps - 1) none
+pub last-at : (ps : List Pair) → lastPair ps ≡ getD ps (length ps - 1) noPair
 last-at [] = refl
 last-at (x ∷ []) = refl
 last-at (x ∷ (y ∷ ys)) =
     let e : suc (suc (length ys) - 1) ≡ suc (suc (length ys)) - 1 = omega arith in
-    last-at (y ∷ ys) ∙ ap (λ (k : ℕ). getD (x ∷ (y ∷ ys)) k none) e
+    last-at (y ∷ ys) ∙ ap (λ (k : ℕ). getD (x ∷ (y ∷ ys)) k noPair) e
 
 pub last-snoc : (ps : List Pair) (p : Pair) → lastPair (ps ++ (p ∷ [])) ≡ p
 last-snoc [] p = refl
@@ -66,18 +66,18 @@ module _ (e : Epoch) (l : List Tuple) (len : ℕ) (eight : length l ≡ 8) where
   pub size-law : length (pairs len l) ≡ min len room
   size-law = length-map (take len l) pairOf ∙ length-take len l ∙ ap (min len) eight
 
-  pub tuple-law : (i : ℕ) → i < min len room → pairOf (getD l i noTuple) ≡ getD (pairs len l) i none
+  pub tuple-law : (i : ℕ) → i < min len room → pairOf (getD l i noTuple) ≡ getD (pairs len l) i noPair
   tuple-law i h = sym (List·getD-map pairOf (take len l) i noTuple ∙ ap pairOf (getD-take len l i noTuple (omega arith)))
 
-  pub past-law : (i : ℕ) → min len room ≤ i → none ≡ getD (pairs len l) i none
-  past-law i h = sym (List·getD-eq-default (pairs len l) none {n = i} (omega (arith, size-law)))
+  pub past-law : (i : ℕ) → min len room ≤ i → noPair ≡ getD (pairs len l) i noPair
+  past-law i h = sym (List·getD-eq-default (pairs len l) noPair {n = i} (omega (arith, size-law)))
 
   pub own-law : (n : ℕ) → n ≡ min len room → (n ≡ 0 → ⊥) → pairOf (getD l (n - 1) noTuple) ≡ lastPair (pairs len l)
   own-law n f z =
       let g : length (pairs len l) - 1 ≡ n - 1 = omega (arith, size-law) in
-      tuple-law (n - 1) (omega arith) ∙ ap (λ (k : ℕ). getD (pairs len l) k none) (sym g) ∙ sym (last-at (pairs len l))
+      tuple-law (n - 1) (omega arith) ∙ ap (λ (k : ℕ). getD (pairs len l) k noPair) (sym g) ∙ sym (last-at (pairs len l))
 
-  pub no-own-law : min len room ≡ 0 → none ≡ lastPair (pairs len l)
+  pub no-own-law : min len room ≡ 0 → noPair ≡ lastPair (pairs len l)
   no-own-law z = past-law (length (pairs len l) - 1) (omega arith) ∙ sym (last-at (pairs len l))
 
   pub append-law : (n : ℕ) (x : Tuple) → n ≡ min len room → n < 8 → stampOf (record { epoch = e; len = n + 1; tuples = set l n x }) ≡ appendedOrSame value (x .site) (x .count .0)

@@ -10,7 +10,7 @@ use Rattle.words.proofs.Walks.{spell, spelled, map-take, overlaid-same}
 use Rattle.timestamp.specs.declared.Tuple.{Tuple}
 use Rattle.timestamp.specs.declared.Epoch.{Epoch}
 use Rattle.timestamp.specs.declared.Timestamp.{Timestamp}
-use Rattle.timestamp.specs.Timestamp.{Pair, Stamp, pairOf, stampOf, none, room}
+use Rattle.timestamp.specs.Timestamp.{Pair, Stamp, pairOf, stampOf, noPair, room}
 use Rattle.timestamp.specs.InWords.{pairAt, pairsAt, stampIn, wordsFrom, stampWords, stampSize}
 
 -- ---- read
@@ -42,7 +42,7 @@ words-length s = refl
 -- what was written is read back
 pub words-back : (s : Stamp) → length (s .tuples) ≤ room → stampIn (stampWords s) ≡ s
 unfolding stampIn stampWords
-words-back s h = ap (λ (ps : List Pair). record { epoch = s .epoch; tuples = ps }) (spelled none room (s .tuples) h)
+words-back s h = ap (λ (ps : List Pair). record { epoch = s .epoch; tuples = ps }) (spelled noPair room (s .tuples) h)
 
 -- also from the slice that it was written to
 pub written-back : (w : List ℕ) (s : Stamp) → length w ≡ stampSize → length (s .tuples) ≤ room → stampIn (overlaid w (stampWords s)) ≡ s

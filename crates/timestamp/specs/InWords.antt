@@ -2,7 +2,7 @@
 use mathlib.Core.List.{List, [], _∷_}
 use Prim.Native.Nat.{ℕ, zero, suc, _+_, _*_}
 use lib.ListN.{length, take, getD}
-use Rattle.timestamp.specs.Timestamp.{Pair, Stamp, none, room}
+use Rattle.timestamp.specs.Timestamp.{Pair, Stamp, noPair, room}
 
 abbrev pub stampSize : ℕ
 stampSize = 2 + 2 * room
@@ -24,7 +24,7 @@ stampIn w = record { epoch = getD w 0 0; tuples = take (getD w 1 0) (pairsAt w 2
 -- the words of n tuples from number i on, zeros where there is none
 abbrev pub wordsFrom : List Pair → ℕ → ℕ → List ℕ
 wordsFrom ps i zero = []
-wordsFrom ps i (suc n) = getD ps i none .site ∷ (getD ps i none .count ∷ wordsFrom ps (suc i) n)
+wordsFrom ps i (suc n) = getD ps i noPair .site ∷ (getD ps i noPair .count ∷ wordsFrom ps (suc i) n)
 
 unfoldable pub stampWords : Stamp → List ℕ
 stampWords s = s .epoch ∷ (length (s .tuples) ∷ wordsFrom (s .tuples) 0 room)

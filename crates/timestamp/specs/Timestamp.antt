@@ -32,8 +32,8 @@ abbrev pub greatest : ℕ
 greatest = 4294967295
 
 -- what stands where there is no tuple
-abbrev pub none : Pair
-none = record { site = 0; count = 0 }
+abbrev pub noPair : Pair
+noPair = record { site = 0; count = 0 }
 
 -- ---- another epoch
 abbrev pub withEpoch : Stamp → ℕ → Stamp
@@ -49,7 +49,7 @@ appendedOrSame s j c = cond (ltb (length (s .tuples)) room) (appended s j c) s
 
 -- ---- the own tuple, which is the last one, and its count one higher
 abbrev pub lastPair : List Pair → Pair
-lastPair [] = none
+lastPair [] = noPair
 lastPair (x ∷ []) = x
 lastPair (x ∷ (y ∷ ys)) = lastPair (y ∷ ys)
 

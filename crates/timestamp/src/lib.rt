@@ -7,7 +7,7 @@ pub use in_words::made_by;
 ghost use mathlib.Core.Path.{_≡_};
 ghost use Prim.Native.Nat.{min, _≤_};
 ghost use lib.ListN.{length, getD};
-ghost use Rattle.timestamp.specs.Timestamp.{stampOf, pairOf, none, withEpoch, appendedOrSame, raisedOrSame, lastPair, room};
+ghost use Rattle.timestamp.specs.Timestamp.{stampOf, pairOf, noPair, withEpoch, appendedOrSame, raisedOrSame, lastPair, room};
 
 // An epoch number. It is a type of its own, so that no count is compared with it.
 pub struct Epoch(pub u32);
@@ -44,7 +44,7 @@ impl Timestamp {
 
     // The tuple at a place, and zeros where there is none.
     pub fn tuple(self, i: usize) -> Tuple
-        ensures { λ r. ⌜ pairOf r ≡ getD (stampOf self .tuples) i none ⌝ }
+        ensures { λ r. ⌜ pairOf r ≡ getD (stampOf self .tuples) i noPair ⌝ }
     {
         if i < used(self.len) {
             return self.tuples[i];

@@ -4,7 +4,7 @@ use Prim.Native.Nat.{ℕ, _-_, min}
 use native.Mathlib.Omega.{arith}
 use lib.ListN.{drop}
 use Rattle.placement.specs.Masks.{bit}
-use Rattle.placement.specs.Placement.{some, hasParents}
+use Rattle.placement.specs.Placement.{any, hasParents}
 use Rattle.placement.specs.InWords.{itemsIn, itemsMost, itemAt}
 use Rattle.placement.proofs.Items.{copied, found, not-yet, not-found}
 use borrow.Author.Needs.{needs}
@@ -12,7 +12,7 @@ use Rattle.placement.proofs.has_parents.Statement.{statement}
 use Rattle.placement.proofs.has_parents.Tie as tie
 
 abbrev Inv-loop : tie.InvT-loop
-Inv-loop w items c n k₀ k = some (copied c) (itemsIn (min items itemsMost) w) ≡ some (copied c) (drop k (itemsIn (min items itemsMost) w))
+Inv-loop w items c n k₀ k = any (copied c) (itemsIn (min items itemsMost) w) ≡ any (copied c) (drop k (itemsIn (min items itemsMost) w))
 
 abbrev μ-loop : tie.MeasureT-loop
 μ-loop w items c n k₀ k = n - k

@@ -3,7 +3,7 @@ use mathlib.Core.Path.{_≡_, sym, _∙_}
 use Prim.Native.Nat.{_-_, min}
 use native.Mathlib.Omega.{arith}
 use lib.ListN.{drop}
-use Rattle.placement.specs.Placement.{some, isLine}
+use Rattle.placement.specs.Placement.{any, isLine}
 use Rattle.placement.specs.InWords.{itemsIn, itemsMost}
 use Rattle.placement.proofs.Items.{joined, found, not-yet, not-found}
 use borrow.Author.Needs.{needs}
@@ -11,7 +11,7 @@ use Rattle.placement.proofs.is_line.Statement.{statement}
 use Rattle.placement.proofs.is_line.Tie as tie
 
 abbrev Inv-loop : tie.InvT-loop
-Inv-loop w items p c n k₀ k = some (joined p c) (itemsIn (min items itemsMost) w) ≡ some (joined p c) (drop k (itemsIn (min items itemsMost) w))
+Inv-loop w items p c n k₀ k = any (joined p c) (itemsIn (min items itemsMost) w) ≡ any (joined p c) (drop k (itemsIn (min items itemsMost) w))
 
 abbrev μ-loop : tie.MeasureT-loop
 μ-loop w items p c n k₀ k = n - k

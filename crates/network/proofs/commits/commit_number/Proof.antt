@@ -6,7 +6,7 @@ use Prim.Native.Nat.{ℕ}
 use lib.ListN.{length}
 use Rattle.site.specs.Operations.{Op}
 use Rattle.placement.specs.Placement.{firstNumber}
-use Rattle.network.specs.Steps.{when, noSuchSite, opsOf, wrongLists, commitCauses, commitNumber}
+use Rattle.network.specs.Steps.{numberIf, noSuchSite, opsOf, wrongLists, commitCauses, commitNumber}
 use Rattle.network.specs.InWords.{networkIn, shaped}
 use Rattle.network.proofs.Performs.{number-shaped, shaped-range, site-found, site-first}
 use Rattle.network.proofs.Committing.{lists-right, commit-lists, commit-later}
@@ -23,7 +23,7 @@ site-number-requires c κs = search needs
 
 returns : tie.Need-returns
 unfolding commitNumber
-returns c = let A = c .before .before .before .before .before .args in site-first (A .state .now) (A .site) (λ n. when (wrongLists (length (A .kinds .now)) (length (A .items .now)) (length (A .values .now))) 8 ∷ commitCauses n (A .site) (opsOf (A .kinds .now) (A .items .now) (A .values .now))) (c .before .site-number .result) (c .before .site-number .ensures) (c .if1 .taken)
+returns c = let A = c .before .before .before .before .before .args in site-first (A .state .now) (A .site) (λ n. numberIf (wrongLists (length (A .kinds .now)) (length (A .items .now)) (length (A .values .now))) 8 ∷ commitCauses n (A .site) (opsOf (A .kinds .now) (A .items .now) (A .values .now))) (c .before .site-number .result) (c .before .site-number .ensures) (c .if1 .taken)
 
 wrong-lists-requires : tie.Need-wrong-lists-requires
 wrong-lists-requires c κs = search needs

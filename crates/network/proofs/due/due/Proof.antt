@@ -8,7 +8,7 @@ use lib.ListN.{drop}
 use Rattle.site.specs.Operations.{Op, writes}
 use Rattle.site.specs.InWords.{opIn, opsIn}
 use Rattle.site.proofs.Laws.{ops-length, ops-at}
-use Rattle.placement.specs.Placement.{Item, some, copies}
+use Rattle.placement.specs.Placement.{Item, any, copies}
 use Rattle.placement.proofs.Walks.{some-true, some-next, some-done}
 use Rattle.network.specs.InWords.{networkIn}
 use borrow.Author.Needs.{needs}
@@ -20,7 +20,7 @@ abbrev copied : List Item → ℕ → Op → Bool
 copied xs c o = writes o && copies xs c (o .item)
 
 abbrev Inv-loop : tie.InvT-loop
-Inv-loop state ops n c k₀ k = (k ≤ n) × (some (copied (networkIn state .items) c) (opsIn n ops) ≡ some (copied (networkIn state .items) c) (drop k (opsIn n ops)))
+Inv-loop state ops n c k₀ k = (k ≤ n) × (any (copied (networkIn state .items) c) (opsIn n ops) ≡ any (copied (networkIn state .items) c) (drop k (opsIn n ops)))
 
 abbrev μ-loop : tie.MeasureT-loop
 μ-loop state ops n c k₀ k = n - k

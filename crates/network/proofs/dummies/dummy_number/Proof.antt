@@ -8,7 +8,7 @@ use lib.ListN.{getD}
 use Rattle.placement.specs.Masks.{bit}
 use Rattle.placement.specs.Placement.{isLine}
 use Rattle.placement.specs.InWords.{sitesMost}
-use Rattle.network.specs.Steps.{when, noSuchSite, countAtMost, someLineFull, dummyNumber}
+use Rattle.network.specs.Steps.{numberIf, noSuchSite, countAtMost, someLineFull, dummyNumber}
 use Rattle.network.specs.InWords.{networkIn, shaped}
 use Rattle.network.proofs.Performs.{number-shaped, shaped-range, site-found, site-first, site-below}
 use Rattle.network.proofs.Dummying.{full-by-mask, dummy-full, dummy-largest, dummy-free}
@@ -34,7 +34,7 @@ site-number-requires c κs = search needs
 
 returns : tie.Need-returns
 unfolding dummyNumber
-returns c = let A = c .before .before .before .args in site-first (A .state .now) (A .site) (λ n. when (someLineFull n (A .site) (isLine (n .items) (A .site))) 13 ∷ when (countAtMost n (A .site)) 14 ∷ []) (c .before .site-number .result) (c .before .site-number .ensures) (c .if1 .taken)
+returns c = let A = c .before .before .before .args in site-first (A .state .now) (A .site) (λ n. numberIf (someLineFull n (A .site) (isLine (n .items) (A .site))) 13 ∷ numberIf (countAtMost n (A .site)) 14 ∷ []) (c .before .site-number .result) (c .before .site-number .ensures) (c .if1 .taken)
 
 wide-requires : tie.Need-wide-requires
 wide-requires c κs = search needs

@@ -10,7 +10,7 @@ use Rattle.timestamp.specs.Timestamp.{Stamp}
 use Rattle.placement.specs.Placement.{hasParents}
 use Rattle.placement.specs.InWords.{sitesMost}
 use Rattle.network.specs.Network.{siteAt}
-use Rattle.network.specs.Steps.{when, noSuchSite, epochNumber}
+use Rattle.network.specs.Steps.{numberIf, noSuchSite, epochNumber}
 use Rattle.network.specs.InWords.{networkIn, inRange, shaped}
 use Rattle.network.proofs.Performs.{number-shaped, shaped-range, site-found, site-first, site-below}
 use Rattle.network.proofs.Entering.{epoch-below, epoch-old, epoch-new}
@@ -32,7 +32,7 @@ site-number-requires c κs = search needs
 
 returns : tie.Need-returns
 unfolding epochNumber
-returns c = let A = c .before .before .before .args in site-first (A .state .now) (A .site) (λ n. when (hasParents (n .items) (A .site)) 15 ∷ when (leb (A .to) (siteAt n (A .site) .stamp .epoch)) 16 ∷ []) (c .before .site-number .result) (c .before .site-number .ensures) (c .if1 .taken)
+returns c = let A = c .before .before .before .args in site-first (A .state .now) (A .site) (λ n. numberIf (hasParents (n .items) (A .site)) 15 ∷ numberIf (leb (A .to) (siteAt n (A .site) .stamp .epoch)) 16 ∷ []) (c .before .site-number .result) (c .before .site-number .ensures) (c .if1 .taken)
 
 has-parents-requires : tie.Need-has-parents-requires
 has-parents-requires c κs = (c .before .before .before .pre, shaped-range (c .before .before .before .args .state .now) (found (c) .0))

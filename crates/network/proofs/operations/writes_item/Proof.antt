@@ -6,7 +6,7 @@ use native.Mathlib.Omega.{arith}
 use lib.ListN.{drop}
 use Rattle.site.specs.InWords.{opIn, opsIn}
 use Rattle.site.proofs.Laws.{ops-length, ops-at}
-use Rattle.placement.specs.Placement.{some}
+use Rattle.placement.specs.Placement.{any}
 use Rattle.placement.proofs.Walks.{some-true, some-next, some-done}
 use Rattle.network.specs.Waiting.{writesItem}
 use borrow.Author.Needs.{needs}
@@ -14,7 +14,7 @@ use Rattle.network.proofs.operations.writes_item.Statement.{statement}
 use Rattle.network.proofs.operations.writes_item.Tie as tie
 
 abbrev Inv-loop : tie.InvT-loop
-Inv-loop ops n item k₀ k = (k ≤ n) × (some (writesItem item) (opsIn n ops) ≡ some (writesItem item) (drop k (opsIn n ops)))
+Inv-loop ops n item k₀ k = (k ≤ n) × (any (writesItem item) (opsIn n ops) ≡ any (writesItem item) (drop k (opsIn n ops)))
 
 abbrev μ-loop : tie.MeasureT-loop
 μ-loop ops n item k₀ k = n - k

@@ -4,7 +4,7 @@ use Prim.Native.Nat.{ℕ}
 use native.Mathlib.Omega.{arith}
 use lib.ListN.{getD}
 use Rattle.lines.specs.Lines.{commit, noLine}
-use Rattle.placement.specs.Placement.{some}
+use Rattle.placement.specs.Placement.{any}
 use Rattle.network.specs.Network.{noRecord}
 use Rattle.network.specs.Waiting.{writesItem}
 use Rattle.network.specs.InWords.{networkIn}
@@ -40,7 +40,7 @@ returns-2 c =
     let s = c .before .before .before .before .before .before in
     let w = s .args .state .now in
     let h = networkIn w .history in
-    c .record-writes .ensures ∙ ap (λ (k : ℕ). some (writesItem (s .args .item)) (getD h k noRecord .ops)) (c .before .wide .ensures) ∙ message-some (s .args .item) h (few-made w (s .pre .1)) (getD (getD (networkIn w .lines) (s .args .k) noLine .messages) (s .args .i) (commit 0)) (c .before .before .before .before .line-name .result) (c .before .before .before .before .line-name .ensures) (omega (arith, records-count w, c .before .before .if1 .left))
+    c .record-writes .ensures ∙ ap (λ (k : ℕ). any (writesItem (s .args .item)) (getD h k noRecord .ops)) (c .before .wide .ensures) ∙ message-some (s .args .item) h (few-made w (s .pre .1)) (getD (getD (networkIn w .lines) (s .args .k) noLine .messages) (s .args .i) (commit 0)) (c .before .before .before .before .line-name .result) (c .before .before .before .before .line-name .ensures) (omega (arith, records-count w, c .before .before .if1 .left))
 
 pub in-message-spec : {M : Type 1} → statement M
 in-message-spec =

@@ -3,7 +3,7 @@ use mathlib.Core.Path.{_≡_, refl, sym, _∙_}
 use Prim.Native.Nat.{_+_, _*_, _≤_, _-_}
 use native.Mathlib.Omega.{arith}
 use lib.ListN.{drop}
-use Rattle.placement.specs.Placement.{some}
+use Rattle.placement.specs.Placement.{any}
 use Rattle.placement.specs.InWords.{sitesMost}
 use Rattle.placement.proofs.Walks.{some-true, some-next, some-done}
 use Rattle.lines.specs.Lines.{commit}
@@ -13,7 +13,7 @@ use Rattle.network.proofs.reports.on_line.Statement.{statement}
 use Rattle.network.proofs.reports.on_line.Tie as tie
 
 abbrev Inv-loop : tie.InvT-loop
-Inv-loop state p site item k n i₀ i = (i ≤ n) × (some (carries state item) (onIt state k) ≡ some (carries state item) (drop i (onIt state k)))
+Inv-loop state p site item k n i₀ i = (i ≤ n) × (any (carries state item) (onIt state k) ≡ any (carries state item) (drop i (onIt state k)))
 
 abbrev μ-loop : tie.MeasureT-loop
 μ-loop state p site item k n i₀ i = n - i

@@ -1,6 +1,6 @@
 -- `state::record_writes` asks the words of the record's operations.
 use mathlib.Core.Path.{ap, _∙_}
-use Rattle.placement.specs.Placement.{some}
+use Rattle.placement.specs.Placement.{any}
 use Rattle.network.specs.Waiting.{writesItem}
 use Rattle.network.proofs.Access.{ops-counted}
 use borrow.Author.Needs.{needs}
@@ -40,7 +40,7 @@ writes-item-requires c κs = search needs
 returns : tie.Need-returns
 returns c =
     let s = c .before .before .before .before in
-    c .writes-item .ensures ∙ ap (some (writesItem (s .args .item))) (ops-counted (s .args .state .now) (s .pre .0) (s .pre .1) (s .args .k) (s .pre .2) (c .before .before .record-count .result) (c .before .before .record-count .ensures .0))
+    c .writes-item .ensures ∙ ap (any (writesItem (s .args .item))) (ops-counted (s .args .state .now) (s .pre .0) (s .pre .1) (s .args .k) (s .pre .2) (c .before .before .record-count .result) (c .before .before .record-count .ensures .0))
 
 pub record-writes-spec : {M : Type 1} → statement M
 record-writes-spec =

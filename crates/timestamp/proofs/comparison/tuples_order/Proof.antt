@@ -7,7 +7,7 @@ use native.Mathlib.Numerals.{add-one}
 use lib.ListN.{drop, getD}
 use Rattle.timestamp.specs.declared.Order.{Order}
 use Rattle.timestamp.specs.declared.Order.the-variants.{Earlier, Equal, Later}
-use Rattle.timestamp.specs.Timestamp.{Pair, stampOf, none}
+use Rattle.timestamp.specs.Timestamp.{Pair, stampOf, noPair}
 use Rattle.timestamp.specs.Order.{byNumber, thenBy, pairOrder, tuplesOrder}
 use Rattle.timestamp.proofs.Steps.{both-go-on, second-ends, first-ends, both-end}
 use borrow.Author.Needs.{needs}

@@ -4,7 +4,7 @@ use mathlib.Core.List.{List}
 use Prim.Native.Nat.{ℕ, suc, _+_, _*_, _≤_, _<_, _-_}
 use native.Mathlib.Omega.{arith}
 use lib.ListN.{length, getD, take, drop}
-use Rattle.timestamp.specs.Timestamp.{Pair, none, room}
+use Rattle.timestamp.specs.Timestamp.{Pair, noPair, room}
 use Rattle.timestamp.specs.Order.{byNumber}
 use Rattle.timestamp.specs.InWords.{pairsAt}
 use Rattle.timestamp.specs.Made.{rising}
@@ -25,8 +25,8 @@ passed h = take (h .before .before .args .n) (pairsAt (h .before .before .args .
 
 record Turn (h : tie.At-loop Inv-loop μ-loop) (before after : ℕ) : Type 0 where
   inside : suc (h .loop .i - 1) < length (passed h)
-  first : getD (passed h) (h .loop .i - 1) none .site ≡ before
-  second : getD (passed h) (suc (h .loop .i - 1)) none .site ≡ after
+  first : getD (passed h) (h .loop .i - 1) noPair .site ≡ before
+  second : getD (passed h) (suc (h .loop .i - 1)) noPair .site ≡ after
 
 turn : (c : tie.After-word2 Inv-loop μ-loop) → Turn (c .before .before .before) (c .word2 .result) (c .before .word .result)
 unfolding passed
