@@ -7,6 +7,7 @@ mod dummies; // dummies.rt: dummy
 mod epochs; // epochs.rt: epoch
 mod operations; // operations.rt: a commit's operations in words, and the values read
 mod placing; // placing.rt: set-up
+mod reading; // reading.rt: what the crates above read of a state
 mod schedules; // schedules.rt: schedule
 mod sending; // sending.rt: a message to several sites
 mod shape; // shape.rt: whether the words are those of a network
@@ -17,6 +18,9 @@ pub use deliveries::deliver;
 pub use dummies::dummy;
 pub use epochs::epoch;
 pub use placing::set_up;
+pub use reading::holdings;
+pub use reading::record;
+pub use reading::well_shaped;
 pub use schedules::schedule;
 use timestamp::Timestamp;
 
@@ -39,6 +43,21 @@ pub struct Scheduled {
     pub number: u32,
     pub parent: u32,
     pub stamp: Timestamp,
+}
+
+// How many sites, items and records a state holds.
+pub struct Totals {
+    pub sites: u32,
+    pub items: u32,
+    pub records: u32,
+}
+
+// A record of the history: its site, its timestamp, and the first `count` of eight operations, three words each.
+pub struct Entry {
+    pub site: u32,
+    pub stamp: Timestamp,
+    pub count: usize,
+    pub ops: [u32; 24],
 }
 
 // Where the parts of a state start, and its size.
