@@ -1,0 +1,5 @@
+pub mod Bytes
+pub mod File
+pub mod Reading
+pub mod Promises
+pub mod Example

@@ -1,0 +1,1 @@
+// Export: the file written to the front of a lent buffer.
