@@ -7,13 +7,14 @@ use Prim.Native.Nat.{ℕ, zero, suc, _+_}
 use lib.IntN.{ℤ, pos}
 use lib.ListN.{length, getD, drop}
 use lib.Dec.{eqb, ltb, leb}
-use Rattle.timestamp.specs.Timestamp.{Stamp}
+use Rattle.timestamp.specs.Timestamp.{stampOf}
 use Rattle.site.specs.Operations.{Op}
 use Rattle.site.specs.InWords.{opsMost}
 use Rattle.placement.specs.Placement.{firstNumber}
 use Rattle.records.specs.Records.{Record}
 use Rattle.network.specs.Network.{Network, noRecord}
 use Rattle.network.specs.Steps.{when}
+use Rattle.history.specs.declared.Found.{Found}
 use Rattle.history.specs.File.{History, historyOf, fileOf}
 use Rattle.history.specs.Reading.{fileNumber, historyRead, partRead, recordRead, recordValid, sizeRead, startOf}
 
@@ -46,34 +47,39 @@ abbrev pub placesFrom : {A : Type 0} → (Op → A) → List Op → ℕ → ℕ 
 placesFrom f os i zero = []
 placesFrom f os i (suc n) = f (getD os i noOp) ∷ placesFrom f os (suc i) n
 
--- an answer's fields are those of a record
-pub record Holds (r : Record) (site : ℕ) (stamp : Stamp) (count : ℕ) (kinds items : List ℕ) (values : List ℤ) : Type 0 where
-  pub site-is : site ≡ r .site
-  pub stamp-is : stamp ≡ r .stamp
-  pub count-is : count ≡ length (r .ops)
-  pub kinds-are : kinds ≡ placesFrom (λ o. o .kind) (r .ops) 0 opsMost
-  pub items-are : items ≡ placesFrom (λ o. o .item) (r .ops) 0 opsMost
-  pub values-are : values ≡ placesFrom (λ o. o .value) (r .ops) 0 opsMost
-
--- the record of a number in a file
-unfoldable pub recordNumber : List ℕ → ℕ → ℕ
-recordNumber b k = firstNumber (fileNumber b ∷ when (leb (length (historyRead b .records)) k) 24 ∷ [])
-
--- where the next starts in the part
-abbrev pub nextNumbered : List ℕ → ℕ → ℕ
-nextNumbered b k = cond (eqb (recordNumber b k) 0) (startOf (suc k) (partRead b)) 0
-
-abbrev pub recordNumbered : List ℕ → ℕ → Record
-recordNumbered b k = getD (historyRead b .records) k noRecord
-
--- ---- the record that starts at a place of a part, of a group of that many sites and items, and where the next starts
+-- what reading one record answers: its number, where the next starts in the part, and the record
 pub record Step : Type 0 where
   pub number : ℕ
   pub next : ℕ
   pub found : Record
 
+-- refused: the number alone
+abbrev pub noStep : ℕ → Step
+noStep k = record { number = k; next = 0; found = noRecord }
+
+-- the fields of the code's value are those of the answer; its operations stand at eight places
+pub record Gives (s : Step) (r : Found) : Type 0 where
+  pub number-is : r .number ≡ s .number
+  pub next-is : r .next ≡ s .next
+  pub site-is : r .site ≡ s .found .site
+  pub stamp-is : stampOf (r .stamp) ≡ s .found .stamp
+  pub count-is : r .count ≡ length (s .found .ops)
+  pub kinds-are : r .kinds ≡ placesFrom (λ o. o .kind) (s .found .ops) 0 opsMost
+  pub items-are : r .items ≡ placesFrom (λ o. o .item) (s .found .ops) 0 opsMost
+  pub values-are : r .values ≡ placesFrom (λ o. o .value) (s .found .ops) 0 opsMost
+
+-- ---- by its number in a file
+unfoldable pub recordNumber : List ℕ → ℕ → ℕ
+recordNumber b k = firstNumber (fileNumber b ∷ when (leb (length (historyRead b .records)) k) 24 ∷ [])
+
+unfoldable pub stepNumbered : List ℕ → ℕ → Step
+stepNumbered b k =
+    cond (eqb (recordNumber b k) 0) (record { number = 0; next = startOf (suc k) (partRead b); found = getD (historyRead b .records) k noRecord }) (noStep (recordNumber b k))
+
+-- ---- by the place of a part where it starts, of a group of that many sites and items
+
 abbrev pub stepAt : ℕ → ℕ → ℕ → List ℕ → Step
-stepAt sites items at b = cond (recordValid sites items b) (record { number = 0; next = at + sizeRead b; found = recordRead b }) (record { number = 23; next = 0; found = noRecord })
+stepAt sites items at b = cond (recordValid sites items b) (record { number = 0; next = at + sizeRead b; found = recordRead b }) (noStep 23)
 
 unfoldable pub stepOf : List ℕ → ℕ → ℕ → ℕ → Step
-stepOf b at sites items = cond (leb (length b) at) (record { number = 24; next = 0; found = noRecord }) (stepAt sites items at (drop at b))
+stepOf b at sites items = cond (leb (length b) at) (noStep 24) (stepAt sites items at (drop at b))

@@ -119,13 +119,13 @@ partRead b = part b (length b - distanceRead b) (distanceRead b - trailerSize)
 unfoldable pub fileRead : List ℕ → List ℕ
 fileRead b = drop (length b - distanceRead b) b
 
--- the trailer's fields in range and its 00 bytes zero; at most 256 records, which fill the part
+-- the trailer's sites and items in range, its 00 bytes zero
+abbrev pub trailerFits : List ℕ → Bool
+trailerFits b = inRange 1 sitesMost (sitesRead b) && (inRange 1 itemsMost (itemsRead b) && zeros (part b (trailerAt b + 14) 2))
+
+-- and at most 256 records, which fill the part
 unfoldable pub valid : List ℕ → Bool
-valid b =
-    inRange 1 sitesMost (sitesRead b)
-    && (inRange 1 itemsMost (itemsRead b)
-    && (zeros (part b (trailerAt b + 14) 2)
-    && (leb (countRead b) recordsMost && recordsFill (sitesRead b) (itemsRead b) (countRead b) (partRead b))))
+valid b = trailerFits b && (leb (countRead b) recordsMost && recordsFill (sitesRead b) (itemsRead b) (countRead b) (partRead b))
 
 -- the number for which the bytes are refused, or 0
 unfoldable pub fileNumber : List ℕ → ℕ

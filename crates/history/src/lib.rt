@@ -6,13 +6,16 @@ mod reading; // reading.rt: the calls that read a file
 mod values; // values.rt: a record as a value
 
 //pub use exporting::export;
-//pub use reading::check;
-//pub use reading::read;
-//pub use reading::record;
-//pub use reading::record_from;
+pub use reading::check;
+pub use reading::read;
+pub use reading::record;
+pub use values::record_from;
 use timestamp::Timestamp;
 
-// The size of the trailer and of each of the eights of bytes that a record is made of.
+// The mark at the start of the trailer: 53 45 41 54.
+const MARK: [u8; 4] = *b"SEAT";
+
+// The size of the trailer.
 const TRAILER: usize = 16;
 
 // What an export answers: its number and the file's length, which is 0 where it is refused.

@@ -7,17 +7,15 @@ use timestamp::Epoch;
 use timestamp::Timestamp;
 use timestamp::Tuple;
 ghost use mathlib.Core.Path.{_≡_};
-ghost use mathlib.Core.Bool.{true};
 ghost use mathlib.Core.List.{map};
-ghost use Prim.Native.Nat.{_+_, _*_, _≤_, _<_};
-ghost use lib.ListN.{length, getD, drop};
+ghost use Prim.Native.Nat.{_*_, _≤_, _<_};
+ghost use lib.ListN.{length, getD};
 ghost use Rattle.words.specs.Words.{chunks};
 ghost use Rattle.timestamp.specs.Timestamp.{stampOf, pairOf, none, room};
 ghost use Rattle.site.specs.InWords.{opsMost};
-ghost use Rattle.network.specs.Network.{noRecord};
 ghost use Rattle.history.specs.Bytes.{unitSize, numberAt};
-ghost use Rattle.history.specs.Reading.{pairRead, opRead, recordRead, recordValid};
-ghost use Rattle.history.specs.Promises.{placesFrom, noOp, stepOf, Holds};
+ghost use Rattle.history.specs.Reading.{pairRead, opRead, tupleCount, opCount, sizeRead, recordRead};
+ghost use Rattle.history.specs.Promises.{placesFrom, noOp, noStep, stepOf, Gives};
 
 // Tuple i of n, and zeros past the last.
 fn tuple_at(b: &[u8], n: usize, i: usize) -> Tuple
@@ -138,10 +136,10 @@ fn values(b: &[u8], n: usize) -> [i32; 8]
     ]
 }
 
-// The record that a part starts with, valid for that many sites and items.
-fn found(b: &[u8], sites: u32, items_most: u32, next: usize) -> Found
-    requires { ⌜ recordValid sites items_most (now b) ≡ true ⌝ }
-    ensures { λ r. ⌜ (r .number ≡ 0) × (r .next ≡ next) × Holds (recordRead (now (b .entry))) (r .site) (stampOf (r .stamp)) (r .count) (r .kinds) (r .items) (r .values) ⌝ }
+// The record that the bytes start with.
+fn found(b: &[u8], next: usize) -> Found
+    requires { ⌜ (sizeRead (now b) ≤ length (now b)) × (tupleCount (now b) ≤ room) × (opCount (now b) ≤ opsMost) ⌝ }
+    ensures { λ r. ⌜ Gives (record { number = 0; next = next; found = recordRead (now (b .entry)) }) r ⌝ }
 {
     let t = parts::count(b, 1);
     let o = parts::count(b, 2);
@@ -163,7 +161,7 @@ fn found(b: &[u8], sites: u32, items_most: u32, next: usize) -> Found
 
 // Nothing but the number for which it is refused.
 pub(crate) fn refused(number: u32) -> Found
-    ensures { λ r. ⌜ (r .number ≡ number) × (r .next ≡ 0) × Holds noRecord (r .site) (stampOf (r .stamp)) (r .count) (r .kinds) (r .items) (r .values) ⌝ }
+    ensures { λ r. ⌜ Gives (noStep number) r ⌝ }
 {
     let none = Tuple {
         site: 0,
@@ -188,7 +186,7 @@ pub(crate) fn refused(number: u32) -> Found
 // The record that starts at a place of a part, and where the next starts. The part is that of a group of that many sites and items.
 // 24 where the part ends at that place or before, 23 where no valid record starts there.
 pub fn record_from(part: &[u8], at: usize, sites: u32, items: u32) -> Found
-    ensures { λ r. ⌜ (r .number ≡ stepOf (now (part .entry)) at sites items .number) × (r .next ≡ stepOf (now (part .entry)) at sites items .next) × Holds (stepOf (now (part .entry)) at sites items .found) (r .site) (stampOf (r .stamp)) (r .count) (r .kinds) (r .items) (r .values) ⌝ }
+    ensures { λ r. ⌜ Gives (stepOf (now (part .entry)) at sites items) r ⌝ }
 {
     if part.len() <= at {
         return refused(24);
@@ -197,5 +195,5 @@ pub fn record_from(part: &[u8], at: usize, sites: u32, items: u32) -> Found
     if size == 0 {
         return refused(23);
     }
-    found(&part[at..], sites, items, at + size)
+    found(&part[at..], at + size)
 }
