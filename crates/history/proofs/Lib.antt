@@ -1,3 +1,4 @@
 pub mod Units
 pub mod Validity
 pub mod Held
+pub mod Files
