@@ -293,3 +293,19 @@ module _ (b : List ℕ) (k : ℕ) where
           rw (lt-leb (length (partRead b)) (startOf k (partRead b)) (f .inside), f .there)
           (ap₂ {C = Step} (λ (n : ℕ) (r : Record). record { number = 0; next = n; found = r }) (sym (f .next)) found
           ∙ sym (rw (eq-eqb (fileNumber b) 0 e, lt-leb (length (historyRead b .records)) k (omega (arith, records-are)))))
+
+-- the fields that a file answers are those of its trailer
+pub fields-read : (b : List ℕ) → fileNumber b ≡ 0 → (length (historyRead b .records) ≡ countRead b) × (historyRead b .sites ≡ sitesRead b) × (historyRead b .items ≡ itemsRead b)
+fields-read b e =
+    let h = history-read b e in
+    (ap (λ (x : History). length (x .records)) h ∙ records-length (countRead b) (partRead b), ap (λ (x : History). x .sites) h, ap (λ (x : History). x .items) h)
+
+-- the record that starts there is the one of that number
+pub numbered-by : (b : List ℕ) (k : ℕ) (e : fileNumber b ≡ 0) → k < countRead b → (p : List ℕ) (at s i : ℕ) → p ≡ partRead b → at ≡ startOf k p → s ≡ historyRead b .sites → i ≡ historyRead b .items
+    → stepOf p at s i ≡ stepNumbered b k
+numbered-by b k e h p at s i ps os ss is =
+    let f = fields-read b e in
+    let starts = os ∙ ap (startOf k) ps in
+    let sites = ss ∙ f .1 in
+    let items = is ∙ f .2 in
+    (λ t. stepOf (ps t) (starts t) (sites t) (items t)) ∙ numbered-there b k e h
