@@ -2,3 +2,4 @@ pub mod Units
 pub mod Validity
 pub mod Held
 pub mod Files
+pub mod Written
