@@ -3,3 +3,4 @@ pub mod Validity
 pub mod Held
 pub mod Files
 pub mod Written
+pub mod Exports

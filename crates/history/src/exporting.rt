@@ -84,3 +84,87 @@ fn short(n: usize) -> u32
 {
     n as u32
 }
+
+// How many bytes the n records of a state take.
+fn body_size(state: &[u32; WORDS], n: usize) -> usize
+    requires { ⌜ (n ≡ length (networkIn (now state) .history)) × (n ≤ recordsMost) ⌝ }
+    ensures { λ r. ⌜ (r ≡ length (joined recordBytes (networkIn (now (state .entry)) .history))) × (r ≤ 34816) ⌝ }
+{
+    let mut sum = 0usize;
+    let mut i = 0usize;
+    while i < n {
+        sum += size(network::record(state, i));
+        i += 1;
+    }
+    sum
+}
+
+// The n records of a state over exactly their bytes.
+fn put_records(b: &mut [u8], state: &[u32; WORDS], n: usize)
+    requires { ⌜ (n ≡ length (networkIn (now state) .history)) × (length (now b) ≡ length (joined recordBytes (networkIn (now state) .history))) ⌝ }
+    ensures { λ r. ⌜ now (b .exit) ≡ joined recordBytes (networkIn (now (state .entry)) .history) ⌝ }
+{
+    let mut at = 0usize;
+    let mut i = 0usize;
+    while i < n {
+        let r = network::record(state, i);
+        let e = at + size(r);
+        put_record(&mut b[at..e], r);
+        at = e;
+        i += 1;
+    }
+}
+
+// The trailer over exactly its bytes.
+fn put_trailer(b: &mut [u8], count: u32, distance: u32, sites: u32, items: u32)
+    requires { ⌜ length (now b) ≡ trailerSize ⌝ }
+    ensures { λ r. ⌜ now (b .exit) ≡ trailer count distance sites items ⌝ }
+{
+    let t = [
+        MARK[0],
+        MARK[1],
+        MARK[2],
+        MARK[3],
+        numbers::low(count),
+        numbers::low(count / 256),
+        numbers::low(count / 256 / 256),
+        numbers::low(count / 256 / 256 / 256),
+        numbers::low(distance),
+        numbers::low(distance / 256),
+        numbers::low(distance / 256 / 256),
+        numbers::low(distance / 256 / 256 / 256),
+        numbers::low(sites),
+        numbers::low(items),
+        0u8,
+        0u8,
+    ];
+    bytes::copy(&t, b);
+}
+
+// The history of a state as a file over the front of the buffer, the rest of which is left. It answers the file's length.
+pub fn export(state: &[u32; WORDS], b: &mut [u8]) -> Exported
+    ensures { λ r. ⌜ exportOf (meaning (now (state .entry))) (now (b .entry)) ≡ record { number = r .number; size = r .length; buffer = now (b .exit) } ⌝ }
+{
+    if !network::well_shaped(state) {
+        return Exported {
+            number: 6,
+            length: 0,
+        };
+    }
+    let held = network::holdings(state);
+    let n = words::wide(held.records);
+    let m = body_size(state, n);
+    let e = m + TRAILER;
+    if b.len() < e {
+        return Exported {
+            number: 25,
+            length: 0,
+        };
+    }
+    put_records(&mut b[0..m], state, n);
+    put_trailer(&mut b[m..e], held.records, short(e), held.sites, held.items);
+    Exported {
+        number: 0,
+        length: e,
+    }
+}

@@ -5,7 +5,7 @@ mod parts; // parts.rt: the tests of a record's bytes
 mod reading; // reading.rt: the calls that read a file
 mod values; // values.rt: a record as a value
 
-// pub use exporting::export;
+pub use exporting::export;
 pub use reading::check;
 pub use reading::read;
 pub use reading::record;
