@@ -8,7 +8,7 @@ use native.Mathlib.Omega.{arith}
 use lib.ListN.{length, getD, take, drop, length-append, length-drop, drop-of-length-le, take-append-drop}
 use borrow.Author.Tests.{lt-ltb, le-ltb}
 use Rattle.words.specs.Words.{part, put}
-use Rattle.words.proofs.Parts.{put-length}
+use Rattle.words.proofs.Parts.{part-length, put-length}
 use Rattle.timestamp.specs.Timestamp.{stampOf}
 use Rattle.lines.specs.InWords.{recordsMost}
 use Rattle.records.specs.Records.{Record}
@@ -103,21 +103,27 @@ module _ (w b : List ℕ) where
       unfolding exportOf meaning
       export-short h = rw (e, lt-ltb (length b) (length (fileOf own)) (omega (arith, file-length own)))
 
-      module _ (room : m + trailerSize ≤ length b) (ys : List ℕ) (yi : ys ≡ joined recordBytes (networkIn w .history)) where
-        written-is : put b 0 m ys ≡ ys ++ drop m b
-        written-is = refl
+      pub body-lent : m + trailerSize ≤ length b → length (part b 0 (m - 0)) ≡ length (joined recordBytes (networkIn w .history))
+      body-lent h = (let z : m - 0 ≡ m = omega arith in ap (λ (k : ℕ). length (part b 0 k)) z) ∙ part-length b 0 m (omega arith) ∙ ms
 
-        pub written-length : length (put b 0 m ys) ≡ length b
-        written-length = put-length b 0 m ys (omega arith) (ap length yi ∙ sym ms)
+      module _ (room : m + trailerSize ≤ length b) (ys : List ℕ) (yi : ys ≡ joined recordBytes (networkIn w .history)) where
+        whole : m - 0 ≡ m
+        whole = omega arith
+
+        written-is : put b 0 (m - 0) ys ≡ ys ++ drop m b
+        written-is = ap (λ (k : ℕ). put b 0 k ys) whole
+
+        pub written-length : length (put b 0 (m - 0) ys) ≡ length b
+        written-length = ap (λ (k : ℕ). length (put b 0 k ys)) whole ∙ put-length b 0 m ys (omega arith) (ap length yi ∙ sym ms)
 
         pub export-done : (zs : List ℕ) (n k s i : ℕ) → n ≡ length (networkIn w .history) → k ≡ m + trailerSize → s ≡ length (networkIn w .sites) → i ≡ length (networkIn w .items) → zs ≡ trailer n k s i
-            → exportOf (meaning w) b ≡ record { number = 0; size = m + trailerSize; buffer = put (put b 0 m ys) m (m + trailerSize - m) zs }
+            → exportOf (meaning w) b ≡ record { number = 0; size = m + trailerSize; buffer = put (put b 0 (m - 0) ys) m (m + trailerSize - m) zs }
         unfolding exportOf meaning fileOf
         export-done zs n k s i ns ks ss is zi =
             let distance : k ≡ length (body own) + trailerSize = ks ∙ ap (λ (x : ℕ). x + trailerSize) ms in
             let file : ys ++ zs ≡ fileOf own = ap₂ (λ (x y : List ℕ). x ++ y) yi (zi ∙ (λ t. trailer (ns t) (distance t) (ss t) (is t))) in
             let size : length (fileOf own) ≡ m + trailerSize = file-length own ∙ ap (λ (x : ℕ). x + trailerSize) (sym ms) in
-            let buffer : put (put b 0 m ys) m (m + trailerSize - m) zs ≡ fileOf own ++ drop (m + trailerSize) b
-            = put-next b ys zs (put b 0 m ys) m trailerSize (m + trailerSize - m) written-is (ap length yi ∙ sym ms) (omega arith) ∙ ap (λ (x : List ℕ). x ++ drop (m + trailerSize) b) file in
+            let buffer : put (put b 0 (m - 0) ys) m (m + trailerSize - m) zs ≡ fileOf own ++ drop (m + trailerSize) b
+            = put-next b ys zs (put b 0 (m - 0) ys) m trailerSize (m + trailerSize - m) written-is (ap length yi ∙ sym ms) (omega arith) ∙ ap (λ (x : List ℕ). x ++ drop (m + trailerSize) b) file in
             rw (e, le-ltb (length b) (length (fileOf own)) (omega (arith, size)))
             ((λ t. record { number = 0; size = size t; buffer = fileOf own ++ drop (size t) b }) ∙ (λ t. record { number = 0; size = m + trailerSize; buffer = sym buffer t }))
