@@ -4,3 +4,5 @@ pub mod Held
 pub mod Files
 pub mod Written
 pub mod Exports
+pub mod OnlyFile
+pub mod Examples
