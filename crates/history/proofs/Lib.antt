@@ -5,4 +5,5 @@ pub mod Files
 pub mod Written
 pub mod Exports
 pub mod OnlyFile
+pub mod RoundTrip
 pub mod Examples
