@@ -124,8 +124,7 @@ unfolding recordValid
 valid-counts sites items b e =
     let v = and-true (leb (sizeRead b) (length b)) (countsFit (tupleCount b) (opCount b) && (padsZero b && recordFits sites items (recordRead b))) e .1 in
     let c = and-true (countsFit (tupleCount b) (opCount b)) (padsZero b && recordFits sites items (recordRead b)) v .0 in
-    let d = and-true (inRange 1 room (tupleCount b)) (inRange 1 opsMost (opCount b)) c in
-    (
+    let d = and-true (inRange 1 room (tupleCount b)) (inRange 1 opsMost (opCount b)) c in (
       leb-true (tupleCount b) room (and-true (leb 1 (tupleCount b)) (leb (tupleCount b) room) (d .0) .1),
       leb-true (opCount b) opsMost (and-true (leb 1 (opCount b)) (leb (opCount b) opsMost) (d .1) .1),
     )

@@ -6,4 +6,5 @@ pub mod Written
 pub mod Exports
 pub mod OnlyFile
 pub mod RoundTrip
+pub mod OfStates
 pub mod Examples

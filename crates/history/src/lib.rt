@@ -9,8 +9,8 @@ pub use exporting::export;
 pub use reading::check;
 pub use reading::read;
 pub use reading::record;
-pub use values::record_from;
 use timestamp::Timestamp;
+pub use values::record_from;
 
 // The mark at the start of the trailer: 53 45 41 54.
 const MARK: [u8; 4] = *b"SEAT";
