@@ -7,9 +7,46 @@ ghost use Prim.Native.Nat.{_≤_};
 
 // The worked example.
 const EXAMPLE: [u8; 40] = [
-    0x00, 0x01, 0x01, 0x00, 0x00, 0x00, 0x00, 0x00, 0x00, 0x00, 0x00, 0x00, 0x01, 0x00, 0x00, 0x00,
-    0x01, 0x00, 0x00, 0x00, 0x05, 0x00, 0x00, 0x00, 0x53, 0x45, 0x41, 0x54, 0x01, 0x00, 0x00, 0x00,
-    0x28, 0x00, 0x00, 0x00, 0x03, 0x02, 0x00, 0x00,
+    0x00,
+    0x01,
+    0x01,
+    0x00,
+    0x00,
+    0x00,
+    0x00,
+    0x00,
+    0x00,
+    0x00,
+    0x00,
+    0x00,
+    0x01,
+    0x00,
+    0x00,
+    0x00,
+    0x01,
+    0x00,
+    0x00,
+    0x00,
+    0x05,
+    0x00,
+    0x00,
+    0x00,
+    0x53,
+    0x45,
+    0x41,
+    0x54,
+    0x01,
+    0x00,
+    0x00,
+    0x00,
+    0x28,
+    0x00,
+    0x00,
+    0x00,
+    0x03,
+    0x02,
+    0x00,
+    0x00,
 ];
 
 fn main() {
@@ -31,51 +68,69 @@ fn unset(state: &[u32; WORDS]) {
     exported(state, &mut b);
 }
 
-// The first two lines of the script, and the empty history after the first of them; a buffer that is one byte too short.
+// The first two lines of the script: the empty history after the first of them, the example after the second; a buffer that is one
+// byte too short.
 fn small(state: &mut [u32; WORDS]) {
     let primaries = [0u32, 1];
     let masks = [6u8, 4];
     network::set_up(state, 3, 2, &primaries, &masks);
-    let mut b = [0xEEu8; 42];
-    exported(state, &mut b[..18]);
-    show(b"empty", &b[..16]);
+    let mut empty = [0xEEu8; 18];
+    exported(state, &mut empty);
+    shown(b"empty", &empty, 16);
     let kinds = [1u8];
     let items = [0u32];
     let values = [5i32];
     network::commit(state, 0, &kinds, &items, &values);
+    let mut b = [0xEEu8; 42];
     exported(state, &mut b);
-    show(b"example", &b[..40]);
-    bytes(history::read(&b[..40]));
-    found(history::record(&b[..40], 0));
-    found(history::record(&b[..40], 1));
+    shown(b"example", &b, 40);
     found(history::record(&b, 0));
     let mut short = [0xEEu8; 39];
     exported(state, &mut short);
+    example();
+}
+
+fn example() {
+    let b = EXAMPLE;
+    all(history::read(&b));
+    found(history::record(&b, 0));
+    found(history::record(&b, 1));
 }
 
 // 256 commits of eight operations at a site whose timestamp has eight tuples.
 fn full(state: &mut [u32; WORDS]) {
     set_up_chain(state);
-    let mut i = 0u32;
-    while i < 7 {
-        pass_on(state, i);
-        i += 1;
-    }
+    pass_on(state, 0);
+    pass_on(state, 1);
+    pass_on(state, 2);
+    pass_on(state, 3);
+    pass_on(state, 4);
+    pass_on(state, 5);
+    pass_on(state, 6);
     commits(state);
+    too_short(state);
     let mut b = [0xEEu8; 34832];
-    let short = history::export(state, &mut b[..34831]);
-    digits(short.number);
-    checksum(&b);
     let answer = history::export(state, &mut b);
     digits(answer.number);
     space();
     count(answer.length);
+    full_shown(&b);
+}
+
+fn too_short(state: &[u32; WORDS]) {
+    let mut b = [0xEEu8; 34831];
+    let answer = history::export(state, &mut b);
+    digits(answer.number);
     checksum(&b);
-    show(b"full", &b);
-    found(history::record(&b, 0));
-    found(history::record(&b, 255));
-    found(history::record(&b, 256));
-    walk(&b);
+}
+
+fn full_shown(b: &[u8]) {
+    checksum(b);
+    show(b"full", b);
+    found(history::record(b, 0));
+    found(history::record(b, 255));
+    found(history::record(b, 256));
+    walk(b);
 }
 
 // Eight sites in a chain: each owns the item that the next copies, and the last all others.
@@ -111,14 +166,19 @@ fn pass_on(state: &mut [u32; WORDS], i: u32) {
 }
 
 fn commits(state: &mut [u32; WORDS]) {
-    let mut i = 0i32;
+    let mut i = 0u32;
     while i < 256 {
-        let kinds = [0u8, 1, 1, 1, 1, 1, 1, 1];
-        let items = [6u32, 7, 8, 9, 10, 11, 12, 63];
-        let values = [9i32, i, -1, 2147483647, -2147483648, 256, -256, 5];
-        network::commit(state, 7, &kinds, &items, &values);
+        commit(state, i);
         i += 1;
     }
+}
+
+fn commit(state: &mut [u32; WORDS], i: u32) {
+    let kinds = [0u8, 1, 1, 1, 1, 1, 1, 1];
+    let items = [6u32, 7, 8, 9, 10, 11, 12, 63];
+    let v = words::value(i);
+    let values = [9i32, v, -1, 2147483647, -2147483648, 256, -256, 5];
+    network::commit(state, 7, &kinds, &items, &values);
 }
 
 // The trailer's ways of being wrong: mark, distance, counts, 00 bytes.
@@ -191,30 +251,40 @@ fn sizes() {
 
 fn operations(label: &[u8], n: u8) {
     let mut b = [0u8; 104];
-    let size = 32 + 8 * wide(n);
+    let end_at = 16 + 8 * wide(n);
     put(&mut b, 0, 0, 1, n, 0);
     put(&mut b, 8, 0, 0, 0, 1);
+    put_writes(&mut b, wide(n));
+    end_file(&mut b, end_at, 1, 1, 1);
+    shown(label, &b, end_at + 16);
+}
+
+fn put_writes(b: &mut [u8], n: usize)
+    requires { ⌜ n ≤ 255 ⌝ }
+{
     let mut i = 0usize;
-    while i < wide(n) {
-        put(&mut b, 16 + 8 * i, 1, 0, 0, 7);
+    while i < n {
+        put(b, 16 + 8 * i, 1, 0, 0, 7);
         i += 1;
     }
-    end_file(&mut b, size, 1, 1, 1);
-    shown(label, &b, size);
 }
 
 fn tuples(label: &[u8], n: u8) {
     let mut b = [0u8; 104];
-    let size = 32 + 8 * wide(n);
+    let end_at = 16 + 8 * wide(n);
     put(&mut b, 0, 7, n, 1, 0);
+    put_sites(&mut b, n);
+    put(&mut b, 8 + 8 * wide(n), 0, 0, 0, 0);
+    end_file(&mut b, end_at, 1, 8, 1);
+    shown(label, &b, end_at + 16);
+}
+
+fn put_sites(b: &mut [u8], n: u8) {
     let mut i = 0u8;
     while i < n {
-        put(&mut b, 8 + 8 * wide(i), i, 0, 0, 1);
+        put(b, 8 + 8 * wide(i), i, 0, 0, 1);
         i += 1;
     }
-    put(&mut b, 8 + 8 * wide(n), 0, 0, 0, 0);
-    end_file(&mut b, size, 1, 8, 1);
-    shown(label, &b, size);
 }
 
 // A record of a site with two tuples.
@@ -224,106 +294,137 @@ fn pair(label: &[u8], first: u8, second: u8, site: u8) {
     put(&mut b, 8, first, 0, 0, 1);
     put(&mut b, 16, second, 0, 0, 1);
     put(&mut b, 24, 1, 0, 0, 9);
-    end_file(&mut b, 48, 1, 3, 1);
+    end_file(&mut b, 32, 1, 3, 1);
     show(label, &b);
 }
 
 // The last 0 to 16 bytes of an empty file.
 fn lengths() {
-    let b = [0x53u8, 0x45, 0x41, 0x54, 0, 0, 0, 0, 16, 0, 0, 0, 1, 1, 0, 0];
+    let b = [
+        0x53u8,
+        0x45,
+        0x41,
+        0x54,
+        0,
+        0,
+        0,
+        0,
+        16,
+        0,
+        0,
+        0,
+        1,
+        1,
+        0,
+        0,
+    ];
     let mut n = 0usize;
     while n < 17 {
-        show(b"length", &b[16 - n..]);
+        ending(&b, n);
         n += 1;
+    }
+}
+
+fn ending(b: &[u8], n: usize) {
+    if n <= b.len() {
+        let at = b.len() - n;
+        show(b"length", &b[at..]);
     }
 }
 
 // A file at the end of a longer buffer, another one before it.
 fn longer() {
     let mut b = [0xEEu8; 85];
+    put_example(&mut b, 3);
+    put_example(&mut b, 45);
+    set(&mut b, 65, 6);
+    longer_shown(&b);
+}
+
+fn put_example(b: &mut [u8], at: usize)
+    requires { ⌜ at ≤ 65536 ⌝ }
+{
     let mut i = 0usize;
     while i < 40 {
-        b[i + 3] = EXAMPLE[i];
-        b[i + 45] = EXAMPLE[i];
+        set(b, at + i, EXAMPLE[i]);
         i += 1;
     }
-    b[65] = 6;
-    show(b"longer", &b);
-    bytes(history::read(&b));
-    found(history::record(&b, 0));
-    show(b"first of two", &b[..43]);
-    show(b"cut", &b[..84]);
+}
+
+fn longer_shown(b: &[u8]) {
+    show(b"longer", b);
+    all(history::read(b));
+    found(history::record(b, 0));
+    shown(b"first of two", b, 43);
+    shown(b"cut", b, 84);
 }
 
 // 256 records and 257.
 fn many() {
     let mut b = [0u8; 6184];
+    put_records(&mut b);
+    end_file(&mut b, 6168, 257, 1, 1);
+    show(b"257 records", &b);
+    end_file(&mut b, 6144, 256, 1, 1);
+    shown(b"256 records", &b, 6160);
+}
+
+fn put_records(b: &mut [u8]) {
     let mut i = 0usize;
     while i < 257 {
-        put(&mut b, 24 * i, 0, 1, 1, 0);
-        put(&mut b, 24 * i + 8, 0, 0, 0, 1);
-        put(&mut b, 24 * i + 16, 0, 0, 0, 3);
+        put(b, 24 * i, 0, 1, 1, 0);
+        put(b, 24 * i + 8, 0, 0, 0, 1);
+        put(b, 24 * i + 16, 0, 0, 0, 3);
         i += 1;
     }
-    end_file(&mut b, 6184, 257, 1, 1);
-    show(b"257 records", &b);
-    end_file(&mut b, 6160, 256, 1, 1);
-    shown(b"256 records", &b, 6160);
 }
 
 // ---- making files
 // The example with one byte changed.
 fn changed(label: &[u8], i: usize, v: u8) {
     let mut b = EXAMPLE;
-    if i < 40 {
-        b[i] = v;
-    }
+    set(&mut b, i, v);
     show(label, &b);
 }
 
-// Eight bytes at a place: three fields, 00, and a small number.
-fn put(b: &mut [u8], at: usize, x: u8, y: u8, z: u8, n: u8) {
-    if b.len() < 8 {
-        return;
+// One byte; past the end nothing.
+fn set(b: &mut [u8], i: usize, v: u8) {
+    if i < b.len() {
+        b[i] = v;
     }
-    if b.len() - 8 < at {
-        return;
-    }
-    b[at] = x;
-    b[at + 1] = y;
-    b[at + 2] = z;
-    b[at + 3] = 0;
-    b[at + 4] = n;
-    b[at + 5] = 0;
-    b[at + 6] = 0;
-    b[at + 7] = 0;
 }
 
-// The trailer of a file of that size.
-fn end_file(b: &mut [u8], size: usize, records: u32, sites: u8, items: u8) {
-    if size < 16 {
-        return;
-    }
-    if b.len() < size {
-        return;
-    }
-    let at = size - 16;
-    b[at] = 0x53;
-    b[at + 1] = 0x45;
-    b[at + 2] = 0x41;
-    b[at + 3] = 0x54;
-    b[at + 4] = (records % 256) as u8;
-    b[at + 5] = (records / 256 % 256) as u8;
-    b[at + 6] = 0;
-    b[at + 7] = 0;
-    b[at + 8] = (size % 256) as u8;
-    b[at + 9] = (size / 256 % 256) as u8;
-    b[at + 10] = 0;
-    b[at + 11] = 0;
-    b[at + 12] = sites;
-    b[at + 13] = items;
-    b[at + 14] = 0;
-    b[at + 15] = 0;
+// Eight bytes at a place: three fields, 00, and a small number.
+fn put(b: &mut [u8], at: usize, x: u8, y: u8, z: u8, n: u8)
+    requires { ⌜ at ≤ 65536 ⌝ }
+{
+    set(b, at, x);
+    set(b, at + 1, y);
+    set(b, at + 2, z);
+    set(b, at + 3, 0);
+    set(b, at + 4, n);
+    set(b, at + 5, 0);
+    set(b, at + 6, 0);
+    set(b, at + 7, 0);
+}
+
+// The trailer from a place on, of a file whose records start at 0.
+fn end_file(b: &mut [u8], at: usize, records: u32, sites: u8, items: u8)
+    requires { ⌜ at ≤ 65000 ⌝ }
+{
+    put(b, at, 0x53, 0x45, 0x41, (records % 256) as u8);
+    set(b, at + 3, 0x54);
+    set(b, at + 5, (records / 256 % 256) as u8);
+    let size = at + 16;
+    put(
+        b,
+        at + 8,
+        (size % 256) as u8,
+        (size / 256 % 256) as u8,
+        0,
+        sites,
+    );
+    set(b, at + 13, items);
 }
 
 fn wide(x: u8) -> usize
@@ -343,12 +444,12 @@ fn exported(state: &[u32; WORDS], b: &mut [u8]) {
     digits(answer.number);
     space();
     count(answer.length);
-    bytes(b);
+    all(b);
 }
 
 fn shown(label: &[u8], b: &[u8], size: usize) {
     if size <= b.len() {
-        show(label, &b[..size]);
+        show(label, &b[0..size]);
     }
 }
 
@@ -384,17 +485,24 @@ fn found(r: Found) {
     stamp(t);
     space();
     count(r.count);
-    let mut i = 0usize;
-    while i < 8 {
-        space();
-        count(wide(kinds[i]));
-        io::write_all(STDOUT_FILENO, b".");
-        digits(items[i]);
-        io::write_all(STDOUT_FILENO, b"=");
-        signed(values[i]);
-        i += 1;
-    }
+    operation(kinds[0], items[0], values[0]);
+    operation(kinds[1], items[1], values[1]);
+    operation(kinds[2], items[2], values[2]);
+    operation(kinds[3], items[3], values[3]);
+    operation(kinds[4], items[4], values[4]);
+    operation(kinds[5], items[5], values[5]);
+    operation(kinds[6], items[6], values[6]);
+    operation(kinds[7], items[7], values[7]);
     end();
+}
+
+fn operation(kind: u8, item: u32, value: i32) {
+    space();
+    count(wide(kind));
+    io::write_all(STDOUT_FILENO, b".");
+    digits(item);
+    io::write_all(STDOUT_FILENO, b"=");
+    signed(value);
 }
 
 fn stamp(t: Timestamp) {
@@ -413,33 +521,28 @@ fn stamp(t: Timestamp) {
     }
 }
 
-// From record to record of a full file's part: how many there are, the sum of their second values, and where the last ends.
+// From record to record of a full file's part: the sum of their second values and where the last ends; then the numbers past the last
+// record and inside one.
 fn walk(b: &[u8]) {
     let part = history::read(b);
     let mut at = 0usize;
-    let mut n = 0usize;
     let mut sum = 0u32;
     let mut i = 0usize;
-    while i < 300 {
+    while i < 256 {
         let r = history::record_from(part, at, 8, 64);
-        if r.number == 0 {
-            let values = r.values;
-            sum = (sum + words::bits(values[1]) % 65536) % 1000000;
-            at = r.next;
-            n = i;
-        }
+        let values = r.values;
+        sum = (sum % 65536) + words::bits(values[1]) % 65536;
+        at = r.next;
         i += 1;
     }
-    count(n);
-    space();
     digits(sum);
     space();
     count(at);
+    space();
     let after = history::record_from(part, at, 8, 64);
-    space();
     digits(after.number);
-    let inside = history::record_from(part, 8, 8, 64);
     space();
+    let inside = history::record_from(part, 8, 8, 64);
     digits(inside.number);
     end();
 }
@@ -467,7 +570,7 @@ fn byte(x: u8) -> u32
     x as u32
 }
 
-fn bytes(b: &[u8]) {
+fn all(b: &[u8]) {
     let mut i = 0usize;
     while i < b.len() {
         space();
