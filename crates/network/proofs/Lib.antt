@@ -17,3 +17,4 @@ pub mod OperationWords
 pub mod Places
 pub mod Reporting
 pub mod Scheduling
+pub mod Entries

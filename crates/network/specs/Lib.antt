@@ -6,3 +6,4 @@ pub mod Calls
 pub mod InWords
 pub mod Promises
 pub mod Choice
+pub mod Reading

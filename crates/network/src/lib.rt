@@ -8,6 +8,7 @@ mod epochs; // epochs.rt: epoch
 mod operations; // operations.rt: a commit's operations in words, and the values read
 mod placing; // placing.rt: set-up
 mod reports; // reports.rt: waiting report
+mod reading; // reading.rt: what the crates above read of a state
 mod schedules; // schedules.rt: schedule
 mod sending; // sending.rt: a message to several sites
 mod shape; // shape.rt: whether the words are those of a network
@@ -19,6 +20,9 @@ pub use dummies::dummy;
 pub use epochs::epoch;
 pub use placing::set_up;
 pub use reports::waiting;
+pub use reading::holdings;
+pub use reading::record;
+pub use reading::well_shaped;
 pub use schedules::schedule;
 use timestamp::Timestamp;
 
@@ -48,6 +52,19 @@ pub struct Report {
     pub number: u32,
     pub count: usize,
     pub items: [u32; 64],
+// How many sites, items and records a state holds.
+pub struct Totals {
+    pub sites: u32,
+    pub items: u32,
+    pub records: u32,
+}
+
+// A record of the history: its site, its timestamp, and the first `count` of eight operations, three words each.
+pub struct Entry {
+    pub site: u32,
+    pub stamp: Timestamp,
+    pub count: usize,
+    pub ops: [u32; 24],
 }
 
 // Where the parts of a state start, and its size.

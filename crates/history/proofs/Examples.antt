@@ -1,0 +1,17 @@
+-- The worked example of the file, as a fact of the definitions.
+use mathlib.Core.Path.{_≡_, refl}
+use mathlib.Core.List.{List}
+use Prim.Native.Nat.{ℕ}
+use Rattle.site.specs.Operations.{work}
+use Rattle.timestamp.specs.Timestamp.{raisedOrSame}
+use Rattle.placement.specs.Placement.{itemNumber, isLine}
+use Rattle.network.specs.Steps.{setUpNumber, setUpNetwork, commitNumber, commitNetwork}
+use Rattle.network.specs.Calls.{perform}
+use Rattle.history.specs.Bytes.{unit, numberAt}
+use Rattle.history.specs.File.{recordBytes, trailer, fileOf}
+use Rattle.history.specs.Reading.{sizeRead, recordRead, recordValid, recordsRead, recordsFill, partRead, valid, fileNumber, historyRead}
+use Rattle.history.specs.Example.{exampleState, fileAfter, exampleBytes}
+
+pub example-bytes : fileAfter exampleState ≡ exampleBytes
+unfolding work raisedOrSame itemNumber isLine setUpNumber setUpNetwork commitNumber commitNetwork perform unit recordBytes trailer fileOf
+example-bytes = refl

@@ -1,0 +1,10 @@
+pub mod Units
+pub mod Validity
+pub mod Held
+pub mod Files
+pub mod Written
+pub mod Exports
+pub mod OnlyFile
+pub mod RoundTrip
+pub mod OfStates
+pub mod Examples

@@ -1,0 +1,6 @@
+pub mod Bytes
+pub mod File
+pub mod Reading
+pub mod Promises
+pub mod Example
+pub mod Entries
