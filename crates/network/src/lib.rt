@@ -7,8 +7,8 @@ mod dummies; // dummies.rt: dummy
 mod epochs; // epochs.rt: epoch
 mod operations; // operations.rt: a commit's operations in words, and the values read
 mod placing; // placing.rt: set-up
-mod reports; // reports.rt: waiting report
 mod reading; // reading.rt: what the crates above read of a state
+mod reports; // reports.rt: waiting report
 mod schedules; // schedules.rt: schedule
 mod sending; // sending.rt: a message to several sites
 mod shape; // shape.rt: whether the words are those of a network
@@ -19,10 +19,10 @@ pub use deliveries::deliver;
 pub use dummies::dummy;
 pub use epochs::epoch;
 pub use placing::set_up;
-pub use reports::waiting;
 pub use reading::holdings;
 pub use reading::record;
 pub use reading::well_shaped;
+pub use reports::waiting;
 pub use schedules::schedule;
 use timestamp::Timestamp;
 
@@ -52,6 +52,8 @@ pub struct Report {
     pub number: u32,
     pub count: usize,
     pub items: [u32; 64],
+}
+
 // How many sites, items and records a state holds.
 pub struct Totals {
     pub sites: u32,

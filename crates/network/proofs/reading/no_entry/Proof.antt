@@ -11,7 +11,7 @@ no-stamp-requires c κs = search needs
 
 returns : tie.Need-returns
 unfolding chunks
-returns c = record { site-is = refl; stamp-is = c .no-stamp .ensures; ops-are = refl; few = omega arith; sized = refl }
+returns c = record { site-is = refl; stamp-is = c .no-stamp .ensures .0; ops-are = refl; few = omega arith; sized = refl }
 
 pub no-entry-spec : {M : Type 1} → statement M
 no-entry-spec = tie.close (tie.spec no-stamp-requires returns)
