@@ -13,6 +13,7 @@ use mir.Syntax.{w32}
 use mir.Val.{toZ, ofZ, SFits}
 use mir.ValLaws.{toZ-ofZ, toZ-pos}
 use Rattle.words.proofs.Signed.{again, down, bits-under, bits-cast-2, minus-small}
+use Rattle.decimal.proofs.Digits.{digits-short}
 use Rattle.decimal.specs.Decimal.{digits, signedDigits, natural, notNegative, negative, signed}
 
 module _ (ok : Bool) (v : ℕ) where
@@ -116,3 +117,8 @@ pub signed-plus : (l : List ℕ) → (length l ≡ 0 → ⊥) → (getD l 0 0 �
 unfolding signed
 signed-plus [] n e = absurd (n refl)
 signed-plus (d ∷ ds) n e = rw (ne-eqb d 45 e)
+
+-- a signed number of 32 bits has eleven bytes at most
+pub signed-short : (z : ℤ) → SFits w32 z → length (signedDigits z) ≤ 11
+signed-short (pos n) f = let h : n < 2147483648 = f .sfits in omega (arith, digits-short n (omega arith))
+signed-short (negsuc n) f = let h : n < 2147483648 = f .sfits in omega (arith, digits-short (suc n) (omega arith))

@@ -121,3 +121,9 @@ module _ (l : List ℕ) where
     natural-is n z h =
         let q = is-told (all && small) refl h in
         rw (told-holds (ltb 0 (length l)) (extraZero l) all small (lt-ltb 0 (length l) (omega arith)) z (q .0)) (ap (λ (k : ℕ). some k) (q .1))
+
+-- what is a number is not empty
+pub natural-long : (l : List ℕ) (v : ℕ) → some v ≡ natural l → 1 ≤ length l
+unfolding natural
+natural-long [] v e = let z : _≡_ {A = ℕ} 0 1 = cc in omega arith
+natural-long (d ∷ ds) v e = omega arith

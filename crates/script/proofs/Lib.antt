@@ -1,1 +1,5 @@
 pub mod Examples
+pub mod Places
+pub mod Walks
+pub mod Parsing
+pub mod Putting

@@ -1,5 +1,5 @@
 -- The call that a line stands for, if it does.
-use mathlib.Core.Bool.{cond}
+use mathlib.Core.Bool.{Bool, cond}
 use mathlib.Core.List.{List, [], _∷_, map}
 use mathlib.Core.Option.{Option, none, some}
 use Prim.Native.Nat.{ℕ, suc}
@@ -10,6 +10,8 @@ use Rattle.decimal.specs.Decimal.{natural, signed}
 use Rattle.site.specs.Operations.{Op}
 use Rattle.placement.specs.Placement.{Item}
 use Rattle.network.specs.Calls.{Call, setUp, commit, dummy, epoch, deliver, schedule}
+use Rattle.network.specs.Steps.{opsOf, itemsOf}
+use Rattle.script.specs.declared.operations.Parsed.{Parsed}
 use Rattle.script.specs.Fields.{place, fields}
 
 -- what a function makes of a thing, if there is one
@@ -49,10 +51,10 @@ operation (x ∷ xs) = cond (eqb x 114) (reading (natural xs)) (cond (eqb x 119)
 abbrev pub itemOf : ℕ → ℕ → Option Item
 itemOf p m = cond (leb m 255) (some (record { primary = p; mask = m })) none
 
-unfoldable pub itemsOf : List ℕ → Option (List Item)
-itemsOf [] = some []
-itemsOf (p ∷ []) = none
-itemsOf (p ∷ (m ∷ xs)) = joined (itemOf p m) (itemsOf xs)
+unfoldable pub placed : List ℕ → Option (List Item)
+placed [] = some []
+placed (p ∷ []) = none
+placed (p ∷ (m ∷ xs)) = joined (itemOf p m) (placed xs)
 
 -- ---- calls
 abbrev pub one : (ℕ → Call) → List ℕ → Option Call
@@ -72,7 +74,7 @@ setUpWith sites items is = setUp sites items (map (λ (i : Item). i .primary) is
 abbrev pub setUpOf : List ℕ → Option Call
 setUpOf [] = none
 setUpOf (sites ∷ []) = none
-setUpOf (sites ∷ (items ∷ xs)) = on (itemsOf xs) (λ is. some (setUpWith sites items is))
+setUpOf (sites ∷ (items ∷ xs)) = on (placed xs) (λ is. some (setUpWith sites items is))
 
 abbrev pub commitWith : ℕ → List Op → Call
 commitWith site os = commit site (map (λ (o : Op). o .kind) os) (map (λ (o : Op). o .item) os) (map (λ (o : Op). o .value) os)
@@ -104,3 +106,16 @@ longest = 512
 
 unfoldable pub parse : List ℕ → Option Call
 parse text = cond (leb (length text) longest) (byLetter (fields text)) none
+
+-- ---- what the values of the code mean: an operation; lists of which the first n are used
+abbrev pub operationOf : Parsed → Option Op
+operationOf r = cond (r .ok) (some (record { kind = r .kind; item = r .item; value = r .value })) none
+
+abbrev pub listed : {A : Type 0} → Bool → List A → Option (List A)
+listed ok xs = cond ok (some xs) none
+
+abbrev pub operationsIn : ℕ → List ℕ → List ℕ → List ℤ → List Op
+operationsIn n ks is vs = opsOf (take n ks) (take n is) (take n vs)
+
+abbrev pub itemsIn : ℕ → List ℕ → List ℕ → List Item
+itemsIn n ps ms = itemsOf (take n ps) (take n ms)

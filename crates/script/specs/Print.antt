@@ -1,10 +1,13 @@
 -- The bytes that a call's outcome is printed as.
 use mathlib.Core.Bool.{cond}
+use mathlib.Core.Option.{none}
+use mathlib.Core.Path.{_≡_}
 use mathlib.Core.List.{List, [], _∷_, _++_}
-use Prim.Native.Nat.{ℕ}
+use Prim.Native.Nat.{ℕ, _≤_}
 use lib.IntN.{ℤ}
+use lib.ListN.{length}
 use lib.Dec.{eqb}
-use Rattle.decimal.specs.Decimal.{digits, signedDigits}
+use Rattle.decimal.specs.Decimal.{digits, signedDigits, Printed}
 use Rattle.timestamp.specs.Timestamp.{Pair, Stamp}
 use Rattle.network.specs.Calls.{Call, setUp, commit, dummy, epoch, deliver, schedule, Outcome}
 use Rattle.script.specs.Fields.{space}
@@ -39,3 +42,17 @@ acceptedText (schedule j) o = space ∷ (digits (o .parent) ++ stampText (o .sta
 -- a refusal prints its number alone
 unfoldable pub print : Call → Outcome → List ℕ
 print call o = digits (o .number) ++ cond (eqb (o .number) 0) (acceptedText call o) []
+
+-- ---- what the contracts say
+-- an answer's fields as an outcome; what is printed does not depend on the state after
+abbrev pub fieldsOf : ℕ → ℕ → Stamp → List ℤ → Outcome
+fieldsOf number parent stamp values = record { number = number; parent = parent; stamp = stamp; values = values; after = none }
+
+-- the longest answer: a number of ten digits, a timestamp of eight tuples, eight values
+abbrev pub answerMost : ℕ
+answerMost = 293
+
+-- printed, and not more than so many bytes
+pub record Put (most : ℕ) (entry exit : List ℕ) (at end : ℕ) (bytes : List ℕ) : Type 0 where
+  pub printed : Printed entry exit at end bytes
+  pub small : length bytes ≤ most
