@@ -3,3 +3,4 @@ pub mod Places
 pub mod Walks
 pub mod Parsing
 pub mod Putting
+pub mod Replying

@@ -57,6 +57,7 @@ module _ (text : List ℕ) (from : ℕ) where
     where
       size : length (drop from text) ≡ length text - from
       size = length-drop from text
+
       go : (b : Bool) → leb (from + k) (length text) ≡ b → leb k (length (drop from text)) ≡ leb (from + k) (length text)
       go true e = let g : from + k ≤ length text = leb-true (from + k) (length text) e in le-leb k (length (drop from text)) (omega (arith, size)) ∙ sym e
       go false e = let g : length text < from + k = leb-false (from + k) (length text) e in lt-leb k (length (drop from text)) (omega (arith, size)) ∙ sym e

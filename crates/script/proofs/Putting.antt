@@ -1,6 +1,6 @@
 -- Laws of what is printed with a bound on its length, one thing behind another.
 use mathlib.Core.Path.{_≡_, refl, sym, ap, _∙_}
-use mathlib.Core.Bool.{cond}
+use mathlib.Core.Bool.{Bool, true, false, cond}
 use mathlib.Core.List.{List, [], _∷_, _++_, append-assoc, append-nil}
 use Prim.Native.Nat.{ℕ, zero, suc, _+_, _*_, _≤_, _<_}
 use native.Mathlib.Omega.{arith}
@@ -11,9 +11,11 @@ use lib.Seq.{take-suc}
 use lib.Dec.{eqb, eqb·suc-zero}
 use Rattle.decimal.specs.Decimal.{digits, signedDigits, Printed}
 use Rattle.decimal.proofs.Printing.{printed-none, printed-then, printed-as, printed-byte, printed-length}
+use borrow.Author.Tests.{eq-eqb, ne-eqb, eqb-true, eqb-false}
 use Rattle.timestamp.specs.Timestamp.{Pair, none}
+use Rattle.network.specs.Calls.{Call, setUp, commit, dummy, epoch, deliver, schedule, Outcome}
 use Rattle.script.specs.Fields.{space}
-use Rattle.script.specs.Print.{tupleText, tuplesText, valuesText, Put}
+use Rattle.script.specs.Print.{tupleText, tuplesText, valuesText, acceptedText, print, fieldsOf, Put}
 
 pub put-none : (w : List ℕ) (a : ℕ) → Put 0 w w a a []
 put-none w a = record { printed = printed-none w a; small = omega arith }
@@ -79,3 +81,30 @@ values-next vs i d v h e =
     ∙ sym (values-snoc (take i vs) (getD vs i d))
     ∙ ap valuesText (sym (take-suc vs i d h))
     ∙ ap (λ (k : ℕ). valuesText (take k vs)) (sym (add-one i))
+
+-- ---- an answer's number, and what stands behind it
+pub print-refused : (call : Call) (o : Outcome) → (o .number ≡ 0 → ⊥) → digits (o .number) ≡ print call o
+unfolding print
+print-refused call o n = rw (ne-eqb (o .number) 0 n) (sym (append-nil (digits (o .number))))
+
+pub print-accepted : (call : Call) (o : Outcome) → o .number ≡ 0 → digits (o .number) ++ acceptedText call o ≡ print call o
+unfolding print
+print-accepted call o e = rw (eq-eqb (o .number) 0 e)
+
+-- a call that prints its number alone
+pub print-number : (call : Call) (o : Outcome) → acceptedText call o ≡ [] → digits (o .number) ≡ print call o
+print-number call o e = go (eqb (o .number) 0) refl
+  where
+    go : (b : Bool) → eqb (o .number) 0 ≡ b → digits (o .number) ≡ print call o
+    go true f = sym (append-nil (digits (o .number))) ∙ ap (λ (l : List ℕ). digits (o .number) ++ l) (sym e) ∙ print-accepted call o (eqb-true (o .number) 0 f)
+    go false f = print-refused call o (eqb-false (o .number) 0 f)
+
+-- the state after plays no part
+pub print-fields : (call : Call) (o : Outcome) → print call (fieldsOf (o .number) (o .parent) (o .stamp) (o .values)) ≡ print call o
+unfolding print
+print-fields (setUp sites items ps ms) o = refl
+print-fields (commit i ks is vs) o = refl
+print-fields (dummy i) o = refl
+print-fields (epoch i e) o = refl
+print-fields (deliver p c) o = refl
+print-fields (schedule j) o = refl

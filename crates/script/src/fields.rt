@@ -44,10 +44,7 @@ pub(crate) fn numbers(text: &[u8], from: usize, list: &mut [u32]) -> Listed
         count += 1;
         at = end + 1;
     }
-    Listed {
-        ok: true,
-        count,
-    }
+    Listed { ok: true, count }
 }
 
 // What is no list.

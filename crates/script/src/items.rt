@@ -27,8 +27,5 @@ pub(crate) fn items(list: &[u32], primaries: &mut [u32], masks: &mut [u8]) -> Li
         count += 1;
         at = next + 1;
     }
-    Listed {
-        ok: true,
-        count,
-    }
+    Listed { ok: true, count }
 }

@@ -45,10 +45,7 @@ pub(crate) fn operations(
         count += 1;
         at = end + 1;
     }
-    Listed {
-        ok: true,
-        count,
-    }
+    Listed { ok: true, count }
 }
 
 // The operation in a field.

@@ -75,7 +75,7 @@ loop-again c =
       omega arith,
       length-set (l .list) (l .count) (n .value) ∙ l .inv .2,
       walk-next natural T (l .at) (take (l .count) (l .list)) _ (l .inv .3) (c .before .before .before .before .before .loop-test .taken) (c .before .before .before .before .find .result) (c .before .before .before .before .find .ensures) (n .value) some-is
-      ∙ ap (λ (ys : List ℕ). ahead ys (all natural (fieldsFrom T (c .before .before .before .before .find .result + 1)))) (sym (take-more (l .list) (l .count) (n .value) (omega arith))),
+          ∙ ap (λ (ys : List ℕ). ahead ys (all natural (fieldsFrom T (c .before .before .before .before .find .result + 1)))) (sym (take-more (l .list) (l .count) (n .value) (omega arith))),
     )
 
 same-length-2 : tie.Need-same-length-2 Inv-loop μ-loop

@@ -92,7 +92,7 @@ loop-again c =
       length-set (l .primaries) (l .count) p ∙ l .inv .2,
       length-set (l .masks) (l .count) m ∙ l .inv .3,
       items-next L (l .at) (itemsIn (l .count) (l .primaries) (l .masks)) _ (l .inv .4) (c .before .before .before .before .loop-test .taken) (c .before .before .before .if1 .left) (c .before .if2 .left)
-      ∙ ap (λ (ys : List Item). ahead ys (placed (drop (l .at + 1 + 1) L))) (sym (items-more (l .primaries) (l .masks) (l .count) (omega arith) (omega arith) p m)),
+          ∙ ap (λ (ys : List Item). ahead ys (placed (drop (l .at + 1 + 1) L))) (sym (items-more (l .primaries) (l .masks) (l .count) (omega arith) (omega arith) p m)),
     )
 
 same-length-5 : tie.Need-same-length-5 Inv-loop μ-loop

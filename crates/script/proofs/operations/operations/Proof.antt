@@ -99,9 +99,9 @@ loop-again c =
       length-set (l .items) (l .count) (o .item) ∙ l .inv .3,
       length-set (l .values) (l .count) _ ∙ l .inv .4,
       walk-next operation T (l .at) ops _ (l .inv .5) (c .before .before .before .before .before .before .loop-test .taken) (c .before .before .before .before .before .find .result) (c .before .before .before .before .before .find .ensures) op some-is
-      ∙ ap (λ (ys : List Op). ahead ys (all operation (fieldsFrom T (c .before .before .before .before .before .find .result + 1))))
-      (sym (ap (λ (z : ℤ). operationsIn (l .count + 1) (set (l .kinds) (l .count) (o .kind)) (set (l .items) (l .count) (o .item)) (set (l .values) (l .count) z)) value
-      ∙ ops-more (l .kinds) (l .items) (l .values) (l .count) (omega (arith, l .inv .2)) (omega (arith, l .inv .3)) (omega (arith, l .inv .4)) (o .kind) (o .item) (o .value))),
+          ∙ ap (λ (ys : List Op). ahead ys (all operation (fieldsFrom T (c .before .before .before .before .before .find .result + 1))))
+          (sym (ap (λ (z : ℤ). operationsIn (l .count + 1) (set (l .kinds) (l .count) (o .kind)) (set (l .items) (l .count) (o .item)) (set (l .values) (l .count) z)) value
+          ∙ ops-more (l .kinds) (l .items) (l .values) (l .count) (omega (arith, l .inv .2)) (omega (arith, l .inv .3)) (omega (arith, l .inv .4)) (o .kind) (o .item) (o .value))),
     )
 
 same-length-4 : tie.Need-same-length-4 Inv-loop μ-loop

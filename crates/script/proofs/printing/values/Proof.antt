@@ -45,9 +45,12 @@ loop-again : tie.Need-loop-again Inv-loop μ-loop
 loop-again c =
     let A = c .before .before .before .before .before .before .before .before .before .args in
     let l = c .before .before .before .before .before .before .loop in
-    let v = getD (A .list .now) (l .i) (pos 0) in
-    (omega arith, l .inv .1, c .before .before .value .kept .0 ∙ l .inv .2,
-    put-as (omega arith) (values-next (A .list .now) (l .i) (pos 0) _ (omega arith) (toZ-ofZ w32 v (record { sfits = c .before .before .before .before .v .given }))) (put-then (omega arith) (l .inv .3) (c .before .before .value .ensures)))
+    let v = getD (A .list .now) (l .i) (pos 0) in (
+      omega arith,
+      l .inv .1,
+      c .before .before .value .kept .0 ∙ l .inv .2,
+      put-as (omega arith) (values-next (A .list .now) (l .i) (pos 0) _ (omega arith) (toZ-ofZ w32 v (record { sfits = c .before .before .before .before .v .given }))) (put-then (omega arith) (l .inv .3) (c .before .before .value .ensures)),
+    )
 
 same-length : tie.Need-same-length Inv-loop μ-loop
 same-length c = c .before .loop .inv .2
