@@ -71,3 +71,9 @@ module _ (room : ℕ) (w : List ℕ) (a : ℕ) (xs : List ℕ) where
 
   pub printed-in : leb (a + room) (length w) ≡ true → (x : List ℕ) (end : ℕ) → Printed w x a end xs → PrintedIn room w x a end xs
   printed-in e x end p = record { printed = λ h. p; kept = λ h. absurd (h (leb-true (a + room) (length w) e)) }
+
+-- what was printed ends within the buffer
+pub printed-fits : (w x : List ℕ) (a b : ℕ) (xs : List ℕ) → a ≤ length w → length x ≡ length w → Printed w x a b xs → b ≤ length w
+printed-fits w x a b xs h e p =
+    let front : length (take a w) ≡ a = length-take-le a w h in
+    omega (arith, p .end-is, e, ap length (p .exit-is), length-append (take a w) (xs ++ drop (length xs) (drop a w)), length-append xs (drop (length xs) (drop a w)))

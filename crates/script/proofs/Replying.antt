@@ -9,8 +9,7 @@ use lib.IntN.{ℤ}
 use lib.ListN.{length, getD, take, drop, length-take}
 use lib.Seq.{length-take-le, take-nil}
 use borrow.Author.Tests.{not-true, not-false, eqb-false, ne-eqb, le-leb, lt-leb}
-use Rattle.decimal.specs.Decimal.{natural, Printed}
-use Rattle.decimal.proofs.Printing.{printed-as}
+use Rattle.decimal.specs.Decimal.{natural}
 use Rattle.timestamp.specs.Timestamp.{Stamp}
 use Rattle.site.specs.Operations.{Op}
 use Rattle.placement.specs.Placement.{Item}
@@ -20,17 +19,17 @@ use Rattle.network.specs.InWords.{meaning}
 use Rattle.network.specs.Promises.{Performed}
 use Rattle.script.specs.Fields.{space, place, fields, fieldsFrom}
 use Rattle.script.specs.Parse.{on, one, two, setUpWith, setUpOf, commitWith, commitOf, called, byLetter, longest, parse, all, operation, placed, listed, operationsIn, itemsIn}
-use Rattle.script.specs.Print.{print, fieldsOf}
+use Rattle.script.specs.Print.{print, fieldsOf, answerMost, Put}
 use Rattle.script.specs.Answers.{replied, isAccepted, Replied}
 use Rattle.script.proofs.Places.{field-next, fields-end}
-use Rattle.script.proofs.Putting.{print-fields}
+use Rattle.script.proofs.Putting.{put-as, print-fields}
 use Rattle.script.proofs.Parsing.{kinds-of, items-of, values-of, primaries-of, masks-of}
 
 -- ---- no call, and a call
-pub replied-none : {out₀ out : List ℕ} {r : ℕ} (call : Option Call) (w : List ℕ) → none ≡ call → Printed out₀ out 0 r (63 ∷ []) → Replied call w w out₀ out r
+pub replied-none : {out₀ out : List ℕ} {r : ℕ} (call : Option Call) (w : List ℕ) → none ≡ call → Put answerMost out₀ out 0 r (63 ∷ []) → Replied call w w out₀ out r
 replied-none call w e p =
     record {
-      printed = printed-as (ap (λ (o : Option Call). replied (meaning w) o .bytes) e) p;
+      printed = put-as (omega arith) (ap (λ (o : Option Call). replied (meaning w) o .bytes) e) p;
       after-is = ap (λ (o : Option Call). replied (meaning w) o .after) e;
       kept = λ h. refl;
     }
@@ -39,11 +38,12 @@ pub replied-as : {entry exit out₀ out : List ℕ} {r : ℕ} {a b : Option Call
 replied-as {entry} {exit} {out₀} {out} {r} e p = subst (λ (o : Option Call). Replied o entry exit out₀ out r) e p
 
 pub replied-some : {entry exit out₀ out : List ℕ} {r number parent : ℕ} {stamp : Stamp} {values : List ℤ} (call : Call) → Performed call entry exit number parent stamp values
-    → Printed out₀ out 0 r (print call (fieldsOf number parent stamp values)) → Replied (some call) entry exit out₀ out r
+    → Put answerMost out₀ out 0 r (print call (fieldsOf number parent stamp values)) → Replied (some call) entry exit out₀ out r
 replied-some {entry} {exit} {out₀} {out} {r} {number} {parent} {stamp} {values} call p q =
     record {
       printed =
-          printed-as
+          put-as
+          (omega arith)
           (ap (λ (k : ℕ). print call (fieldsOf k parent stamp values)) (p .number-is)
           ∙ ap (λ (k : ℕ). print call (fieldsOf (o .number) k stamp values)) (p .parent-is)
           ∙ ap (λ (t : Stamp). print call (fieldsOf (o .number) (o .parent) t values)) (p .stamp-is)

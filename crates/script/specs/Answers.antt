@@ -9,9 +9,8 @@ use lib.Dec.{eqb}
 use Rattle.network.specs.Network.{Network}
 use Rattle.network.specs.Calls.{Call, perform}
 use Rattle.network.specs.InWords.{meaning}
-use Rattle.decimal.specs.Decimal.{Printed}
 use Rattle.script.specs.Parse.{parse}
-use Rattle.script.specs.Print.{print}
+use Rattle.script.specs.Print.{print, answerMost, Put}
 
 pub record Answer : Type 0 where
   pub bytes : List ℕ
@@ -36,6 +35,6 @@ isAccepted s (some call) = eqb (perform s call .number) 0
 
 -- the answer's bytes are at the front of the buffer, the rest of it as it was; the words mean the state after it, and are as they were where nothing was accepted
 pub record Replied (call : Option Call) (entry exit out₀ out : List ℕ) (size : ℕ) : Type 0 where
-  pub printed : Printed out₀ out 0 size (replied (meaning entry) call .bytes)
+  pub printed : Put answerMost out₀ out 0 size (replied (meaning entry) call .bytes)
   pub after-is : meaning exit ≡ replied (meaning entry) call .after
   pub kept : isAccepted (meaning entry) call ≡ false → exit ≡ entry

@@ -10,7 +10,7 @@ ghost use mathlib.Core.List.{[], _∷_};
 ghost use Prim.Native.Nat.{_+_, _≤_, _<_, min};
 ghost use lib.ListN.{length, take};
 ghost use lib.Dec.{eqb};
-ghost use Rattle.decimal.specs.Decimal.{digits, signedDigits, Printed};
+ghost use Rattle.decimal.specs.Decimal.{digits, signedDigits};
 ghost use Rattle.timestamp.specs.Timestamp.{stampOf, pairOf};
 ghost use Rattle.network.specs.Network.{noStamp};
 ghost use Rattle.network.specs.Calls.{commit as commitCall, dummy as dummyCall, deliver as deliverCall, schedule as scheduleCall};
@@ -19,7 +19,7 @@ ghost use Rattle.script.specs.Print.{tupleText, tuplesText, stampText, v
 // A question mark.
 pub(crate) fn question(out: &mut [u8]) -> usize
     requires { ⌜ 1 ≤ length (now out) ⌝ }
-    ensures { λ r. ⌜ Printed (now (out .entry)) (now (out .exit)) 0 r (63 ∷ []) ⌝ }
+    ensures { λ r. ⌜ Put answerMost (now (out .entry)) (now (out .exit)) 0 r (63 ∷ []) ⌝ }
 {
     out[0] = 63;
     1
@@ -35,7 +35,7 @@ pub(crate) fn number(out: &mut [u8], n: u32) -> usize
 
 pub(crate) fn dummied(out: &mut [u8], answer: Dummied) -> usize
     requires { ⌜ answerMost ≤ length (now out) ⌝ }
-    ensures { λ r. ⌜ Printed (now (out .entry)) (now (out .exit)) 0 r (print (dummyCall 0) (fieldsOf (answer .number) 0 (stampOf (answer .stamp)) [])) ⌝ }
+    ensures { λ r. ⌜ Put answerMost (now (out .entry)) (now (out .exit)) 0 r (print (dummyCall 0) (fieldsOf (answer .number) 0 (stampOf (answer .stamp)) [])) ⌝ }
 {
     let n = answer.number;
     let t = answer.stamp;
@@ -48,7 +48,7 @@ pub(crate) fn dummied(out: &mut [u8], answer: Dummied) -> usize
 
 pub(crate) fn scheduled(out: &mut [u8], answer: Scheduled) -> usize
     requires { ⌜ answerMost ≤ length (now out) ⌝ }
-    ensures { λ r. ⌜ Printed (now (out .entry)) (now (out .exit)) 0 r (print (scheduleCall 0) (fieldsOf (answer .number) (answer .parent) (stampOf (answer .stamp)) [])) ⌝ }
+    ensures { λ r. ⌜ Put answerMost (now (out .entry)) (now (out .exit)) 0 r (print (scheduleCall 0) (fieldsOf (answer .number) (answer .parent) (stampOf (answer .stamp)) [])) ⌝ }
 {
     let n = answer.number;
     let parent = answer.parent;
@@ -63,7 +63,7 @@ pub(crate) fn scheduled(out: &mut [u8], answer: Scheduled) -> usize
 
 pub(crate) fn committed(out: &mut [u8], answer: Committed) -> usize
     requires { ⌜ answerMost ≤ length (now out) ⌝ }
-    ensures { λ r. ⌜ Printed (now (out .entry)) (now (out .exit)) 0 r (print (commitCall 0 [] [] []) (fieldsOf (answer .number) 0 (stampOf (answer .stamp)) (take (answer .count) (answer .values)))) ⌝ }
+    ensures { λ r. ⌜ Put answerMost (now (out .entry)) (now (out .exit)) 0 r (print (commitCall 0 [] [] []) (fieldsOf (answer .number) 0 (stampOf (answer .stamp)) (take (answer .count) (answer .values)))) ⌝ }
 {
     let n = answer.number;
     let t = answer.stamp;

@@ -6,13 +6,12 @@ use Prim.Native.Nat.{ℕ, _-_}
 use native.Mathlib.Omega.{arith}
 use lib.ListN.{length, getD, take, drop, length-drop}
 use lib.Seq.{length-take-le, take-all}
-use Rattle.decimal.proofs.Printing.{printed-as}
 use Rattle.placement.specs.Placement.{Item}
 use Rattle.network.specs.Network.{noStamp}
 use Rattle.network.specs.Calls.{setUp}
 use Rattle.script.specs.Parse.{placed, setUpWith, itemsIn, listed}
 use Rattle.script.specs.Print.{fieldsOf}
-use Rattle.script.proofs.Putting.{print-number}
+use Rattle.script.proofs.Putting.{put-as, print-number}
 use Rattle.script.proofs.Replying.{replied-none, replied-as, replied-some, on-none, on-is, set-up-of, set-up-with}
 use borrow.Author.Needs.{needs}
 use Rattle.script.proofs.calls.place.Statement.{statement}
@@ -93,7 +92,7 @@ returns-2 c =
     (set-up-with a b k P M (length-take-le k M (omega (arith, q .ensures .1)) ∙ sym (length-take-le k P (omega (arith, q .ensures .1))))
     ∙ on-is (q .result .ok) (itemsIn k P M) (placed (drop 2 T)) (λ (is : List Item). some (setUpWith a b is)) (q .ensures .0 ∙ ap placed rest) (c .before .before .before .before .before .before .before .before .if1 .left)
     ∙ set-up-of T (c .before .before .before .before .before .before .before .before .before .before .before .before .before .before .before .before .before .pre .0))
-    (replied-some (setUp a b (take k P) (take k M)) (c .before .before .set-up .ensures) (printed-as (print-number (setUp a b (take k P) (take k M)) (fieldsOf (c .before .before .set-up .result) 0 noStamp []) refl) (c .number .ensures .printed)))
+    (replied-some (setUp a b (take k P) (take k M)) (c .before .before .set-up .ensures) (put-as (omega arith) (print-number (setUp a b (take k P) (take k M)) (fieldsOf (c .before .before .set-up .result) 0 noStamp []) refl) (c .number .ensures)))
 
 pub place-spec : {M : Type 1} → statement M
 place-spec =
