@@ -53,7 +53,13 @@ fn turn(at: Progress, state: &mut [u32; WORDS], held: &mut [u8], answers: &mut [
 }
 
 // The bytes of a block, one after another.
-fn feed(block: &[u8], from: Progress, state: &mut [u32; WORDS], held: &mut [u8], answers: &mut [u8]) -> Progress
+fn feed(
+    block: &[u8],
+    from: Progress,
+    state: &mut [u32; WORDS],
+    held: &mut [u8],
+    answers: &mut [u8],
+) -> Progress
     requires { ⌜ Within from × (length (now held) ≡ heldMost) × (length (now answers) ≡ answersMost) ⌝ }
     ensures { λ r. ⌜ Within r ⌝ }
 {
@@ -70,7 +76,13 @@ fn feed(block: &[u8], from: Progress, state: &mut [u32; WORDS], held: &mut [u8],
 }
 
 // One byte: a newline has the line that is held answered.
-fn byte(b: u8, at: Progress, state: &mut [u32; WORDS], held: &mut [u8], answers: &mut [u8]) -> Progress
+fn byte(
+    b: u8,
+    at: Progress,
+    state: &mut [u32; WORDS],
+    held: &mut [u8],
+    answers: &mut [u8],
+) -> Progress
     requires { ⌜ Within at × (length (now held) ≡ heldMost) × (length (now answers) ≡ answersMost) ⌝ }
     ensures { λ r. ⌜ Within r ⌝ }
 {

@@ -72,8 +72,6 @@ module _ (room : ℕ) (w : List ℕ) (a : ℕ) (xs : List ℕ) where
   pub printed-in : leb (a + room) (length w) ≡ true → (x : List ℕ) (end : ℕ) → Printed w x a end xs → PrintedIn room w x a end xs
   printed-in e x end p = record { printed = λ h. p; kept = λ h. absurd (h (leb-true (a + room) (length w) e)) }
 
--- what was printed ends within the buffer
-pub printed-fits : (w x : List ℕ) (a b : ℕ) (xs : List ℕ) → a ≤ length w → length x ≡ length w → Printed w x a b xs → b ≤ length w
-printed-fits w x a b xs h e p =
-    let front : length (take a w) ≡ a = length-take-le a w h in
-    omega (arith, p .end-is, e, ap length (p .exit-is), length-append (take a w) (xs ++ drop (length xs) (drop a w)), length-append xs (drop (length xs) (drop a w)))
+-- what is printed at the front ends within the buffer
+pub front-fits : {w x : List ℕ} {b : ℕ} {xs : List ℕ} → Printed w x 0 b xs → b ≤ length x
+front-fits {w} {x} {b} {xs} p = omega (arith, p .end-is, ap length (p .exit-is), length-append xs (drop (length xs) w))
