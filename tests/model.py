@@ -3,6 +3,8 @@
 
     model.py run            answers the script on standard input
     model.py script SEED N  writes a random script of N lines over 8 sites and 64 items
+
+crates/script_long/stdin is the script of seed 1 with 4000 lines, and its stdout what this model answers.
 """
 import random
 import sys

@@ -3,3 +3,4 @@ pub mod Printing
 pub mod Spelling
 pub mod Signs
 pub mod Values
+pub mod Again
