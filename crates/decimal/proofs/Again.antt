@@ -55,10 +55,10 @@ digits-are (suc k) n h = go (ltb n 10) refl (digits-are k (n / 10))
         let whole : n / 10 * 10 + n % 10 ≡ n = div-add-mod' n 10 in
         record {
           value =
-            ap (valueFrom 0) (digits-more n m)
-            ∙ value-append 0 (digits (n / 10)) ((48 + n % 10) ∷ [])
-            ∙ ap (λ (v : ℕ). v * 10 + (48 + n % 10 - 48)) (r .value)
-            ∙ (omega arith);
+              ap (valueFrom 0) (digits-more n m)
+              ∙ value-append 0 (digits (n / 10)) ((48 + n % 10) ∷ [])
+              ∙ ap (λ (v : ℕ). v * 10 + (48 + n % 10 - 48)) (r .value)
+              ∙ (omega arith);
           only = ap (every isDigit) (digits-more n m) ∙ every-snoc isDigit (digits (n / 10)) (48 + n % 10) (r .only) (is-digit (n % 10) low);
           first = λ z. omega (arith, r .first (omega arith), ap (λ (l : List ℕ). getD l 0 0) (digits-more n m), List·getD-append (digits (n / 10)) ((48 + n % 10) ∷ []) 0 0 (omega (arith, digits-some (n / 10))));
         }
