@@ -8,7 +8,8 @@ use native.Mathlib.Omega.{arith}
 use lib.IntN.{ℤ}
 use lib.ListN.{length, getD, take, drop, length-take}
 use lib.Seq.{length-take-le, take-nil}
-use borrow.Author.Tests.{not-true, not-false, eqb-false, ne-eqb, le-leb, lt-leb}
+use borrow.Author.Tests.{not-true, not-false, eqb-true, eqb-false, ne-eqb, le-leb, lt-leb}
+use lib.Dec.{eqb}
 use Rattle.decimal.specs.Decimal.{natural}
 use Rattle.timestamp.specs.Timestamp.{Stamp}
 use Rattle.site.specs.Operations.{Op}
@@ -18,7 +19,7 @@ use Rattle.network.specs.Calls.{Call, setUp, commit, dummy, epoch, deliver, sch
 use Rattle.network.specs.InWords.{meaning}
 use Rattle.network.specs.Promises.{Performed}
 use Rattle.script.specs.Fields.{space, place, fields, fieldsFrom}
-use Rattle.script.specs.Parse.{on, one, two, setUpWith, setUpOf, commitWith, commitOf, called, byLetter, longest, parse, all, operation, placed, listed, operationsIn, itemsIn}
+use Rattle.script.specs.Parse.{on, one, two, setUpWith, setUpOf, commitWith, commitOf, called, byLetter, longest, parse, all, operation, placed, listed, exact, operationsIn, itemsIn}
 use Rattle.script.specs.Print.{print, fieldsOf, answerMost, Put}
 use Rattle.script.specs.Answers.{replied, isAccepted, Replied}
 use Rattle.script.proofs.Places.{field-next, fields-end}
@@ -64,39 +65,58 @@ module _ {A B : Type 0} (ok : Bool) (xs : List A) (o : Option (List A)) (g : Lis
   pub on-is : not ok ≡ false → g xs ≡ on o g
   on-is h = ap (λ (b : Bool). on (listed b xs) g) (sym (not-false ok h)) ∙ ap (λ (z : Option (List A)). on z g) e
 
+-- so many numbers, of a list of which the first n are used
+pub exact-none : (k : ℕ) (ok : Bool) (xs : List ℕ) (o : Option (List ℕ)) → listed ok xs ≡ o → not ok ≡ true → none ≡ exact k o
+exact-none k ok xs o e h = ap (λ (b : Bool). exact k (listed b xs)) (sym (not-true ok h)) ∙ ap (exact k) e
+
+exact-size : (k n : ℕ) (l : List ℕ) → n ≤ length l → (b : Bool) → eqb n k ≡ b → listed b (take k l) ≡ cond b (some (take n l)) none
+exact-size k n l h true e = ap (λ (m : ℕ). some (take m l)) (sym (eqb-true n k e))
+exact-size k n l h false e = refl
+
+pub exact-is : (k n : ℕ) (ok : Bool) (l : List ℕ) (o : Option (List ℕ)) → listed ok (take n l) ≡ o → not ok ≡ false → n ≤ length l → listed (eqb n k) (take k l) ≡ exact k o
+exact-is k n ok l o e h g =
+    exact-size k n l g (eqb n k) refl
+    ∙ ap (λ (m : ℕ). cond (eqb m k) (some (take n l)) none) (sym (length-take-le n l g))
+    ∙ ap (λ (b : Bool). exact k (listed b (take n l))) (sym (not-false ok h))
+    ∙ ap (exact k) e
+
 module _ (f : ℕ → Call) where
-  pub not-one : (n : ℕ) (l : List ℕ) → n ≤ length l → (n ≡ 1 → ⊥) → none ≡ one f (take n l)
-  not-one zero l h n = refl
-  not-one (suc zero) l h n = absurd (n refl)
-  not-one (suc (suc k)) [] h n = absurd (omega arith)
-  not-one (suc (suc k)) (a ∷ []) h n = absurd (omega arith)
-  not-one (suc (suc k)) (a ∷ (b ∷ l)) h n = refl
+  one-exact : (o : Option (List ℕ)) → on (exact 1 o) (one f) ≡ on o (one f)
+  one-exact none = refl
+  one-exact (some []) = refl
+  one-exact (some (a ∷ [])) = refl
+  one-exact (some (a ∷ (b ∷ xs))) = rw (ne-eqb (suc (suc (length xs))) 1 (λ e. omega arith))
 
   is-first : (l : List ℕ) → 1 ≤ length l → some (f (getD l 0 0)) ≡ one f (take 1 l)
   is-first [] h = absurd (omega arith)
   is-first (a ∷ l) h = refl
 
-  pub is-one : (n : ℕ) (l : List ℕ) → n ≤ length l → n ≡ 1 → some (f (getD l 0 0)) ≡ one f (take n l)
-  is-one n l h e = is-first l (omega arith) ∙ ap (λ (k : ℕ). one f (take k l)) (sym e)
+  module _ (ok : Bool) (l : List ℕ) (o : Option (List ℕ)) (e : listed ok (take 1 l) ≡ exact 1 o) where
+    pub not-one : not ok ≡ true → none ≡ on o (one f)
+    not-one h = on-none ok (take 1 l) (exact 1 o) (one f) e h ∙ one-exact o
+
+    pub is-one : not ok ≡ false → 1 ≤ length l → some (f (getD l 0 0)) ≡ on o (one f)
+    is-one h g = is-first l g ∙ on-is ok (take 1 l) (exact 1 o) (one f) e h ∙ one-exact o
 
 module _ (f : ℕ → ℕ → Call) where
-  pub not-two : (n : ℕ) (l : List ℕ) → n ≤ length l → (n ≡ 2 → ⊥) → none ≡ two f (take n l)
-  not-two zero l h n = refl
-  not-two (suc zero) [] h n = refl
-  not-two (suc zero) (a ∷ l) h n = refl
-  not-two (suc (suc zero)) l h n = absurd (n refl)
-  not-two (suc (suc (suc k))) [] h n = absurd (omega arith)
-  not-two (suc (suc (suc k))) (a ∷ []) h n = absurd (omega arith)
-  not-two (suc (suc (suc k))) (a ∷ (b ∷ [])) h n = absurd (omega arith)
-  not-two (suc (suc (suc k))) (a ∷ (b ∷ (c ∷ l))) h n = refl
+  two-exact : (o : Option (List ℕ)) → on (exact 2 o) (two f) ≡ on o (two f)
+  two-exact none = refl
+  two-exact (some []) = refl
+  two-exact (some (a ∷ [])) = refl
+  two-exact (some (a ∷ (b ∷ []))) = refl
+  two-exact (some (a ∷ (b ∷ (c ∷ xs)))) = rw (ne-eqb (suc (suc (suc (length xs)))) 2 (λ e. omega arith))
 
   are-first : (l : List ℕ) → 2 ≤ length l → some (f (getD l 0 0) (getD l 1 0)) ≡ two f (take 2 l)
   are-first [] h = absurd (omega arith)
   are-first (a ∷ []) h = absurd (omega arith)
   are-first (a ∷ (b ∷ l)) h = refl
 
-  pub is-two : (n : ℕ) (l : List ℕ) → n ≤ length l → n ≡ 2 → some (f (getD l 0 0) (getD l 1 0)) ≡ two f (take n l)
-  is-two n l h e = are-first l (omega arith) ∙ ap (λ (k : ℕ). two f (take k l)) (sym e)
+  module _ (ok : Bool) (l : List ℕ) (o : Option (List ℕ)) (e : listed ok (take 2 l) ≡ exact 2 o) where
+    pub not-two : not ok ≡ true → none ≡ on o (two f)
+    not-two h = on-none ok (take 2 l) (exact 2 o) (two f) e h ∙ two-exact o
+
+    pub is-two : not ok ≡ false → 2 ≤ length l → some (f (getD l 0 0) (getD l 1 0)) ≡ on o (two f)
+    is-two h g = are-first l g ∙ on-is ok (take 2 l) (exact 2 o) (two f) e h ∙ two-exact o
 
 -- ---- set-up
 pub few-numbers : (l : List ℕ) → length l < 2 → none ≡ setUpOf l

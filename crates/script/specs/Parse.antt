@@ -107,6 +107,10 @@ longest = 512
 unfoldable pub parse : List ℕ → Option Call
 parse text = cond (leb (length text) longest) (byLetter (fields text)) none
 
+-- a list of so many elements
+abbrev pub exact : {A : Type 0} → ℕ → Option (List A) → Option (List A)
+exact k o = on o (λ xs. cond (eqb (length xs) k) (some xs) none)
+
 -- ---- what the values of the code mean: an operation; lists of which the first n are used
 abbrev pub operationOf : Parsed → Option Op
 operationOf r = cond (r .ok) (some (record { kind = r .kind; item = r .item; value = r .value })) none

@@ -102,11 +102,7 @@ pub(crate) fn dummy(text: &[u8], state: &mut [u32; WORDS], out: &mut [u8; ANSWER
     ensures { λ r. ⌜ Replied (on (all natural (fieldsFrom (now (text .entry)) 2)) (one dummyCall)) (now (state .entry)) (now (state .exit)) (now (out .entry)) (now (out .exit)) r ⌝ }
 {
     let mut list = [0u32; 256];
-    let n = fields::numbers(text, 2, &mut list);
-    if !n.ok {
-        return printing::question(out);
-    }
-    if n.count != 1 {
+    if !fields::exactly(text, 1, &mut list) {
         return printing::question(out);
     }
     let answer = network::dummy(state, list[0]);
@@ -118,11 +114,7 @@ pub(crate) fn schedule(text: &[u8], state: &mut [u32; WORDS], out: &mut [u8; ANS
     ensures { λ r. ⌜ Replied (on (all natural (fieldsFrom (now (text .entry)) 2)) (one scheduleCall)) (now (state .entry)) (now (state .exit)) (now (out .entry)) (now (out .exit)) r ⌝ }
 {
     let mut list = [0u32; 256];
-    let n = fields::numbers(text, 2, &mut list);
-    if !n.ok {
-        return printing::question(out);
-    }
-    if n.count != 1 {
+    if !fields::exactly(text, 1, &mut list) {
         return printing::question(out);
     }
     let answer = network::schedule(state, list[0]);
@@ -134,11 +126,7 @@ pub(crate) fn epoch(text: &[u8], state: &mut [u32; WORDS], out: &mut [u8; ANSWER
     ensures { λ r. ⌜ Replied (on (all natural (fieldsFrom (now (text .entry)) 2)) (two epochCall)) (now (state .entry)) (now (state .exit)) (now (out .entry)) (now (out .exit)) r ⌝ }
 {
     let mut list = [0u32; 256];
-    let n = fields::numbers(text, 2, &mut list);
-    if !n.ok {
-        return printing::question(out);
-    }
-    if n.count != 2 {
+    if !fields::exactly(text, 2, &mut list) {
         return printing::question(out);
     }
     let number = network::epoch(state, list[0], list[1]);
@@ -150,11 +138,7 @@ pub(crate) fn deliver(text: &[u8], state: &mut [u32; WORDS], out: &mut [u8; ANSW
     ensures { λ r. ⌜ Replied (on (all natural (fieldsFrom (now (text .entry)) 2)) (two deliverCall)) (now (state .entry)) (now (state .exit)) (now (out .entry)) (now (out .exit)) r ⌝ }
 {
     let mut list = [0u32; 256];
-    let n = fields::numbers(text, 2, &mut list);
-    if !n.ok {
-        return printing::question(out);
-    }
-    if n.count != 2 {
+    if !fields::exactly(text, 2, &mut list) {
         return printing::question(out);
     }
     let number = network::deliver(state, list[0], list[1]);

@@ -5,7 +5,7 @@ ghost use Prim.Native.Nat.{_+_, _≤_};
 ghost use lib.ListN.{length, take, drop};
 ghost use Rattle.decimal.specs.Decimal.{natural};
 ghost use Rattle.script.specs.Fields.{place, fieldsFrom};
-ghost use Rattle.script.specs.Parse.{all, longest, listed};
+ghost use Rattle.script.specs.Parse.{all, longest, listed, exact};
 
 // How many things there are in a list, where it is one.
 pub struct Listed {
@@ -45,6 +45,18 @@ pub(crate) fn numbers(text: &[u8], from: usize, list: &mut [u32]) -> Listed
         at = end + 1;
     }
     Listed { ok: true, count }
+}
+
+// The fields behind the letter as k numbers, from the front of a list; false where they are not.
+pub(crate) fn exactly(text: &[u8], k: usize, list: &mut [u32]) -> bool
+    requires { ⌜ (length (now text) ≤ longest) × (length (now list) ≡ 256) ⌝ }
+    ensures { λ r. ⌜ listed r (take k (now (list .exit))) ≡ exact k (all natural (fieldsFrom (now (text .entry)) 2)) ⌝ }
+{
+    let n = numbers(text, 2, list);
+    if !n.ok {
+        return false;
+    }
+    n.count == k
 }
 
 // What is no list.
