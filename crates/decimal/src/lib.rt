@@ -1,0 +1,208 @@
+// Numbers as decimal bytes: parsed from a lent text and printed into a lent buffer.
+ghost use mathlib.Core.Path.{_≡_};
+ghost use mathlib.Core.Bool.{cond, _&&_};
+ghost use mathlib.Core.Option.{none};
+ghost use Prim.Native.Nat.{_+_, _-_, _*_, _≤_};
+ghost use lib.ListN.{length};
+ghost use lib.IntN.{natAbs};
+ghost use lib.Dec.{leb};
+ghost use Rattle.words.specs.Words.{every};
+ghost use Rattle.decimal.specs.Decimal.{digits, signedDigits, Printed, PrintedIn, isDigit, extraZero, valueFrom, greatest, natural as naturalIn, signed as signedIn, numberOf, integerOf, negative, notNegative};
+
+// A number, where the text is one; else `ok` is false and the value 0.
+pub struct Number {
+    pub ok: bool,
+    pub value: u32,
+}
+
+// A signed number, where the text is one; else `ok` is false and the value 0.
+pub struct Integer {
+    pub ok: bool,
+    pub value: i32,
+}
+
+// The number that a text stands for.
+pub fn natural(text: &[u8]) -> Number
+    ensures { λ r. ⌜ numberOf r ≡ naturalIn (now (text .entry)) ⌝ }
+{
+    if text.len() == 0 {
+        return no_number();
+    }
+    if extra_zero(text) {
+        return no_number();
+    }
+    let v = value(text);
+    if 4294967295 < v {
+        return no_number();
+    }
+    Number {
+        ok: true,
+        value: v as u32,
+    }
+}
+
+// The signed number that a text stands for.
+pub fn signed(text: &[u8]) -> Integer
+    ensures { λ r. ⌜ integerOf r ≡ signedIn (now (text .entry)) ⌝ }
+{
+    if text.len() == 0 {
+        return no_integer();
+    }
+    if text[0] == 45 {
+        return below_zero(natural(&text[1..]));
+    }
+    above_zero(natural(text))
+}
+
+// The digits of a number from a place on. It answers the place behind them. Where fewer than ten bytes are left it prints nothing.
+pub fn put(out: &mut [u8], at: usize, n: u32) -> usize
+    ensures { λ r. ⌜ PrintedIn 10 (now (out .entry)) (now (out .exit)) at r (digits n) ⌝ }
+{
+    if !has_room(out.len(), at, 10) {
+        return at;
+    }
+    spell(out, at, n)
+}
+
+// A signed number likewise, where eleven bytes are left.
+pub fn put_signed(out: &mut [u8], at: usize, v: i32) -> usize
+    ensures { λ r. ⌜ PrintedIn 11 (now (out .entry)) (now (out .exit)) at r (signedDigits v) ⌝ }
+{
+    if !has_room(out.len(), at, 11) {
+        return at;
+    }
+    let m = magnitude(v);
+    if 0 <= v {
+        return spell(out, at, m);
+    }
+    out[at] = 45;
+    spell(out, at + 1, m)
+}
+
+// A number without its sign.
+fn magnitude(v: i32) -> u32
+    ensures { λ r. ⌜ r ≡ natAbs v ⌝ }
+{
+    if 0 <= v {
+        return v as u32;
+    }
+    ((-1 - v) as u32) + 1
+}
+
+fn spell(out: &mut [u8], at: usize, n: u32) -> usize
+    requires { ⌜ at + length (digits n) ≤ length (now out) ⌝ }
+    ensures { λ r. ⌜ Printed (now (out .entry)) (now (out .exit)) at r (digits n) ⌝ }
+{
+    if n < 10 {
+        out[at] = 48 + (n as u8);
+        return at + 1;
+    }
+    let end = spell(out, at, n / 10);
+    out[end] = 48 + ((n % 10) as u8);
+    end + 1
+}
+
+// k bytes are left of some from a place on.
+fn has_room(len: usize, at: usize, k: usize) -> bool
+    ensures { λ r. ⌜ r ≡ leb (at + k) len ⌝ }
+{
+    if len < k {
+        return false;
+    }
+    at <= len - k
+}
+
+// A zero in front of other bytes.
+fn extra_zero(text: &[u8]) -> bool
+    ensures { λ r. ⌜ r ≡ extraZero (now (text .entry)) ⌝ }
+{
+    if text.len() <= 1 {
+        return false;
+    }
+    text[0] == 48
+}
+
+// The value of a text of digits; one above the greatest where it is larger or not all are digits.
+fn value(text: &[u8]) -> u64
+    ensures { λ r. ⌜ r ≡ cond (every isDigit (now (text .entry)) && leb (valueFrom 0 (now (text .entry))) greatest) (valueFrom 0 (now (text .entry))) (greatest + 1) ⌝ }
+{
+    let mut v = 0u64;
+    let mut i = 0;
+    while i < text.len() {
+        v = next_value(v, text[i]);
+        if 4294967295 < v {
+            return 4294967296;
+        }
+        i += 1;
+    }
+    v
+}
+
+// The value with one digit more; one above the greatest where the byte is no digit.
+fn next_value(v: u64, d: u8) -> u64
+    requires { ⌜ v ≤ greatest ⌝ }
+    ensures { λ r. ⌜ r ≡ cond (isDigit d) (v * 10 + (d - 48)) (greatest + 1) ⌝ }
+{
+    if d < 48 {
+        return 4294967296;
+    }
+    if 57 < d {
+        return 4294967296;
+    }
+    v * 10 + ((d - 48) as u64)
+}
+
+// A magnitude below zero.
+fn below_zero(m: Number) -> Integer
+    ensures { λ r. ⌜ integerOf r ≡ negative (numberOf m) ⌝ }
+{
+    let v = m.value;
+    if !m.ok {
+        return no_integer();
+    }
+    if v == 0 {
+        return no_integer();
+    }
+    if 2147483648 < v {
+        return no_integer();
+    }
+    Integer {
+        ok: true,
+        value: -1 - ((v - 1) as i32),
+    }
+}
+
+// A magnitude not below zero.
+fn above_zero(m: Number) -> Integer
+    ensures { λ r. ⌜ integerOf r ≡ notNegative (numberOf m) ⌝ }
+{
+    let v = m.value;
+    if !m.ok {
+        return no_integer();
+    }
+    if 2147483647 < v {
+        return no_integer();
+    }
+    Integer {
+        ok: true,
+        value: v as i32,
+    }
+}
+
+fn no_number() -> Number
+    ensures { λ r. ⌜ numberOf r ≡ none ⌝ }
+{
+    Number {
+        ok: false,
+        value: 0,
+    }
+}
+
+fn no_integer() -> Integer
+    ensures { λ r. ⌜ integerOf r ≡ none ⌝ }
+{
+    Integer {
+        ok: false,
+        value: 0,
+    }
+}

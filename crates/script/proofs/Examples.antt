@@ -1,0 +1,19 @@
+-- The table of worked examples, by computation.
+use mathlib.Core.Path.{_≡_, refl}
+use Rattle.decimal.specs.Decimal.{lastDigits, digits, valueFrom, natural, signed}
+use Rattle.timestamp.specs.Timestamp.{appendedOrSame, raisedOrSame}
+use Rattle.timestamp.specs.Order.{orderBy, tuplesOrder, pairOrder, numberOrder}
+use Rattle.timestamp.proofs.Examples.{comparisons-hold}
+use Rattle.site.specs.Operations.{work}
+use Rattle.placement.specs.Placement.{itemNumber, isLine, hasParents}
+use Rattle.network.specs.Steps.{setUpNumber, setUpNetwork, commitNumber, commitNetwork, deliverNumber, deliverNetwork, scheduleNumber, scheduleNetwork, earliest}
+use Rattle.network.specs.Calls.{perform}
+use Rattle.script.specs.Fields.{place, fields}
+use Rattle.script.specs.Parse.{all, operation, placed, called, parse}
+use Rattle.script.specs.Print.{tuplesText, valuesText, print}
+use Rattle.script.specs.Answers.{answer, answers}
+use Rattle.script.specs.Examples.{Holds, table}
+
+pub examples-hold : Holds table
+unfolding lastDigits digits valueFrom natural signed appendedOrSame raisedOrSame orderBy tuplesOrder pairOrder numberOrder work itemNumber isLine hasParents setUpNumber setUpNetwork commitNumber commitNetwork deliverNumber deliverNetwork scheduleNumber scheduleNetwork earliest perform place fields all operation placed called parse tuplesText valuesText print answer answers
+examples-hold = record { lines-hold = refl; pairs-hold = comparisons-hold }

@@ -1,0 +1,6 @@
+pub mod Examples
+pub mod Places
+pub mod Walks
+pub mod Parsing
+pub mod Putting
+pub mod Replying

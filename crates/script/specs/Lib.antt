@@ -1,0 +1,5 @@
+pub mod Fields
+pub mod Parse
+pub mod Print
+pub mod Answers
+pub mod Examples

@@ -1,0 +1,4 @@
+// An empty input, which is answered by nothing.
+fn main() {
+    console::run();
+}

@@ -1,0 +1,4 @@
+// A script of some thousand lines over 8 sites and 64 items.
+fn main() {
+    console::run();
+}
