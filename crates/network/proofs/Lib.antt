@@ -15,3 +15,4 @@ pub mod Committing
 pub mod SettingUp
 pub mod OperationWords
 pub mod Scheduling
+pub mod Gathering

@@ -5,3 +5,4 @@ pub mod Calls
 pub mod InWords
 pub mod Promises
 pub mod Choice
+pub mod Gathered
