@@ -17,4 +17,5 @@ pub mod OperationWords
 pub mod Places
 pub mod Reporting
 pub mod Scheduling
-pub mod Entries
+pub mod RecordWords
+pub mod Gathering

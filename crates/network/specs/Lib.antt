@@ -7,3 +7,4 @@ pub mod InWords
 pub mod Promises
 pub mod Choice
 pub mod Reading
+pub mod Gathered

@@ -4,6 +4,7 @@ mod commits; // commits.rt: commit
 mod deliveries; // deliveries.rt: deliver
 mod due; // due.rt: what operations ask of the placement
 mod dummies; // dummies.rt: dummy
+mod entries; // entries.rt: commit with operations as records
 mod epochs; // epochs.rt: epoch
 mod operations; // operations.rt: a commit's operations in words, and the values read
 mod placing; // placing.rt: set-up
@@ -17,6 +18,7 @@ mod state; // state.rt: the sites, lines and records of a state, by number
 pub use commits::commit;
 pub use deliveries::deliver;
 pub use dummies::dummy;
+pub use entries::commit_operations;
 pub use epochs::epoch;
 pub use placing::set_up;
 pub use reading::holdings;
@@ -25,6 +27,13 @@ pub use reading::well_shaped;
 pub use reports::waiting;
 pub use schedules::schedule;
 use timestamp::Timestamp;
+
+// An operation of a commit: 0 a read or 1 a write, the item, and the value that is written.
+pub struct Operation {
+    pub kind: u8,
+    pub item: u32,
+    pub value: i32,
+}
 
 // What a commit answers: its number, the timestamp, and the first `count` values, those read in order; all zero where refused.
 pub struct Committed {

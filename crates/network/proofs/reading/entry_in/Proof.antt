@@ -3,7 +3,7 @@ use mathlib.Core.Path.{refl}
 use Prim.Native.Nat.{_+_, _*_}
 use Rattle.records.specs.InWords.{recordSize}
 use Rattle.network.specs.Layout.{historyAt}
-use Rattle.network.proofs.Entries.{entered}
+use Rattle.network.proofs.RecordWords.{entered}
 use borrow.Author.Needs.{needs}
 use Rattle.network.proofs.reading.entry_in.Statement.{statement}
 use Rattle.network.proofs.reading.entry_in.Tie as tie

@@ -8,7 +8,7 @@ use Rattle.timestamp.specs.Timestamp.{stampOf}
 use Rattle.records.specs.Records.{Record}
 use Rattle.network.specs.Network.{noRecord}
 use Rattle.network.specs.Reading.{Entered}
-use Rattle.network.proofs.Entries.{record-past, record-beyond}
+use Rattle.network.proofs.RecordWords.{record-past, record-beyond}
 use borrow.Author.Needs.{needs}
 use Rattle.network.proofs.reading.record_in.Statement.{statement}
 use Rattle.network.proofs.reading.record_in.Tie as tie
