@@ -4,7 +4,7 @@ use mathlib.Core.Bool.{cond}
 use mathlib.Core.List.{List, [], _∷_, _++_}
 use mathlib.Core.Option.{Option, none, some}
 use Prim.Native.Nat.{ℕ, zero, suc, _+_}
-use lib.IntN.{ℤ, pos}
+use lib.IntN.{pos}
 use lib.ListN.{length, getD, drop}
 use lib.Dec.{eqb, ltb, leb}
 use Rattle.timestamp.specs.Timestamp.{stampOf}
@@ -15,7 +15,7 @@ use Rattle.records.specs.Records.{Record}
 use Rattle.network.specs.Network.{Network, noRecord}
 use Rattle.network.specs.Steps.{when}
 use Rattle.history.specs.declared.Found.{Found}
-use Rattle.history.specs.File.{History, historyOf, fileOf}
+use Rattle.history.specs.File.{historyOf, fileOf}
 use Rattle.history.specs.Reading.{fileNumber, historyRead, partRead, recordRead, recordValid, sizeRead, startOf}
 
 -- ---- export: its number, the file's length, and the buffer afterwards; refused, the buffer as it was
