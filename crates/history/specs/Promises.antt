@@ -77,7 +77,6 @@ stepNumbered b k =
     cond (eqb (recordNumber b k) 0) (record { number = 0; next = startOf (suc k) (partRead b); found = getD (historyRead b .records) k noRecord }) (noStep (recordNumber b k))
 
 -- ---- by the place of a part where it starts, of a group of that many sites and items
-
 abbrev pub stepAt : ℕ → ℕ → ℕ → List ℕ → Step
 stepAt sites items at b = cond (recordValid sites items b) (record { number = 0; next = at + sizeRead b; found = recordRead b }) (noStep 23)
 
