@@ -1,7 +1,8 @@
 -- The worked example of the file, as a fact of the definitions.
 use mathlib.Core.Path.{_≡_, refl}
-use mathlib.Core.List.{List}
-use Prim.Native.Nat.{ℕ}
+use Rattle.words.specs.Words.{chunks}
+use Rattle.timestamp.specs.Made.{rising, madeBy}
+use Rattle.records.specs.Records.{recordFits}
 use Rattle.site.specs.Operations.{work}
 use Rattle.timestamp.specs.Timestamp.{raisedOrSame}
 use Rattle.placement.specs.Placement.{itemNumber, isLine}
@@ -9,9 +10,13 @@ use Rattle.network.specs.Steps.{setUpNumber, setUpNetwork, commitNumber, commit
 use Rattle.network.specs.Calls.{perform}
 use Rattle.history.specs.Bytes.{unit, numberAt}
 use Rattle.history.specs.File.{recordBytes, trailer, fileOf}
-use Rattle.history.specs.Reading.{sizeRead, recordRead, recordValid, recordsRead, recordsFill, partRead, valid, fileNumber, historyRead}
+use Rattle.history.specs.Reading.{sizeRead, recordRead, recordValid, recordsFill, partRead, valid, fileNumber}
 use Rattle.history.specs.Example.{exampleState, fileAfter, exampleBytes}
 
 pub example-bytes : fileAfter exampleState ≡ exampleBytes
 unfolding work raisedOrSame itemNumber isLine setUpNumber setUpNetwork commitNumber commitNetwork perform unit recordBytes trailer fileOf
 example-bytes = refl
+
+pub example-accepted : fileNumber exampleBytes ≡ 0
+unfolding chunks rising madeBy recordFits numberAt sizeRead recordRead recordValid recordsFill partRead valid fileNumber
+example-accepted = refl

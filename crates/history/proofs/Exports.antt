@@ -1,11 +1,10 @@
 -- The records of a state written one after another, the trailer behind them, and what an export answers.
-use mathlib.Core.Path.{_≡_, refl, sym, ap, ap₂, subst, _∙_}
-use mathlib.Core.Bool.{Bool, true, false, cond}
+use mathlib.Core.Path.{_≡_, refl, sym, ap, ap₂, _∙_}
+use mathlib.Core.Bool.{true, false}
 use mathlib.Core.List.{List, [], _∷_, _++_, append-nil}
-use mathlib.Core.Option.{Option, none, some}
-use Prim.Native.Nat.{ℕ, zero, suc, _+_, _-_, _*_, _/_, _≤_, _<_}
+use Prim.Native.Nat.{ℕ, _+_, _-_, _/_, _≤_, _<_}
 use native.Mathlib.Omega.{arith}
-use lib.ListN.{length, getD, take, drop, length-append, length-drop, drop-of-length-le, take-append-drop}
+use lib.ListN.{length, getD, take, drop, length-append, drop-of-length-le, take-append-drop}
 use borrow.Author.Tests.{lt-ltb, le-ltb}
 use Rattle.words.specs.Words.{part, put}
 use Rattle.words.proofs.Parts.{part-length, put-length}
@@ -13,15 +12,15 @@ use Rattle.timestamp.specs.Timestamp.{stampOf}
 use Rattle.lines.specs.InWords.{recordsMost}
 use Rattle.records.specs.Records.{Record}
 use Rattle.network.specs.declared.Entry.{Entry}
-use Rattle.network.specs.Network.{Network, noRecord}
+use Rattle.network.specs.Network.{noRecord}
 use Rattle.network.specs.InWords.{networkIn, shaped, meaning}
 use Rattle.network.specs.Reading.{Entered}
 use Rattle.network.proofs.Assembled.{partsOf, range-parts}
 use Rattle.network.proofs.Performs.{records-count, shaped-range}
-use Rattle.history.specs.Bytes.{byte, little, joined}
-use Rattle.history.specs.File.{History, historyOf, recordBytes, mark, trailer, trailerSize, body, fileOf}
+use Rattle.history.specs.Bytes.{byte, joined}
+use Rattle.history.specs.File.{History, historyOf, recordBytes, trailer, trailerSize, body, fileOf}
 use Rattle.history.specs.Entries.{entryOf}
-use Rattle.history.specs.Promises.{Export, exported, exportOf}
+use Rattle.history.specs.Promises.{exportOf}
 use Rattle.history.proofs.Written.{put-next, joined-append, joined-next, joined-all}
 
 pub entered-is : (r : Record) (e : Entry) → Entered r (e .site) (stampOf (e .stamp)) (e .count) (e .ops) → entryOf e ≡ r

@@ -1,8 +1,8 @@
 -- A record as a value: its tuples and operations at eight places each.
 use mathlib.Core.Path.{_≡_, refl, sym, ap, ap₂, subst, _∙_}
-use mathlib.Core.Bool.{Bool, true, false, cond, _&&_}
-use mathlib.Core.List.{List, [], _∷_, map}
-use Prim.Native.Nat.{ℕ, zero, suc, _+_, _-_, _*_, _≤_, _<_}
+use mathlib.Core.Bool.{true, _&&_}
+use mathlib.Core.List.{List, [], map}
+use Prim.Native.Nat.{ℕ, _+_, _-_, _*_, _≤_, _<_}
 use native.Mathlib.Omega.{arith}
 use lib.IntN.{ℤ}
 use lib.ListN.{length, getD, take, drop, length-map, List·getD-map, List·getD-eq-default}
@@ -19,11 +19,11 @@ use Rattle.timestamp.specs.declared.Tuple.{Tuple}
 use Rattle.timestamp.specs.Timestamp.{Pair, Stamp, pairOf, stampOf, noPair, room}
 use Rattle.site.specs.Operations.{Op}
 use Rattle.site.specs.InWords.{opsMost}
-use Rattle.records.specs.Records.{Record, recordFits}
+use Rattle.records.specs.Records.{recordFits}
 use Rattle.history.specs.declared.Found.{Found}
 use Rattle.history.specs.Bytes.{unitSize, numberAt}
-use Rattle.history.specs.Reading.{pairRead, opRead, tupleCount, opCount, tupleUnits, opUnits, sizeRead, countsFit, inRange, padsZero, recordRead, recordValid}
-use Rattle.history.specs.Promises.{noOp, placesFrom, Gives, Step, noStep, stepAt, stepOf}
+use Rattle.history.specs.Reading.{opRead, tupleCount, opCount, opUnits, sizeRead, countsFit, inRange, padsZero, recordRead, recordValid}
+use Rattle.history.specs.Promises.{noOp, placesFrom, Gives, Step, noStep, stepOf}
 use Rattle.history.proofs.Units.{pairsOf, pairs-length, pair-at, rest-part}
 use Rattle.history.proofs.Validity.{sized, step-valid, step-invalid, valid-room}
 

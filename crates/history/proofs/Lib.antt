@@ -8,3 +8,4 @@ pub mod OnlyFile
 pub mod RoundTrip
 pub mod OfStates
 pub mod Examples
+pub mod Theorems

@@ -1,15 +1,14 @@
 -- The history of a well-shaped state fits the file, so what an export wrote reads back.
-use mathlib.Core.Path.{_≡_, refl, sym, ap, ap₂, subst, _∙_}
-use mathlib.Core.Bool.{Bool, true, false, cond, _&&_}
+use mathlib.Core.Path.{_≡_, refl, sym, subst}
+use mathlib.Core.Bool.{Bool, true, false, _&&_}
 use mathlib.Core.List.{List, [], _∷_, _++_, map}
-use mathlib.Core.Option.{Option, none, some}
-use Prim.Native.Nat.{ℕ, zero, suc, _+_, _-_, _*_, _≤_, _<_, min}
+use mathlib.Core.Option.{some}
+use Prim.Native.Nat.{ℕ, zero, suc, _+_, _≤_, _<_, min}
 use native.Mathlib.Omega.{arith}
 use lib.ListN.{length, getD, take, drop}
 use lib.Seq.{take-append-seam}
 use lib.Dec.{eqb, ltb, leb}
 use borrow.Author.Tests.{leb-true, ltb-true}
-use mir.Val.{toZ}
 use mir.ValLaws.{toZ-fits}
 use mir.Syntax.{w32}
 use Rattle.words.specs.Words.{part, chunks, every}
@@ -18,21 +17,20 @@ use Rattle.timestamp.specs.Timestamp.{Pair, Stamp, lastPair, room}
 use Rattle.timestamp.specs.Order.{byNumber}
 use Rattle.timestamp.specs.InWords.{pairsAt, stampIn, stampSize}
 use Rattle.timestamp.specs.Made.{rising as risingOf, madeBy}
-use Rattle.timestamp.proofs.Made.{Made, made-parts, made-length}
-use Rattle.site.specs.Operations.{Op}
+use Rattle.timestamp.proofs.Made.{made-parts, made-length}
 use Rattle.site.specs.InWords.{opIn, opsIn, opSize, opsMost, opsSize}
 use Rattle.site.proofs.Laws.{ops-length}
 use Rattle.placement.specs.Placement.{itemsNumber}
-use Rattle.records.specs.Records.{Record, opFits, recordFits}
+use Rattle.records.specs.Records.{opFits, recordFits}
 use Rattle.records.specs.InWords.{recordIn, recordRange, recordSize, opsAt}
 use Rattle.network.specs.Layout.{historyAt, historySize}
-use Rattle.network.specs.Network.{Network, everyFrom, lineFits, wellShaped}
+use Rattle.network.specs.Network.{everyFrom, lineFits, wellShaped}
 use Rattle.network.specs.InWords.{recordWords, networkIn, shaped, meaning}
 use Rattle.network.proofs.Assembled.{partsOf, range-parts}
 use Rattle.network.proofs.Performs.{sites-count, items-count, records-count, shaped-range, shaped-well}
-use Rattle.history.specs.File.{History, historyOf, fileOf}
+use Rattle.history.specs.File.{historyOf, fileOf}
 use Rattle.history.specs.Reading.{fileNumber, historyRead}
-use Rattle.history.specs.Promises.{exported, exportOf}
+use Rattle.history.specs.Promises.{exportOf}
 use Rattle.history.proofs.OnlyFile.{every-drop, every-take}
 use Rattle.history.proofs.RoundTrip.{All, none as no-more, more, PairFits, OpFits, RecordFits, HistoryFits, reads-back}
 

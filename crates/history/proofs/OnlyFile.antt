@@ -1,31 +1,26 @@
 -- An accepted file is the one that its history is written as: so no other has the same history.
 use mathlib.Core.Path.{_≡_, refl, sym, ap, ap₂, subst, _∙_}
-use mathlib.Core.Bool.{Bool, true, false, cond, _&&_}
+use mathlib.Core.Bool.{Bool, true, _&&_}
 use mathlib.Core.List.{List, [], _∷_, _++_, map, append-assoc, append-nil}
-use Prim.Native.Nat.{ℕ, zero, suc, _+_, _-_, _*_, _/_, _%_, _≤_, _<_}
+use Prim.Native.Nat.{ℕ, zero, suc, _+_, _-_, _*_, _/_, _≤_, _<_}
 use native.Mathlib.Omega.{arith}
-use native.Mathlib.Nat.{zero-mul, suc-mul}
 use lib.ListN.{length, getD, take, drop, length-map, length-drop, take-append-drop, drop-of-length-le}
 use lib.Seq.{take-add, take-all, drop-drop, length-take-le}
-use lib.Dec.{eqb, ltb, leb}
+use lib.Dec.{eqb, leb}
 use borrow.Author.Tests.{ltb-true, eqb-true}
-use mir.Val.{toZ, ofZ}
 use mir.ValLaws.{ofZ-toZ}
 use mir.Syntax.{w32}
 use Rattle.words.specs.Words.{part, chunks, every}
-use Rattle.words.proofs.Parts.{part-length, part-getD, part-part}
+use Rattle.words.proofs.Parts.{part-length, part-getD}
 use Rattle.words.proofs.Chunks.{chunks-length}
 use Rattle.words.proofs.Walks.{and-true, every-at}
-use Rattle.timestamp.specs.Timestamp.{Pair, room}
-use Rattle.site.specs.Operations.{Op}
-use Rattle.site.specs.InWords.{opsMost}
-use Rattle.records.specs.Records.{Record, recordFits}
+use Rattle.records.specs.Records.{recordFits}
 use Rattle.network.specs.Network.{isEmpty}
 use Rattle.history.specs.Bytes.{isByte, byte, little, unitSize, unit, joined, numberAt, zeros, padded}
-use Rattle.history.specs.File.{History, pairBytes, opBytes, recordBytes, mark, trailer, trailerSize, body, fileOf}
-use Rattle.history.specs.Reading.{pairRead, opRead, tupleCount, opCount, tupleUnits, opUnits, opsFrom, recordRead, sizeRead, countsFit, padsZero, recordValid, recordsRead, recordsFill, trailerAt, same, marked, countRead, distanceRead, sitesRead, itemsRead, inRange, trailerFits, partRead, fileRead, fileNumber, historyRead}
+use Rattle.history.specs.File.{pairBytes, opBytes, recordBytes, mark, trailer, trailerSize, fileOf}
+use Rattle.history.specs.Reading.{pairRead, opRead, tupleCount, opCount, tupleUnits, opUnits, opsFrom, recordRead, sizeRead, countsFit, padsZero, recordValid, recordsRead, recordsFill, trailerAt, same, countRead, distanceRead, sitesRead, itemsRead, inRange, partRead, fileRead, fileNumber, historyRead}
 use Rattle.history.proofs.Validity.{valid-room}
-use Rattle.history.proofs.Files.{Accepted, accepted, accepts, accepted-trailer, accepted-fill, history-read, historyOfBytes, records-length}
+use Rattle.history.proofs.Files.{Accepted, accepted, accepts, accepted-trailer, accepted-fill, history-read, records-length}
 
 -- ---- bytes
 module _ (p : ℕ → Bool) where

@@ -1,29 +1,26 @@
 -- What a history is written as reads back to the same history, alone or at the end of any longer buffer.
-use mathlib.Core.Path.{_≡_, refl, sym, ap, ap₂, subst, _∙_}
-use mathlib.Core.Bool.{Bool, true, false, cond, _&&_}
-use mathlib.Core.List.{List, [], _∷_, _++_, map, append-assoc, append-nil}
-use Prim.Native.Nat.{ℕ, zero, suc, _+_, _-_, _*_, _/_, _%_, _≤_, _<_}
+use mathlib.Core.Path.{_≡_, refl, sym, ap, ap₂, _∙_}
+use mathlib.Core.Bool.{Bool, true, _&&_}
+use mathlib.Core.List.{List, [], _∷_, _++_, map, append-assoc}
+use Prim.Native.Nat.{ℕ, _+_, _-_, _*_, _/_, _≤_, _<_}
 use native.Mathlib.Omega.{arith}
-use lib.ListN.{length, getD, take, drop, length-append, length-drop, length-map, drop-of-length-le}
-use lib.Seq.{take-at, drop-at, drop-drop, take-append-seam, drop-append-seam, getD-append-add, take-all}
-use lib.Dec.{eqb, ltb, leb}
-use borrow.Author.Tests.{le-leb, lt-ltb, eq-eqb, ltb-true}
-use mir.Val.{toZ, ofZ, SFits, Fits}
+use lib.ListN.{length, getD, take, drop, length-append}
+use lib.Seq.{take-at, drop-at, drop-drop, take-append-seam, drop-append-seam, getD-append-add}
+use lib.Dec.{eqb, leb}
+use borrow.Author.Tests.{le-leb, eq-eqb}
+use mir.Val.{toZ, ofZ, SFits}
 use mir.ValLaws.{toZ-ofZ, ofZ-fits}
 use mir.Syntax.{w32}
 use Rattle.words.specs.Words.{part, chunks, every}
-use Rattle.words.proofs.Walks.{and-true}
-use Rattle.timestamp.specs.Timestamp.{Pair, Stamp, room}
+use Rattle.timestamp.specs.Timestamp.{Pair, room}
 use Rattle.site.specs.Operations.{Op}
 use Rattle.site.specs.InWords.{opsMost}
-use Rattle.timestamp.specs.Order.{byNumber}
-use Rattle.timestamp.specs.Made.{madeBy}
-use Rattle.records.specs.Records.{Record, opFits, recordFits}
-use Rattle.history.specs.Bytes.{byte, little, unitSize, unit, joined, numberAt, padded, zeros}
+use Rattle.records.specs.Records.{Record, recordFits}
+use Rattle.history.specs.Bytes.{byte, unitSize, unit, joined, numberAt, padded, zeros}
 use Rattle.history.specs.File.{History, pairBytes, opBytes, recordBytes, mark, trailer, trailerSize, body, fileOf}
-use Rattle.history.specs.Reading.{pairRead, opRead, tupleCount, opCount, tupleUnits, opUnits, opsFrom, recordRead, sizeRead, countsFit, padsZero, recordValid, recordsRead, recordsFill, trailerAt, same, marked, countRead, distanceRead, sitesRead, itemsRead, inRange, trailerFits, partRead, valid, fileNumber, historyRead}
-use Rattle.history.proofs.Written.{joined-length, unit-length, pair-size, op-size, pairs-size, record-size}
-use Rattle.history.proofs.Exports.{trailer-length, file-length}
+use Rattle.history.specs.Reading.{pairRead, opRead, tupleCount, opCount, tupleUnits, opUnits, opsFrom, recordRead, sizeRead, recordValid, recordsRead, recordsFill, trailerAt, same, marked, countRead, distanceRead, sitesRead, itemsRead, partRead, valid, fileNumber, historyRead}
+use Rattle.history.proofs.Written.{unit-length, pair-size, op-size, pairs-size, record-size}
+use Rattle.history.proofs.Exports.{file-length}
 use Rattle.history.proofs.Files.{Accepted, accepts, history-read}
 
 -- ---- histories whose fields fit the file

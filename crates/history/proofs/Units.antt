@@ -1,23 +1,22 @@
 -- Walks over eights of bytes.
-use mathlib.Core.Path.{_≡_, refl, sym, ap, ap₂, _∙_}
+use mathlib.Core.Path.{_≡_, refl, sym, ap, _∙_}
 use mathlib.Core.Bool.{Bool, true, false, _&&_}
 use mathlib.Core.List.{List, [], _∷_, _++_, map}
-use Prim.Native.Nat.{ℕ, zero, suc, _+_, _-_, _*_, _≤_, _<_, _/_}
+use Prim.Native.Nat.{ℕ, _+_, _-_, _*_, _≤_, _<_, _/_}
 use native.Mathlib.Omega.{arith}
-use native.Mathlib.Numerals.{add-one}
-use lib.ListN.{length, getD, take, drop, length-map, length-drop, List·getD-map, drop-of-length-le}
-use lib.Seq.{take-all, getD-drop}
-use lib.Dec.{eqb, ltb, leb}
+use lib.ListN.{length, getD, drop, length-map, length-drop, List·getD-map, drop-of-length-le}
+use lib.Seq.{take-all}
+use lib.Dec.{leb}
 use borrow.Author.Tests.{lt-ltb, le-ltb, le-leb, lt-leb}
 use Rattle.words.specs.Words.{part, chunks, every}
-use Rattle.words.proofs.Parts.{part-getD, part-length, part-part}
+use Rattle.words.proofs.Parts.{part-getD, part-part}
 use Rattle.words.proofs.Chunks.{chunks-length, chunks-at}
 use Rattle.words.proofs.Walks.{every-false, every-next, every-done}
 use Rattle.timestamp.specs.Timestamp.{Pair, noPair, lastPair}
 use Rattle.timestamp.proofs.Value.{last-at}
 use Rattle.records.specs.Records.{opFits}
 use Rattle.history.specs.Bytes.{unitSize, byte, unit, numberAt, padded, zeros}
-use Rattle.history.specs.Reading.{pairRead, opRead, inRange, countsFit}
+use Rattle.history.specs.Reading.{pairRead, opRead, countsFit}
 
 -- ---- the counts of a record
 

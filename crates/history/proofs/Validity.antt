@@ -1,10 +1,10 @@
 -- The tests of a record's bytes, one after another, and the walk over a part's records.
 use mathlib.Core.Path.{_≡_, refl, sym, ap, ap₂, _∙_}
-use mathlib.Core.Bool.{Bool, true, false, cond, _&&_, false≢true}
-use mathlib.Core.List.{List, [], _∷_, map}
+use mathlib.Core.Bool.{Bool, true, false, cond, _&&_}
+use mathlib.Core.List.{List, map}
 use Prim.Native.Nat.{ℕ, zero, suc, _+_, _-_, _*_, _≤_, _<_}
 use native.Mathlib.Omega.{arith}
-use lib.ListN.{length, getD, take, drop, length-drop, drop-of-length-le}
+use lib.ListN.{length, getD, drop, length-drop, drop-of-length-le}
 use lib.Seq.{drop-drop, drop-cons}
 use lib.Dec.{eqb, ltb, leb}
 use borrow.Author.Tests.{lt-ltb, le-ltb, le-leb, lt-leb, eq-eqb, ne-eqb, leb-true}
@@ -13,10 +13,10 @@ use Rattle.words.proofs.Walks.{and-true}
 use Rattle.timestamp.specs.Timestamp.{Stamp}
 use Rattle.timestamp.specs.Order.{byNumber}
 use Rattle.timestamp.specs.Made.{madeBy, rising as risingOf}
-use Rattle.records.specs.Records.{Record, opFits, recordFits}
+use Rattle.records.specs.Records.{opFits, recordFits}
 use Rattle.network.specs.Network.{isEmpty}
 use Rattle.history.specs.Bytes.{unitSize, padded}
-use Rattle.history.specs.Reading.{pairRead, opRead, tupleCount, opCount, tupleUnits, opUnits, opsFrom, recordRead, sizeRead, countsFit, padsZero, recordValid, recordsFill}
+use Rattle.history.specs.Reading.{opRead, tupleCount, opCount, tupleUnits, opUnits, recordRead, sizeRead, countsFit, padsZero, recordValid, recordsFill}
 use Rattle.history.proofs.Units.{rest-part, pairsOf, pairs-length, last-site}
 
 -- ---- which site made a timestamp

@@ -4,7 +4,7 @@ use mathlib.Core.Option.{Option, none, some}
 use Prim.Native.Nat.{ℕ}
 use lib.IntN.{pos}
 use Rattle.network.specs.Network.{Network}
-use Rattle.network.specs.Calls.{Call, setUp, commit, perform}
+use Rattle.network.specs.Calls.{setUp, commit, perform}
 use Rattle.history.specs.File.{historyOf, fileOf}
 
 -- p 3 2 0 6 1 4, then c 0 w0=5

@@ -4,3 +4,4 @@ pub mod Reading
 pub mod Promises
 pub mod Example
 pub mod Entries
+pub mod Statements

@@ -4,7 +4,7 @@ use mathlib.Core.Bool.{cond}
 use mathlib.Core.List.{List, [], _∷_, _++_}
 use mathlib.Core.Option.{Option, none, some}
 use Prim.Native.Nat.{ℕ, zero, suc, _+_}
-use lib.IntN.{ℤ, pos}
+use lib.IntN.{pos}
 use lib.ListN.{length, getD, drop}
 use lib.Dec.{eqb, ltb, leb}
 use Rattle.timestamp.specs.Timestamp.{stampOf}
@@ -15,7 +15,7 @@ use Rattle.records.specs.Records.{Record}
 use Rattle.network.specs.Network.{Network, noRecord}
 use Rattle.network.specs.Steps.{numberIf}
 use Rattle.history.specs.declared.Found.{Found}
-use Rattle.history.specs.File.{History, historyOf, fileOf}
+use Rattle.history.specs.File.{historyOf, fileOf}
 use Rattle.history.specs.Reading.{fileNumber, historyRead, partRead, recordRead, recordValid, sizeRead, startOf}
 
 -- ---- export: its number, the file's length, and the buffer afterwards; refused, the buffer as it was
@@ -77,7 +77,6 @@ stepNumbered b k =
     cond (eqb (recordNumber b k) 0) (record { number = 0; next = startOf (suc k) (partRead b); found = getD (historyRead b .records) k noRecord }) (noStep (recordNumber b k))
 
 -- ---- by the place of a part where it starts, of a group of that many sites and items
-
 abbrev pub stepAt : ℕ → ℕ → ℕ → List ℕ → Step
 stepAt sites items at b = cond (recordValid sites items b) (record { number = 0; next = at + sizeRead b; found = recordRead b }) (noStep 23)
 

@@ -10,7 +10,7 @@ ghost use mathlib.Core.Path.{_≡_};
 ghost use Prim.Native.Nat.{_+_, _*_, _≤_};
 ghost use lib.ListN.{length};
 ghost use Rattle.timestamp.specs.Timestamp.{stampOf};
-ghost use Rattle.site.specs.InWords.{opsIn, opsMost, opsSize};
+ghost use Rattle.site.specs.InWords.{opsIn, opsMost};
 ghost use Rattle.lines.specs.InWords.{recordsMost};
 ghost use Rattle.network.specs.InWords.{networkIn, meaning};
 ghost use Rattle.history.specs.Bytes.{unitSize, joined};

@@ -13,7 +13,7 @@ ghost use lib.ListN.{length, getD};
 ghost use Rattle.words.specs.Words.{chunks};
 ghost use Rattle.timestamp.specs.Timestamp.{stampOf, pairOf, noPair, room};
 ghost use Rattle.site.specs.InWords.{opsMost};
-ghost use Rattle.history.specs.Bytes.{unitSize, numberAt};
+ghost use Rattle.history.specs.Bytes.{unitSize};
 ghost use Rattle.history.specs.Reading.{pairRead, opRead, tupleCount, opCount, sizeRead, recordRead};
 ghost use Rattle.history.specs.Promises.{placesFrom, noOp, noStep, stepOf, Gives};
 

@@ -1,10 +1,9 @@
 -- A record of a state, as a value: read from its own words, and all zero where there is none.
-use mathlib.Core.Path.{_≡_, refl, sym, ap, ap₂, subst, _∙_}
+use mathlib.Core.Path.{_≡_, sym, ap, ap₂, subst, _∙_}
 use mathlib.Core.List.{List, []}
-use Prim.Native.Nat.{ℕ, zero, suc, _+_, _-_, _*_, _≤_, _<_}
+use Prim.Native.Nat.{ℕ, _+_, _-_, _*_, _≤_, _<_}
 use native.Mathlib.Omega.{arith}
-use lib.ListN.{length, getD, take, drop, replicate, length-drop, drop-of-length-le, List·getD-map, List·getD-eq-default}
-use lib.Seq.{take-nil}
+use lib.ListN.{length, getD, take, drop, replicate, drop-of-length-le, List·getD-map, List·getD-eq-default}
 use Rattle.words.specs.Words.{part, overlaid}
 use Rattle.words.proofs.Parts.{part-length, part-getD, part-part, lent-part}
 use Rattle.words.proofs.Chunks.{chunks-at}

@@ -13,7 +13,7 @@ use Rattle.decimal.specs.Decimal.{digits, signedDigits, Printed}
 use Rattle.decimal.proofs.Printing.{printed-none, printed-then, printed-as, printed-byte, printed-length}
 use borrow.Author.Tests.{eq-eqb, ne-eqb, eqb-true, eqb-false}
 use Rattle.timestamp.specs.Timestamp.{Pair, noPair}
-use Rattle.network.specs.Calls.{Call, setUp, commit, dummy, epoch, deliver, schedule, Outcome}
+use Rattle.network.specs.Calls.{Call, setUp, commit, dummy, epoch, deliver, schedule, waiting, Outcome}
 use Rattle.script.specs.Fields.{space}
 use Rattle.script.specs.Print.{tupleText, tuplesText, valuesText, acceptedText, print, fieldsOf, Put}
 
@@ -108,3 +108,4 @@ print-fields (dummy i) o = refl
 print-fields (epoch i e) o = refl
 print-fields (deliver p c) o = refl
 print-fields (schedule j) o = refl
+print-fields (waiting i) o = refl

@@ -9,7 +9,7 @@ use lib.ListN.{length}
 use lib.Dec.{eqb}
 use Rattle.decimal.specs.Decimal.{digits, signedDigits, Printed}
 use Rattle.timestamp.specs.Timestamp.{Pair, Stamp}
-use Rattle.network.specs.Calls.{Call, setUp, commit, dummy, epoch, deliver, schedule, Outcome}
+use Rattle.network.specs.Calls.{Call, setUp, commit, dummy, epoch, deliver, schedule, waiting, Outcome}
 use Rattle.script.specs.Fields.{space}
 
 -- site.count
@@ -38,6 +38,7 @@ acceptedText (dummy i) o = stampText (o .stamp)
 acceptedText (epoch i e) o = []
 acceptedText (deliver p c) o = []
 acceptedText (schedule j) o = space ∷ (digits (o .parent) ++ stampText (o .stamp))
+acceptedText (waiting i) o = []
 
 -- a refusal prints its number alone
 unfoldable pub print : Call → Outcome → List ℕ

@@ -1,5 +1,5 @@
 -- `export` tests the state and the room, then writes the records and the trailer.
-use mathlib.Core.Path.{_≡_, refl, sym, ap, _∙_}
+use mathlib.Core.Path.{sym, ap, _∙_}
 use Prim.Native.Nat.{_-_}
 use Rattle.words.specs.Words.{put}
 use native.Mathlib.Omega.{arith}

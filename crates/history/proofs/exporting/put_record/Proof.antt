@@ -1,11 +1,8 @@
 -- `put_record` writes the head, the tuples and the operations.
 use mathlib.Core.Path.{_≡_, sym, _∙_}
-use mathlib.Core.List.{List, []}
-use Prim.Native.Nat.{ℕ, _+_, _*_}
+use mathlib.Core.List.{[]}
 use native.Mathlib.Omega.{arith}
 use lib.ListN.{length}
-use Rattle.timestamp.specs.Timestamp.{stampOf}
-use Rattle.site.specs.InWords.{opsIn}
 use Rattle.site.proofs.Laws.{ops-length}
 use Rattle.history.specs.Bytes.{unit}
 use Rattle.history.specs.Entries.{entryOf}

@@ -1,10 +1,9 @@
 -- `put_records` writes one record after another: up to i they are written.
-use mathlib.Core.Path.{_≡_, refl, sym, ap, _∙_}
-use mathlib.Core.List.{List, _++_}
-use Prim.Native.Nat.{ℕ, _≤_, _<_, _-_, _+_}
+use mathlib.Core.Path.{_≡_, refl, ap, _∙_}
+use mathlib.Core.List.{_++_}
+use Prim.Native.Nat.{_≤_, _<_, _-_}
 use native.Mathlib.Omega.{arith}
 use lib.ListN.{length, take, drop}
-use Rattle.words.specs.Words.{part}
 use Rattle.words.proofs.Parts.{lent-part, part-length}
 use Rattle.network.specs.InWords.{networkIn}
 use Rattle.history.specs.Bytes.{joined}

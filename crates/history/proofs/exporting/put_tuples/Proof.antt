@@ -1,10 +1,10 @@
 -- `put_tuples` writes one tuple after another: up to i they are written.
-use mathlib.Core.Path.{_≡_, refl, sym, ap, _∙_}
-use mathlib.Core.List.{List, _++_}
-use Prim.Native.Nat.{ℕ, _≤_, _<_, _-_, _*_}
+use mathlib.Core.Path.{_≡_, refl, ap, _∙_}
+use mathlib.Core.List.{_++_}
+use Prim.Native.Nat.{_≤_, _<_, _-_, _*_}
 use native.Mathlib.Omega.{arith}
 use lib.ListN.{length, take, drop}
-use Rattle.timestamp.specs.Timestamp.{stampOf, noPair, Pair}
+use Rattle.timestamp.specs.Timestamp.{stampOf, noPair}
 use Rattle.history.specs.Bytes.{unitSize, joined}
 use Rattle.history.specs.File.{pairBytes}
 use Rattle.history.proofs.Written.{units-next, units-length, units-all, pair-size}

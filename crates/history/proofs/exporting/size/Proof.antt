@@ -1,7 +1,5 @@
 -- `size` is eight bytes for the head, for each tuple and for each operation.
-use mathlib.Core.Path.{sym, _∙_}
 use native.Mathlib.Omega.{arith}
-use Rattle.timestamp.specs.Timestamp.{stampOf}
 use Rattle.site.proofs.Laws.{ops-length}
 use Rattle.history.specs.Entries.{entryOf}
 use Rattle.history.proofs.Written.{record-size}

@@ -1,5 +1,4 @@
 -- `valid` tests the size, the counts, the 00 bytes and the fields.
-use native.Mathlib.Omega.{arith}
 use borrow.Author.Tests.{not-true, not-false}
 use Rattle.history.proofs.Validity.{valid-short, valid-uncounted, valid-unpadded, valid-by-fields}
 use borrow.Author.Needs.{needs}

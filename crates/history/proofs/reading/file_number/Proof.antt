@@ -1,5 +1,4 @@
 -- `file_number` asks for the causes in the order of their numbers.
-use native.Mathlib.Omega.{arith}
 use borrow.Author.Tests.{not-true, not-false}
 use Rattle.history.proofs.Files.{file-short, file-unmarked, file-near, file-far, file-invalid, file-valid}
 use borrow.Author.Needs.{needs}

@@ -1,5 +1,5 @@
 -- `read` hands back the part where the file is accepted.
-use mathlib.Core.Path.{_≡_, sym, _∙_}
+use mathlib.Core.Path.{sym, _∙_}
 use Rattle.history.proofs.Files.{accepted, part-read, part-none}
 use borrow.Author.Needs.{needs}
 use Rattle.history.proofs.reading.read.Statement.{statement}

@@ -1,12 +1,8 @@
 -- `record_in` tests that there is one of that number.
-use mathlib.Core.Path.{_≡_, subst}
-use Prim.Native.Nat.{ℕ, _≤_}
+use mathlib.Core.Path.{subst}
 use native.Mathlib.Omega.{arith}
-use lib.ListN.{getD}
-use mathlib.Core.List.{List}
 use Rattle.timestamp.specs.Timestamp.{stampOf}
 use Rattle.records.specs.Records.{Record}
-use Rattle.network.specs.Network.{noRecord}
 use Rattle.network.specs.Reading.{Entered}
 use Rattle.network.proofs.RecordWords.{record-past, record-beyond}
 use borrow.Author.Needs.{needs}
