@@ -1,5 +1,6 @@
-// The ten lines of the worked example as calls on one state, then refusals, each answer printed as a script's line.
+// The ten lines of the worked example as calls on one state, then refusals and a commit by records, each answer printed as a script's line.
 use libc::STDOUT_FILENO;
+use network::Operation;
 use network::WORDS;
 use timestamp::Timestamp;
 
@@ -11,6 +12,7 @@ fn main() {
     set_ups(&mut state);
     refusals(&mut state);
     going_on(&mut state);
+    as_records(&mut state);
 }
 
 // p 3 2 0 6 1 4 and the nine lines after it.
@@ -77,6 +79,31 @@ fn going_on(state: &mut [u32; WORDS]) {
     end();
     schedule(state, 1);
     read_and_write(state, 1, 0, 1, 2147483647);
+}
+
+// A read and a write at site 1, as records.
+fn as_records(state: &mut [u32; WORDS]) {
+    let read = Operation {
+        kind: 0,
+        item: 0,
+        value: 0,
+    };
+    let write = Operation {
+        kind: 1,
+        item: 1,
+        value: -1,
+    };
+    let operations = [read, write];
+    committed(commit_two(state, 1, operations));
+}
+
+// The one function here that lends records.
+fn commit_two(
+    state: &mut [u32; WORDS],
+    site: u32,
+    operations: [Operation; 2],
+) -> network::Committed {
+    network::commit_operations(state, site, &operations)
 }
 
 fn write(state: &mut [u32; WORDS], site: u32, item: u32, value: i32) {
