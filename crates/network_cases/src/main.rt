@@ -1,5 +1,6 @@
-// The ten lines of the worked example as calls on one state, then refusals, each answer printed as a script's line; then waiting reports.
+// The ten lines of the worked example as calls on one state, then refusals and a commit by records, each answer printed as a script's line; then waiting reports.
 use libc::STDOUT_FILENO;
+use network::Operation;
 use network::WORDS;
 use timestamp::Timestamp;
 
@@ -12,6 +13,7 @@ fn main() {
     set_ups(&mut state);
     refusals(&mut state);
     going_on(&mut state);
+    as_records(&mut state);
     waiting(&mut state);
 }
 
@@ -79,6 +81,31 @@ fn going_on(state: &mut [u32; WORDS]) {
     end();
     schedule(state, 1);
     read_and_write(state, 1, 0, 1, 2147483647);
+}
+
+// A read and a write at site 1, as records.
+fn as_records(state: &mut [u32; WORDS]) {
+    let read = Operation {
+        kind: 0,
+        item: 0,
+        value: 0,
+    };
+    let write = Operation {
+        kind: 1,
+        item: 1,
+        value: -1,
+    };
+    let operations = [read, write];
+    committed(commit_two(state, 1, operations));
+}
+
+// The one function here that lends records.
+fn commit_two(
+    state: &mut [u32; WORDS],
+    site: u32,
+    operations: [Operation; 2],
+) -> network::Committed {
+    network::commit_operations(state, site, &operations)
 }
 
 // Item 2 has a copy at site 1 alone, item 1 at site 2 alone, item 0 at both.

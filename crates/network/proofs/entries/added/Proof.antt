@@ -10,7 +10,7 @@ use Rattle.network.proofs.entries.added.Statement.{statement}
 use Rattle.network.proofs.entries.added.Tie as tie
 
 returns : tie.Need-returns
-returns c = λ os e. gathers-full os (c .before .args .gathered) e (c .before .args .operation) (c .if1 .taken)
+returns c = λ os e. gathers-full os (c .before .args .gathered) e (c .before .args .operation) (search needs)
 
 array-write-kinds : tie.Need-array-write-kinds
 array-write-kinds c = search needs
