@@ -1,4 +1,4 @@
-// Scripts from standard input to standard output: blocks are read, lines kept across them, and answers collected and written before each read.
+// Scripts from standard input, their answers to a file descriptor: blocks are read, lines kept across them, and answers collected and written before each read.
 use libc::STDIN_FILENO;
 use libc::STDOUT_FILENO;
 use network::WORDS;
@@ -16,9 +16,14 @@ pub struct Progress {
     pub open: bool,
 }
 
-// Answers standard input, line by line, to its end.
+// Answers standard input, line by line, to its end, on a state of zeros.
 pub fn run() {
     let mut state = [0u32; WORDS];
+    run_on(&mut state, STDOUT_FILENO);
+}
+
+// The same on a lent state, the answers written to `out`.
+pub fn run_on(state: &mut [u32; WORDS], out: i32) {
     let mut held = [0u8; 513];
     let mut answers = [0u8; 65536];
     let mut at = begun(0, 0);
@@ -28,18 +33,24 @@ pub fn run() {
         if !at.open {
             return;
         }
-        at = turn(at, &mut state, &mut held, &mut answers);
+        at = turn(at, state, &mut held, &mut answers, out);
         turns -= 1;
     }
 }
 
 // All that is collected is written, and a block is read and answered; where the input ends, the line that is held.
-fn turn(at: Progress, state: &mut [u32; WORDS], held: &mut [u8], answers: &mut [u8]) -> Progress
+fn turn(
+    at: Progress,
+    state: &mut [u32; WORDS],
+    held: &mut [u8],
+    answers: &mut [u8],
+    out: i32,
+) -> Progress
     requires { ⌜ Within at × (length (now held) ≡ heldMost) × (length (now answers) ≡ answersMost) ⌝ }
     ensures { λ r. ⌜ Within r ⌝ }
 {
     let filled = at.filled;
-    if !io::write_all(STDOUT_FILENO, &answers[..filled]) {
+    if !io::write_all(out, &answers[..filled]) {
         return ended();
     }
     let mut block = io::large_buffer();
@@ -47,9 +58,9 @@ fn turn(at: Progress, state: &mut [u32; WORDS], held: &mut [u8], answers: &mut [
     let n = io::count(got, &block);
     let kept = begun(at.count, 0);
     if n == 0 {
-        return last(kept, state, held, answers);
+        return last(kept, state, held, answers, out);
     }
-    feed(&block[..n], kept, state, held, answers)
+    feed(&block[..n], kept, state, held, answers, out)
 }
 
 // The bytes of a block, one after another.
@@ -59,6 +70,7 @@ fn feed(
     state: &mut [u32; WORDS],
     held: &mut [u8],
     answers: &mut [u8],
+    out: i32,
 ) -> Progress
     requires { ⌜ Within from × (length (now held) ≡ heldMost) × (length (now answers) ≡ answersMost) ⌝ }
     ensures { λ r. ⌜ Within r ⌝ }
@@ -69,7 +81,7 @@ fn feed(
         if !at.open {
             return at;
         }
-        at = byte(block[i], at, state, held, answers);
+        at = byte(block[i], at, state, held, answers, out);
         i += 1;
     }
     at
@@ -82,28 +94,35 @@ fn byte(
     state: &mut [u32; WORDS],
     held: &mut [u8],
     answers: &mut [u8],
+    out: i32,
 ) -> Progress
     requires { ⌜ Within at × (length (now held) ≡ heldMost) × (length (now answers) ≡ answersMost) ⌝ }
     ensures { λ r. ⌜ Within r ⌝ }
 {
     if b == 10 {
-        return answer(at, state, held, answers);
+        return answer(at, state, held, answers, out);
     }
     let count = hold(held, at.count, b);
     begun(count, at.filled)
 }
 
 // The last line, where it lacks its newline; the run ends.
-fn last(at: Progress, state: &mut [u32; WORDS], held: &mut [u8], answers: &mut [u8]) -> Progress
+fn last(
+    at: Progress,
+    state: &mut [u32; WORDS],
+    held: &mut [u8],
+    answers: &mut [u8],
+    out: i32,
+) -> Progress
     requires { ⌜ Within at × (length (now held) ≡ heldMost) × (length (now answers) ≡ answersMost) ⌝ }
     ensures { λ r. ⌜ Within r ⌝ }
 {
     if at.count == 0 {
         return ended();
     }
-    let done = answer(at, state, held, answers);
+    let done = answer(at, state, held, answers, out);
     let filled = done.filled;
-    io::write_all(STDOUT_FILENO, &answers[..filled]);
+    io::write_all(out, &answers[..filled]);
     ended()
 }
 
@@ -120,14 +139,20 @@ fn hold(held: &mut [u8], count: usize, b: u8) -> usize
 }
 
 // The line that is held is answered; where the answers have no room for one more, they are written first. A write that fails ends the run.
-fn answer(at: Progress, state: &mut [u32; WORDS], held: &mut [u8], answers: &mut [u8]) -> Progress
+fn answer(
+    at: Progress,
+    state: &mut [u32; WORDS],
+    held: &mut [u8],
+    answers: &mut [u8],
+    out: i32,
+) -> Progress
     requires { ⌜ Within at × (length (now held) ≡ heldMost) × (length (now answers) ≡ answersMost) ⌝ }
     ensures { λ r. ⌜ Within r ⌝ }
 {
     let count = at.count;
     let filled = at.filled;
     if 65023 < filled {
-        if !io::write_all(STDOUT_FILENO, &answers[..filled]) {
+        if !io::write_all(out, &answers[..filled]) {
             return ended();
         }
         return begun(0, collect(&held[..count], state, answers, 0));

@@ -10,10 +10,10 @@ use Rattle.network.specs.Steps.{setUpNumber, setUpNetwork, commitNumber, commit
 use Rattle.network.specs.Calls.{perform}
 use Rattle.script.specs.Fields.{place, fields}
 use Rattle.script.specs.Parse.{all, operation, placed, called, parse}
-use Rattle.script.specs.Print.{tuplesText, valuesText, print}
+use Rattle.script.specs.Print.{tuplesText, spaced, print}
 use Rattle.script.specs.Answers.{answer, answers}
 use Rattle.script.specs.Examples.{Holds, table}
 
 pub examples-hold : Holds table
-unfolding lastDigits digits valueFrom natural signed appendedOrSame raisedOrSame orderBy tuplesOrder pairOrder numberOrder work itemNumber isLine hasParents setUpNumber setUpNetwork commitNumber commitNetwork deliverNumber deliverNetwork scheduleNumber scheduleNetwork earliest perform place fields all operation placed called parse tuplesText valuesText print answer answers
+unfolding lastDigits digits valueFrom natural signed appendedOrSame raisedOrSame orderBy tuplesOrder pairOrder numberOrder work itemNumber isLine hasParents setUpNumber setUpNetwork commitNumber commitNetwork deliverNumber deliverNetwork scheduleNumber scheduleNetwork earliest perform place fields all operation placed called parse tuplesText spaced print answer answers
 examples-hold = record { lines-hold = refl; pairs-hold = comparisons-hold }

@@ -3,10 +3,10 @@ use mathlib.Core.Path.{_≡_, refl, sym, ap, _∙_}
 use mathlib.Core.Bool.{Bool, true, false, cond}
 use mathlib.Core.List.{List, [], _∷_, _++_, map, append-nil}
 use mathlib.Core.Option.{Option, none, some}
-use Prim.Native.Nat.{ℕ, zero, suc, _+_, _-_, _≤_, _<_}
+use Prim.Native.Nat.{ℕ, zero, suc, _+_, _-_, _≤_, _<_, min}
 use native.Mathlib.Omega.{arith}
 use native.Mathlib.Numerals.{add-one}
-use lib.IntN.{ℤ}
+use lib.IntN.{ℤ, pos}
 use lib.ListN.{length, getD, take, drop, set, drop-of-length-le, length-take}
 use lib.Seq.{drop-cons, length-take-le}
 use lib.Dec.{eqb, leb}
@@ -18,7 +18,7 @@ use Rattle.placement.specs.Placement.{Item}
 use Rattle.network.specs.Steps.{opsOf, itemsOf}
 use Rattle.script.specs.Fields.{place}
 use Rattle.script.specs.Parse.{joined, reading, writing, assigned, operation, itemOf, placed, operationsIn, itemsIn}
-use Rattle.script.proofs.Walks.{ahead, ahead-more, take-more}
+use Rattle.script.proofs.Walks.{ahead, ahead-more, take-more, take-next, take-least}
 
 -- ---- an operation by its letter
 pub write-none : (o : Option ℕ) → none ≡ writing o none
@@ -84,6 +84,24 @@ module _ (ks is : List ℕ) (vs : List ℤ) (n : ℕ) (hk : n < length ks) (hi :
       ∙ ops-snoc (take n ks) (take n is) (take n vs) k i v
       (length-take-le n is (omega arith) ∙ sym (length-take-le n ks (omega arith)))
       (length-take-le n vs (omega arith) ∙ sym (length-take-le n ks (omega arith)))
+
+-- the first n operations and the next
+module _ (ks is : List ℕ) (vs : List ℤ) (n : ℕ) (hk : n < length ks) (hi : n < length is) (hv : n < length vs) (v : ℤ) (e : v ≡ getD vs n (pos 0)) where
+  pub ops-next : operationsIn (n + 1) ks is vs ≡ operationsIn n ks is vs ++ (record { kind = getD ks n 0; item = getD is n 0; value = v } ∷ [])
+  ops-next =
+      ap (λ (l : List ℕ). opsOf l (take (n + 1) is) (take (n + 1) vs)) (take-next ks n 0 (getD ks n 0) hk refl)
+      ∙ ap (λ (l : List ℕ). opsOf (take n ks ++ (getD ks n 0 ∷ [])) l (take (n + 1) vs)) (take-next is n 0 (getD is n 0) hi refl)
+      ∙ ap (λ (l : List ℤ). opsOf (take n ks ++ (getD ks n 0 ∷ [])) (take n is ++ (getD is n 0 ∷ [])) l) (take-next vs n (pos 0) v hv e)
+      ∙ ops-snoc (take n ks) (take n is) (take n vs) (getD ks n 0) (getD is n 0) v
+      (length-take-le n is (omega arith) ∙ sym (length-take-le n ks (omega arith)))
+      (length-take-le n vs (omega arith) ∙ sym (length-take-le n ks (omega arith)))
+
+-- the first n, of lists of so many
+pub ops-least : (ks is : List ℕ) (vs : List ℤ) (i n m : ℕ) → i ≡ min n m → length ks ≡ m → length is ≡ m → length vs ≡ m → operationsIn i ks is vs ≡ operationsIn n ks is vs
+ops-least ks is vs i n m e hk hi hv =
+    ap (λ (l : List ℕ). opsOf l (take i is) (take i vs)) (take-least ks i n m e hk)
+    ∙ ap (λ (l : List ℕ). opsOf (take n ks) l (take i vs)) (take-least is i n m e hi)
+    ∙ ap (λ (l : List ℤ). opsOf (take n ks) (take n is) l) (take-least vs i n m e hv)
 
 -- the fields of operations that the lists of their fields give
 pub kinds-of : (ks is : List ℕ) (vs : List ℤ) → length is ≡ length ks → length vs ≡ length ks → map (λ (o : Op). o .kind) (opsOf ks is vs) ≡ ks

@@ -15,7 +15,7 @@ use borrow.Author.Tests.{eq-eqb, ne-eqb, eqb-true, eqb-false}
 use Rattle.timestamp.specs.Timestamp.{Pair, noPair}
 use Rattle.network.specs.Calls.{Call, setUp, commit, dummy, epoch, deliver, schedule, waiting, Outcome}
 use Rattle.script.specs.Fields.{space}
-use Rattle.script.specs.Print.{tupleText, tuplesText, valuesText, acceptedText, print, fieldsOf, Put}
+use Rattle.script.specs.Print.{tupleText, tuplesText, spaced, acceptedText, print, fieldsOf, Put}
 
 pub put-none : (w : List ℕ) (a : ℕ) → Put 0 w w a a []
 put-none w a = record { printed = printed-none w a; small = omega arith }
@@ -69,18 +69,15 @@ tuples-next ts i h =
     ∙ ap (tuplesText space) (sym (take-suc ts i noPair h))
     ∙ ap (λ (k : ℕ). tuplesText space (take k ts)) (sym (add-one i))
 
-values-snoc : (vs : List ℤ) (v : ℤ) → valuesText (vs ++ (v ∷ [])) ≡ valuesText vs ++ (space ∷ signedDigits v)
-unfolding valuesText
-values-snoc [] v = ap (λ (l : List ℕ). space ∷ l) (append-nil (signedDigits v))
-values-snoc (w ∷ vs) v =
-    ap (λ (l : List ℕ). space ∷ (signedDigits w ++ l)) (values-snoc vs v) ∙ ap (λ (l : List ℕ). space ∷ l) (sym (append-assoc (signedDigits w) (valuesText vs) (space ∷ signedDigits v)))
+module _ {A : Type 0} (text : A → List ℕ) where
+  spaced-snoc : (xs : List A) (x : A) → spaced text (xs ++ (x ∷ [])) ≡ spaced text xs ++ (space ∷ text x)
+  unfolding spaced
+  spaced-snoc [] x = ap (λ (l : List ℕ). space ∷ l) (append-nil (text x))
+  spaced-snoc (y ∷ xs) x =
+      ap (λ (l : List ℕ). space ∷ (text y ++ l)) (spaced-snoc xs x) ∙ ap (λ (l : List ℕ). space ∷ l) (sym (append-assoc (text y) (spaced text xs) (space ∷ text x)))
 
-pub values-next : (vs : List ℤ) (i : ℕ) (d v : ℤ) → i < length vs → v ≡ getD vs i d → valuesText (take i vs) ++ (space ∷ signedDigits v) ≡ valuesText (take (i + 1) vs)
-values-next vs i d v h e =
-    ap (λ (z : ℤ). valuesText (take i vs) ++ (space ∷ signedDigits z)) e
-    ∙ sym (values-snoc (take i vs) (getD vs i d))
-    ∙ ap valuesText (sym (take-suc vs i d h))
-    ∙ ap (λ (k : ℕ). valuesText (take k vs)) (sym (add-one i))
+  pub spaced-next : (xs ys : List A) (x : A) → ys ≡ xs ++ (x ∷ []) → spaced text xs ++ (space ∷ text x) ≡ spaced text ys
+  spaced-next xs ys x e = sym (spaced-snoc xs x) ∙ ap (spaced text) (sym e)
 
 -- ---- an answer's number, and what stands behind it
 pub print-refused : (call : Call) (o : Outcome) → (o .number ≡ 0 → ⊥) → digits (o .number) ≡ print call o

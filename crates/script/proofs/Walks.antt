@@ -3,11 +3,12 @@ use mathlib.Core.Path.{_≡_, refl, sym, ap, _∙_}
 use mathlib.Core.List.{List, [], _∷_, _++_, append-nil, append-assoc}
 use mathlib.Core.Option.{Option, none, some}
 use mathlib.Core.Bool.{Bool, true, false, cond, not}
-use Prim.Native.Nat.{ℕ, _+_, _-_, _≤_, _<_}
+use Prim.Native.Nat.{ℕ, _+_, _-_, _≤_, _<_, min}
 use native.Mathlib.Omega.{arith}
 use native.Mathlib.Numerals.{add-one}
-use lib.ListN.{length, take, drop, set, length-drop}
-use lib.Seq.{length-take-le, take-suc-set}
+use lib.ListN.{length, getD, take, drop, set, length-drop}
+use lib.Seq.{length-take-le, take-suc, take-suc-set}
+use Rattle.words.proofs.Walks.{take-min}
 use borrow.Author.Tests.{not-true, not-false}
 use Rattle.script.specs.Fields.{space, place, fieldsFrom}
 use Rattle.script.proofs.Places.{field-within, field-next, fields-end}
@@ -71,3 +72,11 @@ module _ {B : Type 0} (f : List ℕ → Option B) (text : List ℕ) (at : ℕ) (
 -- one element more behind the first n
 pub take-more : {A : Type 0} (l : List A) (n : ℕ) (v : A) → n < length l → take (n + 1) (set l n v) ≡ take n l ++ (v ∷ [])
 take-more l n v h = ap (λ (k : ℕ). take k (set l n v)) (add-one n) ∙ take-suc-set l n v h
+
+-- the first i and the next
+pub take-next : {A : Type 0} (l : List A) (i : ℕ) (d v : A) → i < length l → v ≡ getD l i d → take (i + 1) l ≡ take i l ++ (v ∷ [])
+take-next {A} l i d v h e = ap (λ (k : ℕ). take k l) (add-one i) ∙ take-suc l i d h ∙ ap (λ (x : A). take i l ++ (x ∷ [])) (sym e)
+
+-- the first n, of a list of so many
+pub take-least : {A : Type 0} (l : List A) (i n m : ℕ) → i ≡ min n m → length l ≡ m → take i l ≡ take n l
+take-least l i n m e h = ap (λ (k : ℕ). take k l) (e ∙ ap (min n) (sym h)) ∙ take-min n l

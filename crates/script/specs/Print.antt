@@ -9,6 +9,8 @@ use lib.ListN.{length}
 use lib.Dec.{eqb}
 use Rattle.decimal.specs.Decimal.{digits, signedDigits, Printed}
 use Rattle.timestamp.specs.Timestamp.{Pair, Stamp}
+use Rattle.site.specs.Operations.{Op}
+use Rattle.records.specs.Records.{Record}
 use Rattle.network.specs.Calls.{Call, setUp, commit, dummy, epoch, deliver, schedule, waiting, Outcome}
 use Rattle.script.specs.Fields.{space}
 
@@ -25,10 +27,31 @@ tuplesText b (t ∷ ts) = b ∷ (tupleText t ++ tuplesText 44 ts)
 abbrev pub stampText : Stamp → List ℕ
 stampText t = space ∷ (digits (t .epoch) ++ tuplesText space (t .tuples))
 
--- each value behind a space
-unfoldable pub valuesText : List ℤ → List ℕ
-valuesText [] = []
-valuesText (v ∷ vs) = space ∷ (signedDigits v ++ valuesText vs)
+-- the text of each behind a space
+unfoldable pub spaced : {A : Type 0} → (A → List ℕ) → List A → List ℕ
+spaced text [] = []
+spaced text (x ∷ xs) = space ∷ (text x ++ spaced text xs)
+
+abbrev pub valuesText : List ℤ → List ℕ
+valuesText = spaced signedDigits
+
+-- ---- a record of the history
+-- r for a read, w for any other kind
+abbrev pub letter : ℕ → ℕ
+letter kind = cond (eqb kind 0) 114 119
+
+-- the letter, the item, = and the value
+abbrev pub opText : Op → List ℕ
+opText o = letter (o .kind) ∷ (digits (o .item) ++ (61 ∷ signedDigits (o .value)))
+
+abbrev pub opsText : List Op → List ℕ
+opsText = spaced opText
+
+-- the site, the timestamp and the operations
+abbrev pub recordText : Record → List ℕ
+recordText r = digits (r .site) ++ (stampText (r .stamp) ++ opsText (r .ops))
+
+-- ---- an answer
 
 -- what an accepted call prints behind its number
 abbrev pub acceptedText : Call → Outcome → List ℕ

@@ -1,10 +1,12 @@
 // One line of a script: a line of bytes in, the answer's bytes out, over a lent state.
 mod calls; // calls.rt: the calls by their letters
+mod entries; // entries.rt: a record of the history as a line
 mod fields; // fields.rt: the fields of a line and the numbers in them
 mod items; // items.rt: a set-up's items
 mod operations; // operations.rt: a commit's operations
 mod printing; // printing.rt: an answer's bytes
 
+pub use entries::entry;
 use network::WORDS;
 ghost use mathlib.Core.Path.{_≡_};
 ghost use Rattle.script.specs.Parse.{parse, called as calledBy, longest};

@@ -78,7 +78,7 @@ pub(crate) fn committed(out: &mut [u8], answer: Committed) -> usize
 }
 
 // A timestamp: a space, the epoch, a space and the tuples.
-fn stamp(out: &mut [u8], at: usize, t: Timestamp) -> usize
+pub(crate) fn stamp(out: &mut [u8], at: usize, t: Timestamp) -> usize
     requires { ⌜ at + 187 ≤ length (now out) ⌝ }
     ensures { λ r. ⌜ Put 187 (now (out .entry)) (now (out .exit)) at r (stampText (stampOf t)) ⌝ }
 {
@@ -132,13 +132,14 @@ fn values(out: &mut [u8], at: usize, count: usize, list: &[i32]) -> usize
     let mut i = 0usize;
     while i < n {
         let v = list[i];
-        end = value(out, end, v);
+        end = value(out, end, 32, v);
         i += 1;
     }
     end
 }
 
-fn shorter(count: usize) -> usize
+// Eight at most.
+pub(crate) fn shorter(count: usize) -> usize
     ensures { λ r. ⌜ r ≡ min count 8 ⌝ }
 {
     if count < 8 {
@@ -147,17 +148,17 @@ fn shorter(count: usize) -> usize
     8
 }
 
-// A value behind a space.
-fn value(out: &mut [u8], at: usize, v: i32) -> usize
+// A byte and a value behind it.
+pub(crate) fn value(out: &mut [u8], at: usize, byte: u8, v: i32) -> usize
     requires { ⌜ at + 12 ≤ length (now out) ⌝ }
-    ensures { λ r. ⌜ Put 12 (now (out .entry)) (now (out .exit)) at r (32 ∷ signedDigits v) ⌝ }
+    ensures { λ r. ⌜ Put 12 (now (out .entry)) (now (out .exit)) at r (byte ∷ signedDigits v) ⌝ }
 {
-    out[at] = 32;
+    out[at] = byte;
     decimal::put_signed(out, at + 1, v)
 }
 
 // A byte and a number behind it.
-fn behind_byte(out: &mut [u8], at: usize, byte: u8, n: u32) -> usize
+pub(crate) fn behind_byte(out: &mut [u8], at: usize, byte: u8, n: u32) -> usize
     requires { ⌜ at + 11 ≤ length (now out) ⌝ }
     ensures { λ r. ⌜ Put 11 (now (out .entry)) (now (out .exit)) at r (byte ∷ digits n) ⌝ }
 {

@@ -8,10 +8,10 @@ use Rattle.console.proofs.feed.Statement.{statement}
 use Rattle.console.proofs.feed.Tie as tie
 
 abbrev Inv-loop : tie.InvT-loop
-Inv-loop block state₀ held₀ answers₀ at₀ i₀ state held answers at i = Within at × (length held ≡ heldMost) × (length answers ≡ answersMost)
+Inv-loop block state₀ held₀ answers₀ out at₀ i₀ state held answers at i = Within at × (length held ≡ heldMost) × (length answers ≡ answersMost)
 
 abbrev μ-loop : tie.MeasureT-loop
-μ-loop block state₀ held₀ answers₀ at₀ i₀ state held answers at i = length block - i
+μ-loop block state₀ held₀ answers₀ out at₀ i₀ state held answers at i = length block - i
 
 loop-holds : tie.Need-loop-holds Inv-loop μ-loop
 loop-holds c = c .before .before .before .pre

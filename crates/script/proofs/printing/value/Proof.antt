@@ -1,4 +1,4 @@
--- `printing::value` prints a value behind a space.
+-- `printing::value` prints a value behind a byte.
 use mathlib.Core.Path.{ap, _∙_}
 use native.Mathlib.Omega.{arith}
 use mir.Syntax.{w32}
@@ -22,13 +22,13 @@ put-signed-requires : tie.Need-put-signed-requires
 put-signed-requires c κs = search needs
 
 same-length : tie.Need-same-length
-same-length c = let A = c .before .before .before .before .before .args in c .before .before .put-signed .kept .0 ∙ length-set (A .out .now) (A .at) 32
+same-length c = let A = c .before .before .before .before .before .args in c .before .before .put-signed .kept .0 ∙ length-set (A .out .now) (A .at) (A .byte)
 
 returns : tie.Need-returns
 returns c =
     let A = c .before .before .before .before .before .args in
-    put-then (omega arith) (put-byte (A .out .now) (A .at) 32 (omega arith))
-    (record { printed = printed-as (ap signedDigits (toZ-ofZ w32 (A .v) (c .before .before .before .before .before .fits .v))) (c .before .before .put-signed .ensures .printed (omega (arith, length-set (A .out .now) (A .at) 32))); small = signed-short (A .v) (c .before .before .before .before .before .fits .v) })
+    put-then (omega arith) (put-byte (A .out .now) (A .at) (A .byte) (omega arith))
+    (record { printed = printed-as (ap signedDigits (toZ-ofZ w32 (A .v) (c .before .before .before .before .before .fits .v))) (c .before .before .put-signed .ensures .printed (omega (arith, length-set (A .out .now) (A .at) (A .byte)))); small = signed-short (A .v) (c .before .before .before .before .before .fits .v) })
 
 pub value-spec : {M : Type 1} → statement M
 value-spec =

@@ -3,12 +3,14 @@ use mathlib.Core.Path.{_≡_, refl, sym, ap, _∙_}
 use Prim.Native.Nat.{ℕ, _+_, _-_, _*_, _≤_, min}
 use native.Mathlib.Omega.{arith}
 use lib.IntN.{pos}
+use Rattle.decimal.specs.Decimal.{signedDigits}
 use lib.ListN.{length, take, getD}
 use mir.Syntax.{w32}
 use mir.ValLaws.{toZ-ofZ}
 use Rattle.words.proofs.Walks.{take-min}
-use Rattle.script.specs.Print.{valuesText, Put}
-use Rattle.script.proofs.Putting.{put-none, put-then, put-as, put-end, values-next}
+use Rattle.script.specs.Print.{spaced, valuesText, Put}
+use Rattle.script.proofs.Putting.{put-none, put-then, put-as, put-end, spaced-next}
+use Rattle.script.proofs.Walks.{take-next}
 use borrow.Author.Needs.{needs}
 use Rattle.script.proofs.printing.values.Statement.{statement}
 use Rattle.script.proofs.printing.values.Tie as tie
@@ -23,7 +25,7 @@ shorter-requires : tie.Need-shorter-requires Inv-loop μ-loop
 shorter-requires c κs = search needs
 
 loop-holds : tie.Need-loop-holds Inv-loop μ-loop
-unfolding valuesText
+unfolding spaced
 loop-holds c = (omega arith, c .shorter .ensures, refl, put-none (c .before .before .args .out .now) (c .before .before .args .at))
 
 mul-v : tie.Need-mul-v Inv-loop μ-loop
@@ -49,7 +51,7 @@ loop-again c =
       omega arith,
       l .inv .1,
       c .before .before .value .kept .0 ∙ l .inv .2,
-      put-as (omega arith) (values-next (A .list .now) (l .i) (pos 0) _ (omega arith) (toZ-ofZ w32 v (record { sfits = c .before .before .before .before .v .given }))) (put-then (omega arith) (l .inv .3) (c .before .before .value .ensures)),
+      put-as (omega arith) (spaced-next signedDigits (take (l .i) (A .list .now)) (take (l .i + 1) (A .list .now)) _ (take-next (A .list .now) (l .i) (pos 0) _ (omega arith) (toZ-ofZ w32 v (record { sfits = c .before .before .before .before .v .given })))) (put-then (omega arith) (l .inv .3) (c .before .before .value .ensures)),
     )
 
 same-length : tie.Need-same-length Inv-loop μ-loop

@@ -1,17 +1,17 @@
--- `run` takes turns while the run goes on: the counts stay within their buffers. The measure is the number of turns left.
+-- `run_on` takes turns while the run goes on: the counts stay within their buffers. The measure is the number of turns left.
 use mathlib.Core.Path.{_≡_, refl, sym, _∙_}
 use native.Mathlib.Omega.{arith}
 use lib.ListN.{length}
 use Rattle.console.specs.Counts.{heldMost, answersMost, Within}
 use borrow.Author.Needs.{needs}
-use Rattle.console.proofs.run.Statement.{statement}
-use Rattle.console.proofs.run.Tie as tie
+use Rattle.console.proofs.run_on.Statement.{statement}
+use Rattle.console.proofs.run_on.Tie as tie
 
 abbrev Inv-loop : tie.InvT-loop
-Inv-loop state₀ held₀ answers₀ at₀ turns₀ state held answers at turns = Within at × (length held ≡ heldMost) × (length answers ≡ answersMost)
+Inv-loop state₀ out held₀ answers₀ at₀ turns₀ state held answers at turns = Within at × (length held ≡ heldMost) × (length answers ≡ answersMost)
 
 abbrev μ-loop : tie.MeasureT-loop
-μ-loop state₀ held₀ answers₀ at₀ turns₀ state held answers at turns = turns
+μ-loop state₀ out held₀ answers₀ at₀ turns₀ state held answers at turns = turns
 
 begun-requires : tie.Need-begun-requires Inv-loop μ-loop
 begun-requires c κs = search needs
@@ -43,8 +43,8 @@ loop-again c = let q = c .before .before .turn in (q .ensures, q .kept .1 .1 .0 
 returns-2 : tie.Need-returns-2 Inv-loop μ-loop
 returns-2 c = tt
 
-pub run-spec : {M : Type 1} → statement M
-run-spec =
+pub run-on-spec : {M : Type 1} → statement M
+run-on-spec =
     tie.close
     (tie.spec
     Inv-loop
