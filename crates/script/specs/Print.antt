@@ -76,6 +76,10 @@ fieldsOf number parent stamp values = record { number = number; parent = parent;
 abbrev pub answerMost : ℕ
 answerMost = 293
 
+-- the longest record: a site of ten digits, a timestamp of eight tuples, eight operations
+abbrev pub recordMost : ℕ
+recordMost = 389
+
 -- printed, and not more than so many bytes
 pub record Put (most : ℕ) (entry exit : List ℕ) (at end : ℕ) (bytes : List ℕ) : Type 0 where
   pub printed : Printed entry exit at end bytes

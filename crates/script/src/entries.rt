@@ -6,11 +6,10 @@ ghost use mathlib.Core.Path.{_≡_};
 ghost use mathlib.Core.List.{_∷_};
 ghost use Prim.Native.Nat.{_+_, _≤_};
 ghost use lib.ListN.{length};
-ghost use Rattle.decimal.specs.Decimal.{Printed};
 ghost use Rattle.timestamp.specs.Timestamp.{stampOf};
 ghost use Rattle.script.specs.Fields.{space};
 ghost use Rattle.script.specs.Parse.{operationsIn};
-ghost use Rattle.script.specs.Print.{letter as letterOf, opText, opsText, recordText, Put};
+ghost use Rattle.script.specs.Print.{letter as letterOf, opText, opsText, recordText, recordMost, Put};
 
 // The site, the timestamp and the first `count` operations, or all eight, at the front of the buffer. It answers the length.
 pub fn entry(
@@ -22,7 +21,7 @@ pub fn entry(
     values: &[i32; 8],
     out: &mut [u8; ANSWER],
 ) -> usize
-    ensures { λ r. ⌜ Printed (now (out .entry)) (now (out .exit)) 0 r (recordText (record { site = site; stamp = stampOf stamp; ops = operationsIn count (now (kinds .entry)) (now (items .entry)) (now (values .entry)) })) ⌝ }
+    ensures { λ r. ⌜ Put recordMost (now (out .entry)) (now (out .exit)) 0 r (recordText (record { site = site; stamp = stampOf stamp; ops = operationsIn count (now (kinds .entry)) (now (items .entry)) (now (values .entry)) })) ⌝ }
 {
     let end = printing::number(out, site);
     let behind = printing::stamp(out, end, stamp);

@@ -17,7 +17,7 @@ operations-requires c κs = search needs
 returns : tie.Need-returns
 returns c =
     let number = c .before .before .before .before .before .before .before .number .ensures in
-    put-then (omega arith) number (put-then (omega (arith, put-end number)) (c .before .before .before .before .before .stamp .ensures) (c .operations .ensures)) .printed
+    put-then (omega arith) number (put-then (omega (arith, put-end number)) (c .before .before .before .before .before .stamp .ensures) (c .operations .ensures))
 
 pub entry-spec : {M : Type 1} → statement M
 entry-spec = tie.close (tie.spec number-requires stamp-requires operations-requires returns)

@@ -1,0 +1,69 @@
+-- `add` makes room first where there is none.
+use mathlib.Core.Path.{sym}
+use native.Mathlib.Omega.{arith}
+use lib.ListN.{length-take}
+use lib.Seq.{length-take-le}
+use borrow.Author.Needs.{needs}
+use Rattle.history_print.proofs.add.Statement.{statement}
+use Rattle.history_print.proofs.add.Tie as tie
+
+line-requires : tie.Need-line-requires
+line-requires c κs = search needs
+
+slice-reshare-prefix-write-all : tie.Need-slice-reshare-prefix-write-all
+slice-reshare-prefix-write-all c = search needs
+
+slice-aggregate-write-all : tie.Need-slice-aggregate-write-all
+slice-aggregate-write-all c = let A = c .before .before .before .before .before .args in sym (length-take-le (A .filled) (A .lines .now) (omega (arith, c .before .before .before .before .before .pre)))
+
+write-all-requires : tie.Need-write-all-requires
+write-all-requires c κs = search needs
+
+array-share-prefix-text : tie.Need-array-share-prefix-text
+array-share-prefix-text c = search needs
+
+slice-aggregate-append : tie.Need-slice-aggregate-append
+slice-aggregate-append c = sym (length-take-le (c .before .before .before .before .line .result) (c .before .before .before .before .line .last .1 .0) (c .before .before .before .before .line .ensures .1))
+
+append-requires : tie.Need-append-requires
+append-requires c κs = (omega (arith, length-take (c .before .before .before .before .before .line .result) (c .before .before .before .before .before .line .last .1 .0), c .before .before .before .before .before .line .ensures .0), c .before .before .before .before .before .before .before .before .pre .1)
+
+same-length : tie.Need-same-length
+same-length c = search needs
+
+returns : tie.Need-returns
+returns c = search needs
+
+array-share-prefix-text-2 : tie.Need-array-share-prefix-text-2
+array-share-prefix-text-2 c = search needs
+
+slice-aggregate-append-2 : tie.Need-slice-aggregate-append-2
+slice-aggregate-append-2 c = sym (length-take-le (c .before .before .line .result) (c .before .before .line .last .1 .0) (c .before .before .line .ensures .1))
+
+append-requires-2 : tie.Need-append-requires-2
+append-requires-2 c κs = (omega (arith, length-take (c .before .before .before .line .result) (c .before .before .before .line .last .1 .0), c .before .before .before .line .ensures .0, c .before .before .if1 .left), c .before .before .before .before .before .before .pre .1)
+
+same-length-2 : tie.Need-same-length-2
+same-length-2 c = search needs
+
+returns-2 : tie.Need-returns-2
+returns-2 c = search needs
+
+pub add-spec : {M : Type 1} → statement M
+add-spec =
+    tie.close
+    (tie.spec
+    line-requires
+    slice-reshare-prefix-write-all
+    slice-aggregate-write-all
+    write-all-requires
+    array-share-prefix-text
+    slice-aggregate-append
+    append-requires
+    same-length
+    returns
+    array-share-prefix-text-2
+    slice-aggregate-append-2
+    append-requires-2
+    same-length-2
+    returns-2)

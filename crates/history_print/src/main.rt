@@ -1,0 +1,103 @@
+// The records of a history file, one line each: the file is read on standard input.
+use history::Found;
+use libc::STDIN_FILENO;
+use libc::STDOUT_FILENO;
+use script::ANSWER;
+ghost use mathlib.Core.Path.{_≡_};
+ghost use Prim.Native.Nat.{_+_, _≤_, _<_};
+ghost use lib.ListN.{length};
+
+// One byte more than is taken, for an input that is too long.
+fn main() {
+    let mut file = [0u8; 65537];
+    let n = load(&mut file);
+    if 65536 < n {
+        io::write_all(STDOUT_FILENO, b"?\n");
+        return;
+    }
+    print(&file[..n]);
+}
+
+// Standard input to the front of the buffer, to its end or the buffer's. It answers how many bytes there are.
+fn load(file: &mut [u8]) -> usize
+    ensures { λ r. ⌜ r ≤ length (now (file .entry)) ⌝ }
+{
+    let mut filled = 0usize;
+    while filled < file.len() {
+        let got = libc::read(STDIN_FILENO, &mut file[filled..]);
+        let n = io::count(got, &file[filled..]);
+        if n == 0 {
+            return filled;
+        }
+        filled += n;
+    }
+    filled
+}
+
+// The file at the end of the bytes, or the number for which it is refused.
+fn print(b: &[u8]) {
+    let file = history::check(b);
+    if file.number != 0 {
+        refused(file.number);
+        return;
+    }
+    let part = history::read(b);
+    records(part, file.records, file.sites, file.items);
+}
+
+fn refused(number: u32) {
+    io::print_decimal(STDOUT_FILENO, number as u64);
+    io::write_all(STDOUT_FILENO, b"\n");
+}
+
+// From record to record of a part; the lines are collected and written when there are many.
+fn records(part: &[u8], n: u32, sites: u32, items: u32) {
+    let mut lines = io::large_buffer();
+    let mut filled = 0usize;
+    let mut at = 0usize;
+    let mut i = 0u32;
+    while i < n {
+        let r = history::record_from(part, at, sites, items);
+        at = r.next;
+        filled = add(r, &mut lines, filled);
+        i += 1;
+    }
+    io::write_all(STDOUT_FILENO, &lines[..filled]);
+}
+
+// A record's line behind the others, which are written first where there is no room for one more. It answers where the lines end.
+fn add(r: Found, lines: &mut [u8], filled: usize) -> usize
+    requires { ⌜ (filled ≤ 65536) × (length (now lines) ≡ 65536) ⌝ }
+    ensures { λ end. ⌜ end ≤ 65536 ⌝ }
+{
+    let mut text = [0u8; ANSWER];
+    let n = line(r, &mut text);
+    if 65023 < filled {
+        io::write_all(STDOUT_FILENO, &lines[..filled]);
+        return append(&text[..n], lines, 0);
+    }
+    append(&text[..n], lines, filled)
+}
+
+fn line(r: Found, text: &mut [u8; ANSWER]) -> usize
+    ensures { λ n. ⌜ (n ≤ 389) × (n ≤ length (now (text .exit))) ⌝ }
+{
+    let site = r.site;
+    let stamp = r.stamp;
+    let count = r.count;
+    let kinds = r.kinds;
+    let items = r.items;
+    let values = r.values;
+    script::entry(site, stamp, count, &kinds, &items, &values, text)
+}
+
+// A line and a newline.
+fn append(text: &[u8], lines: &mut [u8], filled: usize) -> usize
+    requires { ⌜ (filled + length (now text) < 65536) × (length (now lines) ≡ 65536) ⌝ }
+    ensures { λ end. ⌜ end ≤ 65536 ⌝ }
+{
+    let end = filled + text.len();
+    lines[end] = 10;
+    bytes::copy(text, &mut lines[filled..end]);
+    end + 1
+}
