@@ -2,18 +2,18 @@
 use mathlib.Core.Path.{_≡_, refl, sym, ap, _∙_}
 use mathlib.Core.Bool.{Bool, true, false, _&&_}
 use mathlib.Core.List.{List, [], _∷_, _++_}
-use mathlib.Core.Option.{none, some}
+use mathlib.Core.Option.{some}
 use Prim.Native.Nat.{ℕ, zero, suc, _+_, _-_, _*_, _/_, _%_, _≤_, _<_}
 use native.Mathlib.Omega.{arith}
 use native.Mathlib.Nat.{mod-lt, div-add-mod', div-lt-self}
 use lib.IntN.{ℤ, pos, negsuc}
-use lib.ListN.{length, getD, length-append, List·getD-append}
-use lib.Dec.{eqb, ltb, leb}
-use borrow.Author.Tests.{le-leb, lt-ltb, le-ltb, ltb-true, ltb-false, ne-eqb}
+use lib.ListN.{length, getD, List·getD-append}
+use lib.Dec.{eqb, ltb}
+use borrow.Author.Tests.{le-leb, ltb-true, ltb-false, ne-eqb}
 use mir.Syntax.{w32}
 use mir.Val.{SFits}
-use Rattle.words.specs.Words.{every}
-use Rattle.words.proofs.Walks.{every-snoc}
+use Rattle.lists.specs.Lists.{every}
+use Rattle.lists.proofs.Every.{every-snoc}
 use Rattle.decimal.specs.Decimal.{digits, signedDigits, isDigit, extraZero, valueFrom, greatest, natural, negative, notNegative, signed}
 use Rattle.decimal.proofs.Digits.{digits-small, digits-more, digits-some}
 use Rattle.decimal.proofs.Signs.{signed-plus, signed-minus}

@@ -10,7 +10,7 @@ use lib.IntN.{ℤ, pos, negsuc, natAbs, _-ℤ_}
 use lib.Signed.{leZ}
 use borrow.Author.Tests.{not-true, not-false, le-leb, lt-leb, leb-false, eq-eqb, ne-eqb}
 use mir.Syntax.{w32}
-use mir.Val.{toZ, ofZ, SFits}
+use mir.Val.{toZ, SFits}
 use mir.ValLaws.{toZ-ofZ, toZ-pos}
 use Rattle.words.proofs.Signed.{again, down, bits-under, bits-cast-2, minus-small}
 use Rattle.decimal.proofs.Digits.{digits-short}

@@ -6,7 +6,7 @@ ghost use Prim.Native.Nat.{_+_, _-_, _*_, _≤_};
 ghost use lib.ListN.{length};
 ghost use lib.IntN.{natAbs};
 ghost use lib.Dec.{leb};
-ghost use Rattle.words.specs.Words.{every};
+ghost use Rattle.lists.specs.Lists.{every};
 ghost use Rattle.decimal.specs.Decimal.{digits, signedDigits, Printed, PrintedIn, isDigit, extraZero, valueFrom, greatest, natural as naturalIn, signed as signedIn, numberOf, integerOf, negative, notNegative};
 
 // A number, where the text is one; else `ok` is false and the value 0.

@@ -1,24 +1,27 @@
 -- The messages that a line's words hold: one sent, one arrived, one taken off, and what stays in range.
 use mathlib.Core.Path.{_≡_, refl, sym, ap, ap₂, subst, _∙_}
-use mathlib.Core.Bool.{Bool, true, false, cond, _&&_, _||_}
+use mathlib.Core.Bool.{Bool, true, false, cond, _||_}
 use mathlib.Core.List.{List, [], _∷_, _++_, map, map-append}
-use Prim.Native.Nat.{ℕ, zero, suc, _+_, _-_, _*_, _≤_, _<_, min}
+use Prim.Native.Nat.{ℕ, suc, _+_, _-_, _*_, _≤_, _<_, min}
 use native.Mathlib.Omega.{arith}
 use lib.ListN.{length, getD, set, take, drop, length-map, length-take, length-set, length-drop, List·getD-map, List·getD-eq-default}
-use lib.Seq.{getD-set-same, getD-set-other, drop-set-lt, take-suc-set, length-take-le, take-append-le, getD-take}
+use lib.Seq.{getD-set-same, getD-set-other, drop-set-lt, take-suc-set, take-append-le, getD-take}
 use lib.Dec.{ltb, leb}
 use borrow.Author.Tests.{lt-ltb, le-ltb, le-leb, leb-true}
-use Rattle.words.specs.Words.{part, put, chunks, shifted, overlaid, every, Stepped}
+use Rattle.words.specs.Words.{part, put, chunks, shifted, overlaid, Stepped}
+use Rattle.lists.specs.Lists.{every}
 use Rattle.words.proofs.Parts.{part-length, part-part, part-getD, put-length, put-here, put-in, put-getD-below, lent-put, lent-size}
 use Rattle.words.proofs.Chunks.{chunks-length, chunks-at, chunks-put, chunks-shift}
 use Rattle.words.proofs.Steps.{step-same}
-use Rattle.words.proofs.Walks.{take-min, take-rest, overlaid-same, and-true, every-snoc, every-rest}
-use Rattle.timestamp.specs.Timestamp.{Stamp, stampOf, room}
+use Rattle.lists.proofs.Lists.{take-min, take-rest}
+use Rattle.words.proofs.Walks.{overlaid-same}
+use Rattle.lists.proofs.Every.{and-true, every-snoc, every-rest}
+use Rattle.timestamp.specs.Timestamp.{Stamp, room}
 use Rattle.timestamp.specs.InWords.{stampIn, stampSize, stampWords}
 use Rattle.timestamp.proofs.Words.{words-back, words-length}
-use Rattle.lines.specs.declared.Message.{Message as MessageValue}
-use Rattle.lines.specs.Lines.{Message, commit, dummy, Line, heldMost, sent, delivered, taken, sentOrSame, deliveredOrSame, takenOrSame}
-use Rattle.lines.specs.InWords.{recordsMost, messageSize, messageIn, messageRange, messageOf, boxesSize, lineSize, boxesIn, lineFrom, lineIn, lineRange, First}
+use Rattle.lines.specs.Lines.{Message, commit, dummy, Line, sent, delivered, taken, sentOrSame, deliveredOrSame, takenOrSame}
+use Rattle.limits.specs.Limits.{heldMost, recordsMost}
+use Rattle.lines.specs.InWords.{messageSize, messageIn, messageRange, boxesSize, lineSize, boxesIn, lineFrom, lineIn, lineRange, First}
 
 -- ---- how many there are
 pub boxes-length : (w : List ℕ) → length (boxesIn w) ≡ min (getD w 0 0) heldMost

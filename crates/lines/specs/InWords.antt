@@ -5,15 +5,13 @@ use mathlib.Core.List.{List, map}
 use Prim.Native.Nat.{ℕ, _+_, _*_}
 use lib.ListN.{length, take, getD}
 use lib.Dec.{ltb, leb}
-use Rattle.words.specs.Words.{part, chunks, every}
+use Rattle.words.specs.Words.{part, chunks}
+use Rattle.lists.specs.Lists.{every}
 use Rattle.timestamp.specs.Timestamp.{stampOf, room}
 use Rattle.timestamp.specs.InWords.{stampIn, stampSize}
 use Rattle.lines.specs.declared.Message.{Message as MessageValue}
-use Rattle.lines.specs.Lines.{Message, commit, dummy, Line, heldMost}
-
--- a name below 256 is the number of a record; any other name is a dummy's
-abbrev pub recordsMost : ℕ
-recordsMost = 256
+use Rattle.lines.specs.Lines.{Message, commit, dummy, Line}
+use Rattle.limits.specs.Limits.{heldMost, recordsMost}
 
 abbrev pub messageSize : ℕ
 messageSize = 1 + stampSize

@@ -4,6 +4,7 @@ use mathlib.Core.List.{List, [], _∷_, _++_}
 use Prim.Native.Nat.{ℕ, _+_, _-_}
 use lib.ListN.{length, drop}
 use lib.Dec.{ltb}
+use Rattle.limits.specs.Limits.{heldMost}
 use Rattle.timestamp.specs.Timestamp.{Stamp}
 
 -- a message names a recorded commit by its number, or is a dummy with its own timestamp
@@ -17,10 +18,6 @@ pub record Line : Type 0 where
 
 abbrev pub noLine : Line
 noLine = record { messages = []; arrived = 0 }
-
--- the most messages of a line, on the way and arrived together
-abbrev pub heldMost : ℕ
-heldMost = 16
 
 -- a message sent
 abbrev pub sent : Message → Line → Line

@@ -8,7 +8,8 @@ ghost use mathlib.Core.Bool.{true};
 ghost use Prim.Native.Nat.{min, _-_, _≤_};
 ghost use lib.ListN.{length, getD};
 ghost use Rattle.words.specs.Words.{Stepped};
-ghost use Rattle.lines.specs.Lines.{commit, sentOrSame, deliveredOrSame, takenOrSame, heldMost};
+ghost use Rattle.lines.specs.Lines.{commit, sentOrSame, deliveredOrSame, takenOrSame};
+ghost use Rattle.limits.specs.Limits.{heldMost};
 ghost use Rattle.lines.specs.InWords.{messageIn, messageRange, messageOf, messageSize, lineIn, lineRange, lineSize, First};
 
 // A message: the number of the record that it names, or 256 and more for a dummy, which has its own timestamp.

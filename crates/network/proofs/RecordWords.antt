@@ -9,17 +9,17 @@ use Rattle.words.proofs.Parts.{part-length, part-getD, part-part, lent-part}
 use Rattle.words.proofs.Chunks.{chunks-at}
 use Rattle.words.proofs.Walks.{overlaid-same}
 use Rattle.timestamp.specs.Timestamp.{Stamp}
-use Rattle.site.specs.InWords.{opsIn, opsMost, opsSize}
-use Rattle.lines.specs.InWords.{recordsMost}
+use Rattle.site.specs.InWords.{opsIn, opsSize}
+use Rattle.limits.specs.Limits.{opsMost, recordsMost}
 use Rattle.records.specs.Records.{Record}
 use Rattle.records.specs.InWords.{recordIn, recordSize, opsAt}
 use Rattle.records.proofs.Laws.{count-law}
-use Rattle.network.specs.Layout.{historyAt, historySize, stateSize}
-use Rattle.network.specs.Network.{noRecord}
-use Rattle.network.specs.InWords.{recordWords, networkIn}
-use Rattle.network.specs.Reading.{Entered}
-use Rattle.network.proofs.Assembled.{no-record}
-use Rattle.network.proofs.Performs.{records-count}
+use Rattle.network_layout.specs.Layout.{historyAt, historySize, stateSize}
+use Rattle.protocol.specs.Network.{noRecord}
+use Rattle.network_layout.specs.InWords.{recordWords, networkIn}
+use Rattle.network_layout.specs.Reading.{Entered}
+use Rattle.network_layout.proofs.Assembled.{no-record}
+use Rattle.network_layout.proofs.Performs.{records-count}
 
 module _ (w : List ℕ) (k : ℕ) where
   pub record-past : getD w 2 0 ≤ k → noRecord ≡ getD (networkIn w .history) k noRecord

@@ -1,97 +1,95 @@
-// A network of sites in one lent array of words: set-up, commit, dummy, epoch, deliver, schedule, waiting report.
-mod causes; // causes.rt: causes that several steps share
-mod commits; // commits.rt: commit
-mod deliveries; // deliveries.rt: deliver
-mod due; // due.rt: what operations ask of the placement
-mod dummies; // dummies.rt: dummy
-mod entries; // entries.rt: commit with operations as records
-mod epochs; // epochs.rt: epoch
-mod operations; // operations.rt: a commit's operations in words, and the values read
-mod placing; // placing.rt: set-up
-mod reading; // reading.rt: what the crates above read of a state
-mod reports; // reports.rt: waiting report
-mod schedules; // schedules.rt: schedule
-mod sending; // sending.rt: a message to several sites
-mod shape; // shape.rt: whether the words are those of a network
-mod state; // state.rt: the sites, lines and records of a state, by number
+// A network of sites in one lent array of words: set-up, commit, dummy, epoch, deliver, schedule, waiting report; and what the crates above read of a state.
+pub use network_commit::commit;
+pub use network_deliver::deliver;
+pub use network_dummy::dummy;
+pub use network_epoch::epoch;
+pub use network_layout::Committed;
+pub use network_layout::Dummied;
+pub use network_layout::Entry;
+use network_layout::HISTORY;
+pub use network_layout::Operation;
+use network_layout::RECORD;
+pub use network_layout::Report;
+pub use network_layout::Scheduled;
+pub use network_layout::Totals;
+pub use network_layout::WORDS;
+pub use network_operations::commit_operations;
+pub use network_schedule::schedule;
+pub use network_set_up::set_up;
+pub use network_waiting::waiting;
+ghost use mathlib.Core.Path.{_≡_};
+ghost use lib.ListN.{length, getD};
+ghost use Prim.Native.Nat.{_<_};
+ghost use Rattle.timestamp.specs.Timestamp.{stampOf};
+ghost use Rattle.limits.specs.Limits.{recordsMost};
+ghost use Rattle.network_layout.specs.Layout.{stateSize};
+ghost use Rattle.protocol.specs.Network.{noRecord};
+ghost use Rattle.network_layout.specs.InWords.{networkIn, shaped as shapedWords};
+ghost use Rattle.network_layout.specs.Reading.{Entered};
 
-pub use commits::commit;
-pub use deliveries::deliver;
-pub use dummies::dummy;
-pub use entries::commit_operations;
-pub use epochs::epoch;
-pub use placing::set_up;
-pub use reading::holdings;
-pub use reading::record;
-pub use reading::well_shaped;
-pub use reports::waiting;
-pub use schedules::schedule;
-use timestamp::Timestamp;
-
-// An operation of a commit: 0 a read or 1 a write, the item, and the value that is written.
-pub struct Operation {
-    pub kind: u8,
-    pub item: u32,
-    pub value: i32,
+// Whether a state's words are those of a network.
+pub fn well_shaped(state: &[u32; WORDS]) -> bool
+    ensures { λ r. ⌜ r ≡ shapedWords (now (state .entry)) ⌝ }
+{
+    network_shape::shaped(state)
 }
 
-// What a commit answers: its number, the timestamp, and the first `count` values, those read in order; all zero where refused.
-pub struct Committed {
-    pub number: u32,
-    pub stamp: Timestamp,
-    pub count: usize,
-    pub values: [i32; 8],
+// How many sites, items and records a state says it has.
+pub fn holdings(state: &[u32; WORDS]) -> Totals
+    ensures { λ r. ⌜ (r .sites ≡ length (networkIn (now (state .entry)) .sites)) × (r .items ≡ length (networkIn (now (state .entry)) .items)) × (r .records ≡ length (networkIn (now (state .entry)) .history)) ⌝ }
+{
+    Totals {
+        sites: state[0],
+        items: state[1],
+        records: state[2],
+    }
 }
 
-// What a dummy answers: its number and the timestamp, which is zero where it is refused.
-pub struct Dummied {
-    pub number: u32,
-    pub stamp: Timestamp,
+// The record of a number; all zero where there is none.
+pub fn record(state: &[u32; WORDS], k: usize) -> Entry
+    ensures { λ r. ⌜ Entered (getD (networkIn (now (state .entry)) .history) k noRecord) (r .site) (stampOf (r .stamp)) (r .count) (r .ops) ⌝ }
+{
+    record_in(state, k)
 }
 
-// What a schedule answers: its number, the parent and the message's timestamp; all zero where refused.
-pub struct Scheduled {
-    pub number: u32,
-    pub parent: u32,
-    pub stamp: Timestamp,
+fn record_in(state: &[u32], k: usize) -> Entry
+    requires { ⌜ length (now state) ≡ stateSize ⌝ }
+    ensures { λ r. ⌜ Entered (getD (networkIn (now (state .entry)) .history) k noRecord) (r .site) (stampOf (r .stamp)) (r .count) (r .ops) ⌝ }
+{
+    if words::wide(state[2]) <= k {
+        return no_entry();
+    }
+    if 256 <= k {
+        return no_entry();
+    }
+    entry_in(state, k)
 }
 
-// What a waiting report answers: its number, and the first `count` items, those that are waiting; all zero where refused.
-pub struct Report {
-    pub number: u32,
-    pub count: usize,
-    pub items: [u32; 64],
+fn entry_in(state: &[u32], k: usize) -> Entry
+    requires { ⌜ (length (now state) ≡ stateSize) × (k < getD (now state) 2 0) × (k < recordsMost) ⌝ }
+    ensures { λ r. ⌜ Entered (getD (networkIn (now (state .entry)) .history) k noRecord) (r .site) (stampOf (r .stamp)) (r .count) (r .ops) ⌝ }
+{
+    let a = HISTORY + k * RECORD;
+    let o = a + 20;
+    let e = a + RECORD;
+    let mut ops = [0u32; 24];
+    words::copy(&mut ops, &state[o..e]);
+    Entry {
+        site: state[a],
+        stamp: records::stamp(&state[a..e]),
+        count: records::count(&state[a..e]),
+        ops,
+    }
 }
 
-// How many sites, items and records a state holds.
-pub struct Totals {
-    pub sites: u32,
-    pub items: u32,
-    pub records: u32,
+fn no_entry() -> Entry
+    ensures { λ r. ⌜ Entered noRecord (r .site) (stampOf (r .stamp)) (r .count) (r .ops) ⌝ }
+{
+    let none = network_access::no_stamp();
+    Entry {
+        site: 0,
+        stamp: none,
+        count: 0,
+        ops: [0u32; 24],
+    }
 }
-
-// A record of the history: its site, its timestamp, and the first `count` of eight operations, three words each.
-pub struct Entry {
-    pub site: u32,
-    pub stamp: Timestamp,
-    pub count: usize,
-    pub ops: [u32; 24],
-}
-
-// Where the parts of a state start, and its size.
-const ITEMS: usize = 3;
-
-const SITES: usize = ITEMS + 64 * 2;
-
-const SITE: usize = 82;
-
-const LINES: usize = SITES + 8 * SITE;
-
-const LINE: usize = 306;
-
-const HISTORY: usize = LINES + 64 * LINE;
-
-const RECORD: usize = 44;
-
-// The words of a state.
-pub const WORDS: usize = HISTORY + 256 * RECORD;

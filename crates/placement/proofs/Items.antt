@@ -11,9 +11,11 @@ use Rattle.words.specs.Words.{chunks}
 use Rattle.words.proofs.Parts.{part-getD}
 use Rattle.words.proofs.Chunks.{chunks-length, chunks-at}
 use Rattle.placement.specs.Masks.{bit}
-use Rattle.placement.specs.Placement.{Item, any, namesMissing, namesBelow, itemNumber, itemsNumber, noItem}
+use Rattle.placement.specs.Placement.{Item, namesMissing, namesBelow, itemNumber, itemsNumber, noItem}
+use Rattle.lists.specs.Lists.{any}
 use Rattle.placement.specs.InWords.{itemSize, itemIn, itemAt, itemsIn}
-use Rattle.placement.proofs.Walks.{some-true, some-next, some-done, first-here, first-next, first-done}
+use Rattle.lists.proofs.Some.{some-true, some-next, some-done}
+use Rattle.lists.proofs.Numbers.{first-here, first-next, first-done}
 
 -- ---- the words of item k
 module _ (w : List ℕ) (k : ℕ) where

@@ -1,6 +1,6 @@
 -- Laws of placement: the bits of a mask, an item that set-up does not refuse, and where the lines go.
 use mathlib.Core.Path.{_≡_, refl, sym, ap, _∙_}
-use mathlib.Core.Bool.{Bool, true, false, cond, _||_, false≢true, or-true}
+use mathlib.Core.Bool.{Bool, true, false, cond, _||_, false≢true}
 use mathlib.Core.List.{List, [], _∷_}
 use Prim.Native.Nat.{ℕ, zero, suc, _+_, _-_, _*_, _/_, _%_, _^_, _≤_, _<_}
 use native.Mathlib.Omega.{arith}
@@ -9,9 +9,10 @@ use lib.ListN.{length, getD}
 use lib.Pow.{pow-pos, pow-mono, pow-add, field, mod-mod-pow, high}
 use lib.Dec.{eqb, ltb, leb}
 use borrow.Author.Tests.{eqb-true, eqb-false, leb-false, ltb-true, ltb-false}
-use Rattle.words.proofs.Walks.{and-true}
+use Rattle.lists.proofs.Some.{some-index}
+use Rattle.lists.proofs.Every.{and-true}
 use Rattle.placement.specs.Masks.{bit, maskOf}
-use Rattle.placement.specs.Placement.{Item, any, namesMissing, namesBelow, itemNumber, itemsNumber, noItem, isLine}
+use Rattle.placement.specs.Placement.{Item, namesMissing, namesBelow, itemNumber, itemsNumber, noItem, isLine}
 use Rattle.placement.proofs.Items.{joined, copied}
 
 -- ---- the bits of a mask
@@ -97,21 +98,6 @@ module _ (sites : ℕ) (x : Item) (k : ℕ) (z : itemNumber sites x ≡ 0) (b : 
       let own : k ≡ p → ⊥ = λ e. false≢true (sym (tests sites x z .2) ∙ ap (bit (x .mask)) (sym e) ∙ b) in
       let below : k < p → ⊥ = λ h. omega (arith, bit-below (x .mask) p k none h, eqb-true (x .mask / 2 ^ k % 2) 1 b) in
       omega arith
-
--- ---- some element, by its place
-module _ {A : Type 0} (p : A → Bool) where
-  pub some-at : (xs : List A) (i : ℕ) (d : A) → i < length xs → p (getD xs i d) ≡ true → any p xs ≡ true
-  some-at [] i d h q = absurd (not-suc-le-zero h)
-  some-at (x ∷ xs) zero d h q = ap (λ (b : Bool). b || any p xs) q
-  some-at (x ∷ xs) (suc i) d h q = ap (λ (b : Bool). p x || b) (some-at xs i d (omega arith) q) ∙ or-true (p x)
-
-  pub some-index : (xs : List A) (d : A) → any p xs ≡ true → (i : ℕ) × (i < length xs) × (p (getD xs i d) ≡ true)
-  some-index [] d e = absurd (false≢true e)
-  some-index (x ∷ xs) d e = go (p x) refl e (some-index xs d)
-    where
-      go : (b : Bool) → p x ≡ b → (b || any p xs) ≡ true → (any p xs ≡ true → (i : ℕ) × (i < length xs) × (p (getD xs i d) ≡ true)) → (i : ℕ) × (i < suc (length xs)) × (p (getD (x ∷ xs) i d) ≡ true)
-      go true q e rest = (0, omega arith, q)
-      go false q e rest = let s = rest e in (suc (s .0), omega arith, s .2)
 
 -- ---- a placement that set-up does not refuse
 no-number : (n r : ℕ) → cond (eqb n 0) r n ≡ 0 → (n ≡ 0) × (r ≡ 0)

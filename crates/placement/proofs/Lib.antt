@@ -1,4 +1,3 @@
 pub mod Shifts
-pub mod Walks
 pub mod Items
 pub mod Laws

@@ -8,13 +8,6 @@ use Rattle.placement.specs.Placement.{Item}
 abbrev pub itemSize : ℕ
 itemSize = 2
 
--- the most items of a group, and the most sites
-abbrev pub itemsMost : ℕ
-itemsMost = 64
-
-abbrev pub sitesMost : ℕ
-sitesMost = 8
-
 abbrev pub itemIn : List ℕ → Item
 itemIn w = record { primary = getD w 0 0; mask = getD w 1 0 }
 

@@ -1,24 +1,16 @@
 -- Placement: each item's primary site and copy mask, what set-up refuses of it, and the lines that it gives.
-use mathlib.Core.Bool.{Bool, true, false, cond, _&&_, _||_}
-use mathlib.Core.List.{List, [], _∷_, map}
+use mathlib.Core.Bool.{Bool, cond, _&&_, _||_}
+use mathlib.Core.List.{List, map}
 use Prim.Native.Nat.{ℕ, _/_, _%_, _^_}
 use lib.ListN.{getD}
 use lib.Dec.{eqb, ltb, leb}
+use Rattle.lists.specs.Numbers.{firstNumber}
+use Rattle.lists.specs.Lists.{any}
 use Rattle.placement.specs.Masks.{bit}
 
 pub record Item : Type 0 where
   pub primary : ℕ
   pub mask : ℕ
-
--- some element passes the test
-abbrev pub any : {A : Type 0} → (A → Bool) → List A → Bool
-any p [] = false
-any p (x ∷ xs) = p x || any p xs
-
--- the first number that is not 0, or 0
-abbrev pub firstNumber : List ℕ → ℕ
-firstNumber [] = 0
-firstNumber (n ∷ ns) = cond (eqb n 0) (firstNumber ns) n
 
 -- ---- what set-up refuses, in a group of `sites` sites
 -- the mask has a bit of weight 2 to the power `sites` or more

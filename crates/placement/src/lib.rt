@@ -8,7 +8,8 @@ ghost use Prim.Native.Nat.{min};
 ghost use lib.Dec.{eqb};
 ghost use Rattle.placement.specs.Masks.{maskOf, bit as bitOf};
 ghost use Rattle.placement.specs.Placement.{itemNumber, itemsNumber, isLine, hasParents};
-ghost use Rattle.placement.specs.InWords.{itemAt, itemsIn, itemsMost, sitesMost};
+ghost use Rattle.placement.specs.InWords.{itemAt, itemsIn};
+ghost use Rattle.limits.specs.Limits.{itemsMost, sitesMost};
 
 // The number for which set-up refuses the first faulty of the items, or 0. More than 64 items count as 64.
 pub fn number(sites: u32, w: &[u32], items: usize) -> u32

@@ -8,15 +8,18 @@ use lib.ListN.{length, getD, set, take, drop, length-set, length-drop, drop-of-l
 use lib.Seq.{getD-set-same, getD-set-other, take-all}
 use lib.Dec.{ltb, leb, eqb}
 use borrow.Author.Tests.{lt-ltb, le-ltb, le-leb, lt-leb, eq-eqb, ne-eqb}
-use Rattle.words.specs.Words.{part, put, overlaid, every}
+use Rattle.words.specs.Words.{part, put, overlaid}
+use Rattle.lists.specs.Lists.{every}
 use Rattle.words.proofs.Parts.{part-length, part-getD, put-length, put-here, put-below, put-getD-below}
-use Rattle.words.proofs.Walks.{overlaid-same, every-false, every-next, every-done}
+use Rattle.words.proofs.Walks.{overlaid-same}
+use Rattle.lists.proofs.Every.{every-false, every-next, every-done}
 use Rattle.timestamp.specs.Timestamp.{Stamp, room}
 use Rattle.timestamp.specs.Order.{byNumber}
 use Rattle.timestamp.specs.InWords.{stampIn, stampSize, stampWords}
 use Rattle.timestamp.specs.Made.{madeBy, stampShaped}
 use Rattle.timestamp.proofs.Words.{stamp-front, words-back, words-length}
-use Rattle.site.specs.InWords.{opIn, opsIn, opsMost, opsSize}
+use Rattle.site.specs.InWords.{opIn, opsIn, opsSize}
+use Rattle.limits.specs.Limits.{opsMost}
 use Rattle.site.proofs.Laws.{op-word, ops-at, ops-length}
 use Rattle.records.specs.Records.{opFits, recordFits}
 use Rattle.records.specs.InWords.{opsAt, recordSize, recordIn, recordRange, Written}

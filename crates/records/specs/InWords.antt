@@ -8,7 +8,8 @@ use lib.Dec.{leb}
 use Rattle.words.specs.Words.{part}
 use Rattle.timestamp.specs.Timestamp.{Stamp, room}
 use Rattle.timestamp.specs.InWords.{stampIn, stampSize}
-use Rattle.site.specs.InWords.{opsIn, opsMost, opsSize}
+use Rattle.site.specs.InWords.{opsIn, opsSize}
+use Rattle.limits.specs.Limits.{opsMost}
 use Rattle.records.specs.Records.{Record}
 
 abbrev pub opsAt : ℕ

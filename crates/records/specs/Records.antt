@@ -3,7 +3,7 @@ use mathlib.Core.Bool.{Bool, _&&_}
 use mathlib.Core.List.{List}
 use Prim.Native.Nat.{ℕ}
 use lib.Dec.{ltb, leb}
-use Rattle.words.specs.Words.{every}
+use Rattle.lists.specs.Lists.{every}
 use Rattle.timestamp.specs.Timestamp.{Stamp}
 use Rattle.timestamp.specs.Order.{byNumber}
 use Rattle.timestamp.specs.Made.{madeBy}

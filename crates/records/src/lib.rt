@@ -5,9 +5,10 @@ ghost use mathlib.Core.Bool.{_&&_};
 ghost use Prim.Native.Nat.{min, _≤_};
 ghost use lib.ListN.{length};
 ghost use lib.Dec.{eqb};
-ghost use Rattle.words.specs.Words.{every};
+ghost use Rattle.lists.specs.Lists.{every};
 ghost use Rattle.timestamp.specs.Timestamp.{stampOf};
-ghost use Rattle.site.specs.InWords.{opsIn, opsMost};
+ghost use Rattle.site.specs.InWords.{opsIn};
+ghost use Rattle.limits.specs.Limits.{opsMost};
 ghost use Rattle.records.specs.Records.{recordFits, opFits};
 ghost use Rattle.records.specs.InWords.{recordIn, recordRange, recordSize, Written};
 

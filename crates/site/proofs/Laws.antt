@@ -15,13 +15,15 @@ use Rattle.words.specs.Words.{part, put, chunks, laid, overlaid}
 use Rattle.words.proofs.Parts.{part-getD, part-length, put-here, put-below, put-above}
 use Rattle.words.proofs.Chunks.{chunks-length, chunks-at, chunks-last, chunks-below}
 use Rattle.words.proofs.Steps.{not-stepped}
-use Rattle.words.proofs.Walks.{laid-in, map-set, overlaid-same}
+use Rattle.words.proofs.Walks.{laid-in, overlaid-same}
+use Rattle.lists.proofs.Lists.{map-set}
 use Rattle.timestamp.specs.Timestamp.{Stamp, room}
 use Rattle.timestamp.specs.InWords.{stampIn, stampWords, stampSize}
 use Rattle.timestamp.proofs.Words.{stamp-front, written-back, words-length}
 use Rattle.site.specs.Operations.{Op, recorded, written, work, worked}
 use Rattle.site.specs.Site.{Site}
-use Rattle.site.specs.InWords.{opIn, opAt, opsIn, opsMost, opsSize, opSize, tableIn, tableSize, siteIn, siteFrom, siteSize, siteRange, Changed}
+use Rattle.site.specs.InWords.{opIn, opAt, opsIn, opsSize, opSize, tableIn, tableSize, siteIn, siteFrom, siteSize, siteRange, Changed}
+use Rattle.limits.specs.Limits.{opsMost}
 
 -- ---- one operation, word by word
 abbrev pub opOf : ℕ → ℕ → ℕ → Op

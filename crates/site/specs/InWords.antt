@@ -8,6 +8,7 @@ use lib.ListN.{getD, length}
 use lib.Dec.{leb}
 use mir.Val.{toZ}
 use mir.Syntax.{w32}
+use Rattle.limits.specs.Limits.{opsMost}
 use Rattle.words.specs.Words.{part, chunks, Stepped}
 use Rattle.timestamp.specs.Timestamp.{room}
 use Rattle.timestamp.specs.InWords.{stampIn, stampSize}
@@ -17,10 +18,6 @@ use Rattle.site.specs.Site.{Site, committed}
 -- ---- operations
 abbrev pub opSize : ℕ
 opSize = 3
-
--- the most operations of a commit
-abbrev pub opsMost : ℕ
-opsMost = 8
 
 abbrev pub opsSize : ℕ
 opsSize = opsMost * opSize

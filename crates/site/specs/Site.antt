@@ -1,5 +1,4 @@
 -- One site: its table and its timestamp, and what a commit, a dummy, an epoch and an arriving message do to it.
-use mathlib.Core.Path.{_≡_}
 use mathlib.Core.List.{List}
 use Prim.Native.Nat.{ℕ}
 use lib.IntN.{ℤ}

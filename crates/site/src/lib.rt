@@ -9,7 +9,8 @@ ghost use Prim.Native.Nat.{min};
 ghost use lib.ListN.{length};
 ghost use Rattle.timestamp.specs.Timestamp.{stampOf};
 ghost use Rattle.site.specs.Site.{dummied, atEpoch, received};
-ghost use Rattle.site.specs.InWords.{siteIn, siteRange, siteSize, opsIn, opsMost, Changed, Committed};
+ghost use Rattle.site.specs.InWords.{siteIn, siteRange, siteSize, opsIn, Changed, Committed};
+ghost use Rattle.limits.specs.Limits.{opsMost};
 
 const STAMP: usize = 18;
 

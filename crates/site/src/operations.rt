@@ -4,7 +4,8 @@ ghost use mathlib.Core.List.{[], _∷_, _++_};
 ghost use Prim.Native.Nat.{min, _+_, _<_};
 ghost use lib.ListN.{length};
 ghost use Rattle.site.specs.Operations.{written, recorded, worked};
-ghost use Rattle.site.specs.InWords.{opAt, opsIn, opsMost, opsSize, tableIn};
+ghost use Rattle.site.specs.InWords.{opAt, opsIn, opsSize, tableIn};
+ghost use Rattle.limits.specs.Limits.{opsMost};
 
 // The operations as the history keeps them: each read with the value that the table has.
 pub fn record(table: &[u32], ops: &[u32], n: usize) -> [u32; 24]

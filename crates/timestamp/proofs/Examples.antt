@@ -1,8 +1,7 @@
 -- The three comparisons printed under Definition 3.3, by computation.
 use mathlib.Core.Path.{_≡_, refl}
-use mathlib.Core.List.{List, map}
+use mathlib.Core.List.{map}
 use lib.ListN.{replicate}
-use Rattle.timestamp.specs.declared.Order.{Order}
 use Rattle.timestamp.specs.declared.Order.the-variants.{Earlier}
 use Rattle.timestamp.specs.Order.{order, orderBy, tuplesOrder, pairOrder, numberOrder}
 use Rattle.timestamp.specs.Examples.{Comparison, comparisons}

@@ -1,6 +1,6 @@
 -- Timestamps that a site makes: the walk that tests for rising sites, and what raising, appending and the last site do to them.
 use mathlib.Core.Path.{_≡_, refl, sym, ap, ap₂, _∙_}
-use mathlib.Core.Bool.{Bool, true, false, _&&_, false≢true}
+use mathlib.Core.Bool.{Bool, true, false, _&&_}
 use mathlib.Core.List.{List, [], _∷_, _++_}
 use Prim.Native.Nat.{ℕ, zero, suc, _+_, _*_, _-_, _≤_, _<_}
 use native.Mathlib.Omega.{arith}
@@ -9,7 +9,7 @@ use lib.ListN.{length, getD, take, drop, drop-of-length-le, length-append}
 use lib.Seq.{drop-cons, getD-take, length-take-le}
 use lib.Dec.{ltb, leb, eqb}
 use borrow.Author.Tests.{lt-ltb, le-ltb, le-leb, lt-leb, ltb-true, leb-true, leb-false, eqb-true, eq-eqb}
-use Rattle.words.proofs.Walks.{and-true}
+use Rattle.lists.proofs.Every.{and-true}
 use Rattle.timestamp.specs.Timestamp.{Pair, Stamp, noPair, room, appended, raisedLast, raised, lastPair, ownSite}
 use Rattle.timestamp.specs.Order.{byNumber, Below}
 use Rattle.timestamp.specs.InWords.{pairAt, pairsAt, stampIn}

@@ -9,7 +9,7 @@ use lib.Dec.{ltb}
 use borrow.Author.Tests.{ltb-true, ltb-false}
 use Rattle.timestamp.specs.declared.Order.{Order}
 use Rattle.timestamp.specs.declared.Order.the-variants.{Earlier, Equal, Later}
-use Rattle.timestamp.specs.Timestamp.{Pair, Stamp, withEpoch, appended, lastPair, raisedLast, raised}
+use Rattle.timestamp.specs.Timestamp.{Pair, Stamp, appended, lastPair, raisedLast, raised}
 use Rattle.timestamp.specs.Order.{thenBy, numberOrder, pairOrder, tuplesOrder, orderBy, notLater, IsEarlier, NotLater, Below, byNumber}
 use Rattle.timestamp.proofs.Steps.{number-earlier, number-later, number-equal}
 use Rattle.timestamp.proofs.Comparisons.{Laws, turned, later≢earlier, equal≢earlier, later≢equal, both-laws, split-same, turn-then, linked, then-trans}

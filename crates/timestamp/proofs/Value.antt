@@ -6,9 +6,8 @@ use native.Mathlib.Omega.{arith}
 use native.Mathlib.Numerals.{add-one}
 use lib.ListN.{length, take, set, getD, length-map, length-take, length-set, List·getD-map, List·getD-eq-default}
 use lib.Seq.{take-suc, take-suc-set, getD-take}
-use lib.Dec.{ltb}
 use borrow.Author.Tests.{lt-ltb, le-ltb}
-use Rattle.words.proofs.Walks.{take-min}
+use Rattle.lists.proofs.Lists.{take-min}
 use Rattle.timestamp.specs.declared.Tuple.{Tuple}
 use Rattle.timestamp.specs.declared.Epoch.{Epoch}
 use Rattle.timestamp.specs.Timestamp.{Pair, Stamp, pairOf, stampOf, noPair, room, greatest, appended, appendedOrSame, lastPair, ownCount, raisedLast, raised, raisedOrSame}

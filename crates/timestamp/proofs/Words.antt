@@ -1,17 +1,17 @@
 -- A timestamp in words: what is read from them, what is written, and that one undoes the other.
 use mathlib.Core.Path.{_≡_, refl, sym, ap, ap₂, _∙_}
-use mathlib.Core.List.{List, [], _∷_, map}
+use mathlib.Core.List.{List, _∷_, map}
 use Prim.Native.Nat.{ℕ, zero, suc, _+_, _*_, _≤_}
 use native.Mathlib.Omega.{arith}
 use lib.ListN.{length, getD, take}
 use lib.Seq.{getD-take}
 use Rattle.words.specs.Words.{overlaid}
-use Rattle.words.proofs.Walks.{spell, spelled, map-take, overlaid-same}
+use Rattle.lists.proofs.Lists.{spelled, map-take}
+use Rattle.words.proofs.Walks.{overlaid-same}
 use Rattle.timestamp.specs.declared.Tuple.{Tuple}
 use Rattle.timestamp.specs.declared.Epoch.{Epoch}
-use Rattle.timestamp.specs.declared.Timestamp.{Timestamp}
 use Rattle.timestamp.specs.Timestamp.{Pair, Stamp, pairOf, stampOf, noPair, room}
-use Rattle.timestamp.specs.InWords.{pairAt, pairsAt, stampIn, wordsFrom, stampWords, stampSize}
+use Rattle.timestamp.specs.InWords.{pairsAt, stampIn, stampWords, stampSize}
 
 -- ---- read
 pub in-law : (w : List ℕ) (e : Epoch) (len : ℕ) (l : List Tuple) → e .0 ≡ getD w 0 0 → len ≡ getD w 1 0 → map pairOf l ≡ pairsAt w 2 room

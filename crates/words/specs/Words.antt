@@ -1,6 +1,6 @@
 -- Lists of words: parts of them, chunks of one size, and what copying and moving words leaves.
 use mathlib.Core.Path.{_≡_}
-use mathlib.Core.Bool.{Bool, true, cond, _&&_}
+use mathlib.Core.Bool.{Bool, true, cond}
 use mathlib.Core.List.{List, [], _∷_, _++_}
 use Prim.Native.Nat.{ℕ, zero, suc, _+_, _-_}
 use lib.ListN.{take, drop, length}
@@ -30,11 +30,6 @@ laid w at ys = cond (leb (at + length ys) (length w)) (put w at (length ys) ys) 
 -- every word k places further to the front; the last k stay as they are
 abbrev pub shifted : List ℕ → ℕ → List ℕ
 shifted w k = drop k w ++ drop (length w - k) w
-
--- each element passes the test
-abbrev pub every : {A : Type 0} → (A → Bool) → List A → Bool
-every p [] = true
-every p (x ∷ xs) = p x && every p xs
 
 -- what a call leaves of the words of one thing: its meaning as the step says and what is in range still so, words of another size as they were
 pub record Stepped {A : Type 0} (size : ℕ) (meaning : List ℕ → A) (range : List ℕ → Bool) (step : A → A) (entry exit : List ℕ) : Type 0 where

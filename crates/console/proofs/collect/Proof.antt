@@ -2,11 +2,11 @@
 use mathlib.Core.Path.{_≡_, sym, _∙_}
 use Prim.Native.Nat.{_+_, _-_, _≤_}
 use native.Mathlib.Omega.{arith}
-use lib.ListN.{length, take, drop, set, length-take, length-drop, length-set}
+use lib.ListN.{length, drop, set, length-take, length-drop, length-set}
 use lib.Seq.{length-take-le}
 use Rattle.words.proofs.Parts.{lent-size, lent-length}
 use Rattle.decimal.proofs.Printing.{front-fits}
-use Rattle.script.proofs.Putting.{put-end}
+use Rattle.script_notation.proofs.Putting.{put-end}
 use borrow.Author.Needs.{needs}
 use Rattle.console.proofs.collect.Statement.{statement}
 use Rattle.console.proofs.collect.Tie as tie

@@ -1,6 +1,6 @@
 -- `decimal::magnitude` takes a number below zero away from -1.
 use Rattle.words.proofs.Signed.{bits-cast, bits-sub, bits-cast-2}
-use Rattle.decimal.proofs.Signs.{plus-magnitude, minus-magnitude, minus-room}
+use Rattle.decimal.proofs.Signs.{minus-magnitude, minus-room}
 use borrow.Author.Needs.{needs}
 use Rattle.decimal.proofs.magnitude.Statement.{statement}
 use Rattle.decimal.proofs.magnitude.Tie as tie

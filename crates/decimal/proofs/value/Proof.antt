@@ -1,11 +1,8 @@
 -- `decimal::value` walks the digits: what is told of the rest behind the value so far is what is told of all.
-use mathlib.Core.Path.{_≡_, refl, sym, ap, _∙_}
-use Prim.Native.Nat.{ℕ, _≤_, _-_}
+use mathlib.Core.Path.{_≡_, refl, sym}
+use Prim.Native.Nat.{_≤_, _-_}
 use native.Mathlib.Omega.{arith}
-use native.Mathlib.Numerals.{add-one}
-use mathlib.Core.List.{List}
-use lib.ListN.{length, getD, drop}
-use lib.Seq.{drop-cons}
+use lib.ListN.{length, drop}
 use Rattle.decimal.specs.Decimal.{greatest}
 use Rattle.decimal.proofs.Values.{told, walk-out, walk-next, walk-end}
 use borrow.Author.Needs.{needs}

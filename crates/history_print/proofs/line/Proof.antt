@@ -1,7 +1,7 @@
 -- `line` prints within the buffer.
 use native.Mathlib.Omega.{arith}
 use Rattle.decimal.proofs.Printing.{front-fits}
-use Rattle.script.proofs.Putting.{put-end}
+use Rattle.script_notation.proofs.Putting.{put-end}
 use borrow.Author.Needs.{needs}
 use Rattle.history_print.proofs.line.Statement.{statement}
 use Rattle.history_print.proofs.line.Tie as tie

@@ -1,8 +1,7 @@
 -- `load` reads on until nothing comes or the buffer is full.
-use mathlib.Core.Path.{_≡_, refl, sym, _∙_}
-use Prim.Native.Nat.{_+_, _-_, _≤_}
-use native.Mathlib.Omega.{arith}
-use lib.ListN.{length, drop, length-drop}
+use mathlib.Core.Path.{_≡_}
+use Prim.Native.Nat.{_-_, _≤_}
+use lib.ListN.{length}
 use borrow.Author.Needs.{needs}
 use Rattle.history_print.proofs.load.Statement.{statement}
 use Rattle.history_print.proofs.load.Tie as tie

@@ -1,18 +1,18 @@
 -- `save` writes the file, which an accepted export has put in the buffer.
-use mathlib.Core.Path.{_≡_, refl, sym, ap, _∙_}
+use mathlib.Core.Path.{_≡_, refl, sym, ap}
 use mathlib.Core.Bool.{Bool, true, false}
 use mathlib.Core.List.{List}
 use mathlib.Core.Option.{Option, none, some}
 use Prim.Native.Nat.{ℕ, _≤_}
 use native.Mathlib.Omega.{arith}
 use lib.ListN.{length, replicate}
-use Rattle.network.specs.InWords.{meaning}
+use Rattle.network_layout.specs.InWords.{meaning}
 use lib.Dec.{ltb}
 use lib.Seq.{length-take-le}
-use borrow.Author.Tests.{ltb-true, ltb-false}
-use Rattle.network.specs.Network.{Network}
-use Rattle.history.specs.File.{historyOf, fileOf}
-use Rattle.history.specs.Promises.{Export, exported, exportOf}
+use borrow.Author.Tests.{ltb-false}
+use Rattle.protocol.specs.Network.{Network}
+use Rattle.history_file.specs.File.{historyOf, fileOf}
+use Rattle.history_file.specs.Promises.{Export, exported, exportOf}
 use borrow.Author.Needs.{needs}
 use Rattle.history_write.proofs.save.Statement.{statement}
 use Rattle.history_write.proofs.save.Tie as tie

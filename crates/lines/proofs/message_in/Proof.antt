@@ -5,7 +5,7 @@ use Prim.Native.Nat.{ℕ}
 use lib.Dec.{ltb}
 use Rattle.timestamp.specs.Timestamp.{Stamp}
 use Rattle.lines.specs.Lines.{commit, dummy}
-use Rattle.lines.specs.InWords.{recordsMost}
+use Rattle.limits.specs.Limits.{recordsMost}
 use borrow.Author.Needs.{needs}
 use Rattle.lines.proofs.message_in.Statement.{statement}
 use Rattle.lines.proofs.message_in.Tie as tie

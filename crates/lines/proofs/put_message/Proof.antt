@@ -1,5 +1,4 @@
 -- `put_message` writes the name and then the timestamp of a message.
-use mathlib.Core.Path.{_≡_, sym, ap, _∙_}
 use native.Mathlib.Omega.{arith}
 use lib.ListN.{length-set}
 use Rattle.timestamp.specs.Timestamp.{stampOf}

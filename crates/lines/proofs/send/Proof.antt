@@ -1,7 +1,4 @@
 -- `send` puts a message behind those held and counts it.
-use mathlib.Core.Path.{_∙_}
-use lib.ListN.{length-set}
-use native.Mathlib.Omega.{arith}
 use Rattle.words.proofs.Steps.{not-stepped}
 use Rattle.lines.specs.Lines.{sentOrSame}
 use Rattle.lines.specs.InWords.{lineSize, lineIn, lineRange, messageOf}

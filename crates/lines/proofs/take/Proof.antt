@@ -1,8 +1,4 @@
 -- `take` counts one message less, held and arrived, and moves the others to the front.
-use mathlib.Core.Path.{_≡_, sym, ap, subst, _∙_}
-use mathlib.Core.List.{List}
-use Prim.Native.Nat.{ℕ}
-use native.Mathlib.Omega.{arith}
 use Rattle.words.proofs.Steps.{not-stepped}
 use Rattle.lines.specs.Lines.{takenOrSame}
 use Rattle.lines.specs.InWords.{lineSize, lineIn, lineRange}

@@ -46,17 +46,17 @@ use denote.Triple.Spec.{Meets, tripleOf}
 use denote.Triple.Table.{entered, cited}
 use denote.Triple.Walked.{Stays, gave-ref, stay-none, walkOf, goes-gave-ref, goes-none, Walks, ends-at, walked, walk-meets}
 use denote.Exit.{yes}
-use Rattle.network.specs.declared.Operation.{Operation}
-use Rattle.network.specs.declared.Committed.{Committed}
-use Rattle.network.specs.Layout.{stateSize}
-use Rattle.network.proofs.Operation as T
-use Rattle.network.proofs.Operation.Laws as T′
-use Rattle.network.proofs.Committed as R
-use Rattle.network.proofs.Committed.Laws as R′
-use Rattle.network.proofs.commit_operations as entry
-use Rattle.network.proofs.commit_operations.Symbol as entry-def
-use Rattle.network.proofs.commit_operations.Symbol.{name as #entry}
-use Rattle.network.proofs.commit_operations.Met as entry-thm
+use Rattle.network_layout.specs.declared.Operation.{Operation}
+use Rattle.network_layout.specs.declared.Committed.{Committed}
+use Rattle.network_layout.specs.Layout.{stateSize}
+use Rattle.network_layout.proofs.Operation as T
+use Rattle.network_layout.proofs.Operation.Laws as T′
+use Rattle.network_layout.proofs.Committed as R
+use Rattle.network_layout.proofs.Committed.Laws as R′
+use Rattle.network_operations.proofs.commit_operations as entry
+use Rattle.network_operations.proofs.commit_operations.Symbol as entry-def
+use Rattle.network_operations.proofs.commit_operations.Symbol.{name as #entry}
+use Rattle.network_operations.proofs.commit_operations.Met as entry-thm
 use Rattle.network_cases.proofs.commit_two.Key.{name as #two}
 use Rattle.network_cases.proofs.commit_two as two
 use Rattle.network_cases.proofs.commit_two.Statement as stated
@@ -249,4 +249,4 @@ commit-two-spec 𝓤 H 𝓜 𝓖 𝓡 =
     entered 𝓤 H (tripleOf 𝓤 H (𝓖 .A) two.signature (two.spec 𝓤 H (𝓖 .A) (𝓜 .mem) (𝓡 .run)))
     (tables 𝓤 H 𝓜 𝓡 code.env .C) (tables 𝓤 H 𝓜 𝓡 code.env .Λ) #two code.function (code.unfolded 𝓤 H 𝓜 𝓡)
     (two-meets 𝓤 H (𝓖 .A) (givenOf 𝓤 H 𝓜 𝓖) (𝓜 .mem) (𝓡 .run) (tablesOf 𝓤 H 𝓜 (tables 𝓤 H 𝓜 𝓡 code.env))
-    (cited 𝓤 H (Entry 𝓤 H (𝓖 .A) (𝓜 .mem) (𝓡 .run)) 𝓜 𝓡 code.env #entry entry-def.routine code.calls-network·commit-operations (entry-thm.met 𝓤 H 𝓜 𝓖 𝓡)))
+    (cited 𝓤 H (Entry 𝓤 H (𝓖 .A) (𝓜 .mem) (𝓡 .run)) 𝓜 𝓡 code.env #entry entry-def.routine code.calls-network-operations·commit-operations (entry-thm.met 𝓤 H 𝓜 𝓖 𝓡)))

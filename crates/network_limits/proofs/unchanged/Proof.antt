@@ -1,6 +1,5 @@
 -- `unchanged` ends: i rises to the number of words.
 use Prim.Native.Nat.{_≤_, _-_}
-use native.Mathlib.Omega.{arith}
 use borrow.Author.Needs.{needs}
 use Rattle.network_limits.proofs.unchanged.Statement.{statement}
 use Rattle.network_limits.proofs.unchanged.Tie as tie

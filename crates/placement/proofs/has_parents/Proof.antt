@@ -4,8 +4,10 @@ use Prim.Native.Nat.{ℕ, _-_, min}
 use native.Mathlib.Omega.{arith}
 use lib.ListN.{drop}
 use Rattle.placement.specs.Masks.{bit}
-use Rattle.placement.specs.Placement.{any, hasParents}
-use Rattle.placement.specs.InWords.{itemsIn, itemsMost, itemAt}
+use Rattle.lists.specs.Lists.{any}
+use Rattle.placement.specs.Placement.{hasParents}
+use Rattle.placement.specs.InWords.{itemsIn, itemAt}
+use Rattle.limits.specs.Limits.{itemsMost}
 use Rattle.placement.proofs.Items.{copied, found, not-yet, not-found}
 use borrow.Author.Needs.{needs}
 use Rattle.placement.proofs.has_parents.Statement.{statement}

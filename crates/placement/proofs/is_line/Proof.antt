@@ -3,8 +3,10 @@ use mathlib.Core.Path.{_≡_, sym, _∙_}
 use Prim.Native.Nat.{_-_, min}
 use native.Mathlib.Omega.{arith}
 use lib.ListN.{drop}
-use Rattle.placement.specs.Placement.{any, isLine}
-use Rattle.placement.specs.InWords.{itemsIn, itemsMost}
+use Rattle.lists.specs.Lists.{any}
+use Rattle.placement.specs.Placement.{isLine}
+use Rattle.placement.specs.InWords.{itemsIn}
+use Rattle.limits.specs.Limits.{itemsMost}
 use Rattle.placement.proofs.Items.{joined, found, not-yet, not-found}
 use borrow.Author.Needs.{needs}
 use Rattle.placement.proofs.is_line.Statement.{statement}

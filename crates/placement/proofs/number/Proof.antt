@@ -4,7 +4,8 @@ use Prim.Native.Nat.{ℕ, _-_, min}
 use native.Mathlib.Omega.{arith}
 use lib.ListN.{drop}
 use Rattle.placement.specs.Placement.{itemNumber, itemsNumber}
-use Rattle.placement.specs.InWords.{itemsIn, itemsMost, itemAt}
+use Rattle.placement.specs.InWords.{itemsIn, itemAt}
+use Rattle.limits.specs.Limits.{itemsMost}
 use Rattle.placement.proofs.Items.{faulty, not-yet-faulty, not-faulty}
 use borrow.Author.Needs.{needs}
 use Rattle.placement.proofs.number.Statement.{statement}

@@ -3,7 +3,7 @@ use mathlib.Core.Path.{_≡_, refl}
 use Prim.Native.Nat.{_≤_, _-_}
 use native.Mathlib.Omega.{arith}
 use lib.ListN.{drop}
-use Rattle.words.specs.Words.{every}
+use Rattle.lists.specs.Lists.{every}
 use Rattle.site.specs.InWords.{opsIn}
 use Rattle.records.specs.Records.{opFits}
 use Rattle.records.proofs.Laws.{kind-unknown, item-unknown, walk-next, walk-done}

@@ -2,9 +2,9 @@
 use mathlib.Core.Path.{sym, ap}
 use Prim.Native.Nat.{ℕ}
 use lib.ListN.{getD}
-use Rattle.script.specs.Fields.{fieldsFrom}
-use Rattle.script.specs.Parse.{called as calledBy}
-use Rattle.script.proofs.Replying.{replied-none, replied-as, no-letter}
+use Rattle.script_notation.specs.Fields.{fieldsFrom}
+use Rattle.script_notation.specs.Parse.{called as calledBy}
+use Rattle.script_notation.proofs.Replying.{replied-none, replied-as, no-letter}
 use borrow.Author.Needs.{needs}
 use Rattle.script.proofs.called.Statement.{statement}
 use Rattle.script.proofs.called.Tie as tie

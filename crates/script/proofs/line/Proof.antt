@@ -1,8 +1,7 @@
 -- `line` asks for a line that is not too long and a letter that is a field of its own.
 use native.Mathlib.Omega.{arith}
-use lib.ListN.{length}
-use Rattle.script.proofs.Places.{place-within}
-use Rattle.script.proofs.Replying.{replied-none, replied-as, too-long, other-letter, one-letter}
+use Rattle.script_notation.proofs.Places.{place-within}
+use Rattle.script_notation.proofs.Replying.{replied-none, replied-as, too-long, other-letter, one-letter}
 use borrow.Author.Needs.{needs}
 use Rattle.script.proofs.line.Statement.{statement}
 use Rattle.script.proofs.line.Tie as tie

@@ -10,7 +10,8 @@ use Rattle.timestamp.specs.Timestamp.{stampOf, raisedOrSame}
 use Rattle.timestamp.specs.InWords.{stampSize}
 use Rattle.site.specs.Operations.{worked}
 use Rattle.site.specs.Site.{committed}
-use Rattle.site.specs.InWords.{siteIn, opsIn, opsMost, tableSize}
+use Rattle.site.specs.InWords.{siteIn, opsIn, tableSize}
+use Rattle.limits.specs.Limits.{opsMost}
 use Rattle.site.proofs.Laws.{table-law, table-put, stepped, changed, unchanged}
 use borrow.Author.Needs.{needs}
 use Rattle.site.proofs.commit.Statement.{statement}

@@ -5,7 +5,8 @@ use Prim.Native.Nat.{_≤_, _-_, min}
 use native.Mathlib.Omega.{arith}
 use Rattle.words.specs.Words.{chunks}
 use Rattle.site.specs.Operations.{recorded}
-use Rattle.site.specs.InWords.{opsIn, opsMost, tableIn}
+use Rattle.site.specs.InWords.{opsIn, tableIn}
+use Rattle.limits.specs.Limits.{opsMost}
 use Rattle.site.proofs.Laws.{kept-next, kept-all}
 use borrow.Author.Needs.{needs}
 use Rattle.site.proofs.operations.record.Statement.{statement}

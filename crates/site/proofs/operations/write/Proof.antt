@@ -6,7 +6,8 @@ use native.Mathlib.Omega.{arith}
 use lib.IntN.{ℤ}
 use lib.ListN.{length, drop}
 use Rattle.site.specs.Operations.{work, worked}
-use Rattle.site.specs.InWords.{opsIn, opsMost, tableIn}
+use Rattle.site.specs.InWords.{opsIn, tableIn}
+use Rattle.limits.specs.Limits.{opsMost}
 use Rattle.site.proofs.Laws.{work-next, work-end}
 use borrow.Author.Needs.{needs}
 use Rattle.site.proofs.operations.write.Statement.{statement}

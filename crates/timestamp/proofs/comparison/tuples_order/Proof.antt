@@ -4,10 +4,10 @@ use mathlib.Core.List.{List}
 use Prim.Native.Nat.{suc, _≤_, _-_}
 use native.Mathlib.Omega.{arith}
 use native.Mathlib.Numerals.{add-one}
-use lib.ListN.{drop, getD}
+use lib.ListN.{drop}
 use Rattle.timestamp.specs.declared.Order.{Order}
 use Rattle.timestamp.specs.declared.Order.the-variants.{Earlier, Equal, Later}
-use Rattle.timestamp.specs.Timestamp.{Pair, stampOf, noPair}
+use Rattle.timestamp.specs.Timestamp.{Pair, stampOf}
 use Rattle.timestamp.specs.Order.{byNumber, thenBy, pairOrder, tuplesOrder}
 use Rattle.timestamp.proofs.Steps.{both-go-on, second-ends, first-ends, both-end}
 use borrow.Author.Needs.{needs}

@@ -1,5 +1,5 @@
 -- `made_by` tests the number of tuples, that the sites rise, and the last site.
-use mathlib.Core.Path.{_≡_, _∙_}
+use mathlib.Core.Path.{_∙_}
 use native.Mathlib.Omega.{arith}
 use borrow.Author.Tests.{not-true, not-false}
 use Rattle.timestamp.proofs.Made.{shaped-many, shaped-none, shaped-not-rising, shaped-by-site}

@@ -1,0 +1,182 @@
+-- The history of a well-shaped state fits the file, so what an export wrote reads back.
+use mathlib.Core.Path.{_≡_, refl, sym, subst}
+use mathlib.Core.Bool.{Bool, true, false, _&&_}
+use mathlib.Core.List.{List, [], _∷_, _++_, map}
+use mathlib.Core.Option.{some}
+use Prim.Native.Nat.{ℕ, zero, suc, _+_, _≤_, _<_, min}
+use native.Mathlib.Omega.{arith}
+use lib.ListN.{length, getD, take, drop}
+use lib.Seq.{take-append-seam}
+use lib.Dec.{eqb, ltb, leb}
+use borrow.Author.Tests.{leb-true, ltb-true}
+use mir.ValLaws.{toZ-fits}
+use mir.Syntax.{w32}
+use Rattle.words.specs.Words.{part, chunks}
+use Rattle.lists.specs.Lists.{every, everyFrom}
+use Rattle.lists.proofs.Every.{and-true}
+use Rattle.timestamp.specs.Timestamp.{Pair, Stamp, lastPair, room}
+use Rattle.timestamp.specs.Order.{byNumber}
+use Rattle.timestamp.specs.InWords.{pairsAt, stampIn, stampSize}
+use Rattle.timestamp.specs.Made.{rising as risingOf, madeBy}
+use Rattle.timestamp.proofs.Made.{made-parts, made-length}
+use Rattle.site.specs.InWords.{opIn, opsIn, opSize, opsSize}
+use Rattle.limits.specs.Limits.{opsMost}
+use Rattle.site.proofs.Laws.{ops-length}
+use Rattle.placement.specs.Placement.{itemsNumber}
+use Rattle.records.specs.Records.{opFits, recordFits}
+use Rattle.records.specs.InWords.{recordIn, recordRange, recordSize, opsAt}
+use Rattle.network_layout.specs.Layout.{historyAt, historySize}
+use Rattle.protocol.specs.Network.{lineFits, wellShaped}
+use Rattle.network_layout.specs.InWords.{recordWords, networkIn, shaped, meaning}
+use Rattle.network_layout.proofs.Assembled.{partsOf, range-parts}
+use Rattle.network_layout.proofs.Performs.{sites-count, items-count, records-count, shaped-range, shaped-well}
+use Rattle.history_file.specs.File.{historyOf, fileOf}
+use Rattle.history_file.specs.Reading.{fileNumber, historyRead}
+use Rattle.history_file.specs.Promises.{exportOf}
+use Rattle.history_file.proofs.OnlyFile.{every-drop, every-take}
+use Rattle.history_file.proofs.RoundTrip.{All, none as no-more, more, PairFits, OpFits, RecordFits, HistoryFits, reads-back}
+
+-- ---- words of 32 bits
+abbrev pub isWord : ℕ → Bool
+isWord x = ltb x 4294967296
+
+abbrev pub Words : List ℕ → Type 0
+Words l = every isWord l ≡ true
+
+word-at : (l : List ℕ) (i : ℕ) → Words l → getD l i 0 < 4294967296
+word-at [] i e = omega arith
+word-at (x ∷ l) zero e = ltb-true x 4294967296 (and-true (isWord x) (every isWord l) e .0)
+word-at (x ∷ l) (suc i) e = word-at l i (and-true (isWord x) (every isWord l) e .1)
+
+words-part : (l : List ℕ) (at n : ℕ) → Words l → Words (part l at n)
+words-part l at n e = every-take isWord n (drop at l) (every-drop isWord at l e)
+
+words-chunks : (m k : ℕ) (l : List ℕ) → Words l → All Words (chunks m k l)
+unfolding chunks
+words-chunks m zero l e = no-more
+words-chunks m (suc k) l e = more (every-take isWord m l e) (words-chunks m k (drop m l) (every-drop isWord m l e))
+
+-- ---- a timestamp
+all-take : {A : Type 0} {P : A → Type 0} (n : ℕ) (xs : List A) → All P xs → All P (take n xs)
+all-take zero xs a = no-more
+all-take (suc n) [] a = no-more
+all-take (suc n) (x ∷ xs) (more p a) = more p (all-take n xs a)
+
+counts-fit : (w : List ℕ) (at n : ℕ) → Words w → All (λ (p : Pair). p .count < 4294967296) (pairsAt w at n)
+counts-fit w at zero e = no-more
+counts-fit w at (suc n) e = more (word-at w (at + 1) e) (counts-fit w (at + 2) n e)
+
+first-of : {P : Pair → Type 0} (x : Pair) (xs : List Pair) → All P (x ∷ xs) → P x
+first-of x xs (more p a) = p
+
+-- rising sites are at most the last
+sites-fit : (ps : List Pair) (j : ℕ) → risingOf byNumber ps ≡ true → lastPair ps .site ≡ j → All (λ (p : Pair). p .site ≤ j) ps
+unfolding risingOf
+sites-fit [] j r e = no-more
+sites-fit (x ∷ []) j r e = more {x = x} (omega arith) no-more
+sites-fit (x ∷ (y ∷ ys)) j r e =
+    let q = and-true (ltb (x .site) (y .site)) (risingOf byNumber (y ∷ ys)) r in
+    let rest = sites-fit (y ∷ ys) j (q .1) e in
+    more {x = x} (omega (arith, ltb-true (x .site) (y .site) (q .0), first-of y ys rest)) rest
+
+pairs-fit : (ps : List Pair) (j : ℕ) → j < 256 → All (λ (p : Pair). p .site ≤ j) ps → All (λ (p : Pair). p .count < 4294967296) ps → All PairFits ps
+pairs-fit [] j h a b = no-more
+pairs-fit (p ∷ ps) j h (more s a) (more c b) = more {x = p} (record { site = omega arith; count = c }) (pairs-fit ps j h a b)
+
+-- ---- operations
+ops-fit : (items : ℕ) → items ≤ 64 → (n : ℕ) (w : List ℕ) → Words w → every (opFits items) (opsIn n w) ≡ true → All OpFits (opsIn n w)
+unfolding chunks
+ops-fit items h zero w e f = no-more
+ops-fit items h (suc n) w e f =
+    let u = take opSize w in
+    let q = and-true (opFits items (opIn u)) (every (opFits items) (opsIn n (drop opSize w))) f in
+    let k = and-true (leb (opIn u .kind) 1) (ltb (opIn u .item) items) (q .0) in
+    more {x = opIn u}
+    (record {
+      kind = omega (arith, leb-true (opIn u .kind) 1 (k .0));
+      item = omega (arith, ltb-true (opIn u .item) items (k .1));
+      value = toZ-fits w32 (getD u 2 0) (record { fits = word-at u 2 (every-take isWord opSize w e) });
+    })
+    (ops-fit items h n (drop opSize w) (every-drop isWord opSize w e) (q .1))
+
+-- ---- a record
+module _ (sites items : ℕ) (few-sites : sites ≤ 8) (few-items : items ≤ 64) where
+  record-fits : (w : List ℕ) → Words w → recordRange w ≡ true → recordFits sites items (recordIn w) ≡ true → RecordFits sites items (recordIn w)
+  unfolding recordIn recordFits recordRange stampIn
+  record-fits w e r f =
+      let s = part w 2 stampSize in
+      let os = part w opsAt opsSize in
+      let site = getD w 0 0 in
+      let stamp : Stamp = stampIn s in
+      let n = min (getD w 1 0) opsMost in
+      let p = and-true (ltb site sites) (madeBy byNumber site stamp && every (opFits items) (opsIn n os)) f in
+      let q = and-true (madeBy byNumber site stamp) (every (opFits items) (opsIn n os)) (p .1) in
+      let c = and-true (leb 1 (getD w 1 0)) (leb (getD w 1 0) opsMost && leb (getD w 3 0) room) r in
+      let m = made-parts byNumber site stamp (q .0) in
+      let below : site < sites = ltb-true site sites (p .0) in
+      let some : 1 ≤ getD w 1 0 = leb-true 1 (getD w 1 0) (c .0) in
+      let counts : All (λ (x : Pair). x .count < 4294967296) (stamp .tuples) = all-take (getD s 1 0) (pairsAt s 2 room) (counts-fit s 2 room (words-part w 2 stampSize e)) in
+      record {
+        fits = f;
+        site = omega arith;
+        epoch = word-at s 0 (words-part w 2 stampSize e);
+        some-tuples = omega (arith, m .some);
+        few-tuples = omega (arith, made-length site stamp (q .0));
+        some-ops = omega (arith, ops-length n os);
+        few-ops = omega (arith, ops-length n os);
+        tuples = pairs-fit (stamp .tuples) site (omega arith) (sites-fit (stamp .tuples) site (m .rises) (m .last)) counts;
+        ops = ops-fit items few-items n os (words-part w opsAt opsSize e) (q .1);
+      }
+
+  records-fit : (ws : List (List ℕ)) → All Words ws → every recordRange ws ≡ true → every (recordFits sites items) (map recordIn ws) ≡ true → All (RecordFits sites items) (map recordIn ws)
+  records-fit [] a r f = no-more
+  records-fit (w ∷ ws) (more e a) r f =
+      let p = and-true (recordRange w) (every recordRange ws) r in
+      let q = and-true (recordFits sites items (recordIn w)) (every (recordFits sites items) (map recordIn ws)) f in
+      more (record-fits w e (p .0) (q .0)) (records-fit ws a (p .1) (q .1))
+
+-- ---- a state
+pub history-fits : (w : List ℕ) → Words w → shaped w ≡ true → HistoryFits (historyOf (networkIn w))
+unfolding partsOf networkIn wellShaped
+history-fits w e s =
+    let r = range-parts w (shaped-range w s) in
+    let n = networkIn w in
+    let sites = length (n .sites) in
+    let items = length (n .items) in
+    let a = and-true (eqb (itemsNumber sites (n .items)) 0) (everyFrom (λ i x. madeBy byNumber i (x .stamp)) 0 (n .sites) && (every (recordFits sites items) (n .history) && everyFrom (lineFits (n .items) (n .history)) 0 (n .lines))) (shaped-well w s) .1 in
+    let b = and-true (everyFrom (λ i x. madeBy byNumber i (x .stamp)) 0 (n .sites)) (every (recordFits sites items) (n .history) && everyFrom (lineFits (n .items) (n .history)) 0 (n .lines)) a .1 in
+    let c = and-true (every (recordFits sites items) (n .history)) (everyFrom (lineFits (n .items) (n .history)) 0 (n .lines)) b .0 in
+    let few-sites : sites ≤ 8 = omega (arith, sites-count w, r .few-sites) in
+    let few-items : items ≤ 64 = omega (arith, items-count w 0, r .few-items) in
+    record {
+      some-sites = omega (arith, sites-count w, r .some-sites);
+      few-sites = few-sites;
+      some-items = omega (arith, items-count w 0, r .some-items);
+      few-items = few-items;
+      few-records = omega (arith, records-count w, r .few-records);
+      records = records-fit sites items few-sites few-items (recordWords w) (words-chunks recordSize (getD w 2 0) (part w historyAt historySize) (words-part w historyAt historySize e)) (r .record-ranges) c;
+    }
+
+-- the file of a well-shaped state, alone or at the end of any longer buffer, reads back to its history
+pub state-reads-back : (w : List ℕ) → Words w → shaped w ≡ true → (before : List ℕ)
+    → (fileNumber (before ++ fileOf (historyOf (networkIn w))) ≡ 0) × (historyRead (before ++ fileOf (historyOf (networkIn w))) ≡ historyOf (networkIn w))
+state-reads-back w e s before = reads-back (historyOf (networkIn w)) (history-fits w e s) before
+
+-- what an accepted export wrote is that file
+pub export-wrote : (w b : List ℕ) → exportOf (meaning w) b .number ≡ 0 → (shaped w ≡ true) × (take (exportOf (meaning w) b .size) (exportOf (meaning w) b .buffer) ≡ fileOf (historyOf (networkIn w)))
+unfolding exportOf meaning
+export-wrote w b e = one (shaped w) refl
+  where
+    two : (s : shaped w ≡ true) (c : Bool) → ltb (length b) (length (fileOf (historyOf (networkIn w)))) ≡ c → (shaped w ≡ true) × (take (exportOf (meaning w) b .size) (exportOf (meaning w) b .buffer) ≡ fileOf (historyOf (networkIn w)))
+    two s true l = absurd (let z : _≡_ {A = ℕ} 25 0 = rw (s, l) at e in omega arith)
+    two s false l = (s, rw (s, l) (take-append-seam (fileOf (historyOf (networkIn w))) (drop (length (fileOf (historyOf (networkIn w)))) b)))
+
+    one : (c : Bool) → shaped w ≡ c → (shaped w ≡ true) × (take (exportOf (meaning w) b .size) (exportOf (meaning w) b .buffer) ≡ fileOf (historyOf (networkIn w)))
+    one true s = two s (ltb (length b) (length (fileOf (historyOf (networkIn w))))) refl
+    one false s = absurd (let z : _≡_ {A = ℕ} 6 0 = rw s at e in omega arith)
+
+pub export-reads-back : (w b : List ℕ) → Words w → exportOf (meaning w) b .number ≡ 0 → (before : List ℕ)
+    → (fileNumber (before ++ take (exportOf (meaning w) b .size) (exportOf (meaning w) b .buffer)) ≡ 0) × (historyRead (before ++ take (exportOf (meaning w) b .size) (exportOf (meaning w) b .buffer)) ≡ historyOf (networkIn w))
+export-reads-back w b e n before =
+    let x = export-wrote w b n in
+    subst (λ (f : List ℕ). (fileNumber (before ++ f) ≡ 0) × (historyRead (before ++ f) ≡ historyOf (networkIn w))) (sym (x .1)) (state-reads-back w e (x .0) before)

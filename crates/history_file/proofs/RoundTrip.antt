@@ -1,0 +1,308 @@
+-- What a history is written as reads back to the same history, alone or at the end of any longer buffer.
+use mathlib.Core.Path.{_≡_, refl, sym, ap, ap₂, _∙_}
+use mathlib.Core.Bool.{Bool, true, _&&_}
+use mathlib.Core.List.{List, [], _∷_, _++_, map, append-assoc}
+use Prim.Native.Nat.{ℕ, _+_, _-_, _*_, _/_, _≤_, _<_}
+use native.Mathlib.Omega.{arith}
+use lib.ListN.{length, getD, take, drop, length-append}
+use lib.Seq.{take-at, drop-at, drop-drop, take-append-seam, drop-append-seam, getD-append-add}
+use lib.Dec.{eqb, leb}
+use borrow.Author.Tests.{le-leb, eq-eqb}
+use mir.Val.{toZ, ofZ, SFits}
+use mir.ValLaws.{toZ-ofZ, ofZ-fits}
+use mir.Syntax.{w32}
+use Rattle.words.specs.Words.{part, chunks}
+use Rattle.lists.specs.Lists.{every}
+use Rattle.timestamp.specs.Timestamp.{Pair, room}
+use Rattle.site.specs.Operations.{Op}
+use Rattle.limits.specs.Limits.{opsMost}
+use Rattle.records.specs.Records.{Record, recordFits}
+use Rattle.history_file.specs.Bytes.{byte, unitSize, unit, joined, numberAt, padded, zeros}
+use Rattle.history_file.specs.File.{History, pairBytes, opBytes, recordBytes, mark, trailer, trailerSize, body, fileOf}
+use Rattle.history_file.specs.Reading.{pairRead, opRead, tupleCount, opCount, tupleUnits, opUnits, opsFrom, recordRead, sizeRead, recordValid, recordsRead, recordsFill, trailerAt, same, marked, countRead, distanceRead, sitesRead, itemsRead, partRead, valid, fileNumber, historyRead}
+use Rattle.history_file.proofs.Written.{unit-length, pair-size, op-size, pairs-size, record-size}
+use Rattle.history_file.proofs.Exports.{file-length}
+use Rattle.history_file.proofs.Files.{Accepted, accepts, history-read}
+
+-- ---- histories whose fields fit the file
+pub data All {A : Type 0} (P : A → Type 0) : List A → Type 0 where
+  none : All P []
+  more : {x : A} {xs : List A} → P x → All P xs → All P (x ∷ xs)
+
+pub record PairFits (p : Pair) : Type 0 where
+  pub site : p .site < 256
+  pub count : p .count < 4294967296
+
+pub record OpFits (o : Op) : Type 0 where
+  pub kind : o .kind < 256
+  pub item : o .item < 256
+  pub value : SFits w32 (o .value)
+
+pub record RecordFits (sites items : ℕ) (r : Record) : Type 0 where
+  pub fits : recordFits sites items r ≡ true
+  pub site : r .site < 256
+  pub epoch : r .stamp .epoch < 4294967296
+  pub some-tuples : 1 ≤ length (r .stamp .tuples)
+  pub few-tuples : length (r .stamp .tuples) ≤ room
+  pub some-ops : 1 ≤ length (r .ops)
+  pub few-ops : length (r .ops) ≤ opsMost
+  pub tuples : All PairFits (r .stamp .tuples)
+  pub ops : All OpFits (r .ops)
+
+pub record HistoryFits (h : History) : Type 0 where
+  pub some-sites : 1 ≤ h .sites
+  pub few-sites : h .sites ≤ 8
+  pub some-items : 1 ≤ h .items
+  pub few-items : h .items ≤ 64
+  pub few-records : length (h .records) ≤ 256
+  pub records : All (RecordFits (h .sites) (h .items)) (h .records)
+
+-- ---- numbers
+small : (n : ℕ) → n < 256 → byte n ≡ n
+small n h = omega arith
+
+number-of : (n : ℕ) → n < 4294967296 → byte n + 256 * (byte (n / 256) + 256 * (byte (n / 256 / 256) + 256 * byte (n / 256 / 256 / 256))) ≡ n
+number-of n h = omega arith
+
+module _ (x y z n : ℕ) (r : List ℕ) where
+  unit-number : n < 4294967296 → numberAt (unit x y z n ++ r) 4 ≡ n
+  unfolding unit numberAt
+  unit-number h = number-of n h
+
+-- ---- eights of bytes
+module _ {A : Type 0} (P : A → Type 0) (f : A → List ℕ) (g : List ℕ → A) (size : (x : A) → length (f x) ≡ unitSize) where
+  chunks-joined : (xs : List A) (r : List ℕ) → chunks unitSize (length xs) (joined f xs ++ r) ≡ map f xs
+  unfolding chunks
+  chunks-joined [] r = refl
+  chunks-joined (x ∷ xs) r =
+      let s = append-assoc (f x) (joined f xs) r in
+      ap₂ {C = List (List ℕ)} (λ a l. a ∷ l) (ap (take unitSize) s ∙ take-at (f x) (joined f xs ++ r) unitSize (size x))
+      (ap (λ (l : List ℕ). chunks unitSize (length xs) l) (ap (drop unitSize) s ∙ drop-at (f x) (joined f xs ++ r) unitSize (size x)) ∙ chunks-joined xs r)
+
+  map-back : ((x : A) → P x → g (f x) ≡ x) → (xs : List A) → All P xs → map g (map f xs) ≡ xs
+  map-back back [] a = refl
+  map-back back (x ∷ xs) (more p a) = ap₂ {C = List A} (λ y l. y ∷ l) (back x p) (map-back back xs a)
+
+  every-good : (good : List ℕ → Bool) → ((x : A) → good (f x) ≡ true) → (xs : List A) → every good (map f xs) ≡ true
+  every-good good h [] = refl
+  every-good good h (x ∷ xs) = rw (h x) (every-good good h xs)
+
+pair-read : (p : Pair) → PairFits p → pairRead (pairBytes p) ≡ p
+unfolding unit numberAt
+pair-read p h =
+    let s = small (p .site) (h .site) in
+    let c = number-of (p .count) (h .count) in
+    λ t. record { site = s t; count = c t }
+
+op-read : (o : Op) → OpFits o → opRead (opBytes o) ≡ o
+unfolding unit numberAt
+op-read o h =
+    let k = small (o .kind) (h .kind) in
+    let i = small (o .item) (h .item) in
+    let f = ofZ-fits w32 (o .value) (h .value) in
+    let v = ap (toZ w32) (number-of (ofZ w32 (o .value)) (f .fits)) ∙ toZ-ofZ w32 (o .value) (h .value) in
+    λ t. record { kind = k t; item = i t; value = v t }
+
+pair-padded : (p : Pair) → padded 1 (pairBytes p) ≡ true
+unfolding unit
+pair-padded p = refl
+
+op-padded : (o : Op) → padded 2 (opBytes o) ≡ true
+unfolding unit
+op-padded o = refl
+
+-- ---- a record in front of other bytes
+module _ (sites items : ℕ) (r : Record) (h : RecordFits sites items r) (rest : List ℕ) where
+  abbrev there : List ℕ
+  there = recordBytes r ++ rest
+
+  abbrev tuples : List ℕ
+  tuples = joined pairBytes (r .stamp .tuples)
+
+  abbrev ops : List ℕ
+  ops = joined opBytes (r .ops)
+
+  abbrev head : List ℕ
+  head = unit (r .site) (length (r .stamp .tuples)) (length (r .ops)) (r .stamp .epoch)
+
+  there-is : there ≡ head ++ (tuples ++ (ops ++ rest))
+  unfolding recordBytes
+  there-is = append-assoc head (tuples ++ ops) rest ∙ ap (λ (l : List ℕ). head ++ l) (append-assoc tuples ops rest)
+
+  site-there : getD there 0 0 ≡ r .site
+  unfolding unit
+  site-there = ap (λ (l : List ℕ). getD l 0 0) there-is ∙ small (r .site) (h .site)
+
+  tuples-there : tupleCount there ≡ length (r .stamp .tuples)
+  unfolding unit
+  tuples-there = ap tupleCount there-is ∙ small (length (r .stamp .tuples)) (omega (arith, h .few-tuples))
+
+  ops-there : opCount there ≡ length (r .ops)
+  unfolding unit
+  ops-there = ap opCount there-is ∙ small (length (r .ops)) (omega (arith, h .few-ops))
+
+  zero-there : getD there 3 0 ≡ 0
+  unfolding unit
+  zero-there = ap (λ (l : List ℕ). getD l 3 0) there-is
+
+  epoch-there : numberAt there 4 ≡ r .stamp .epoch
+  epoch-there = ap (λ (l : List ℕ). numberAt l 4) there-is ∙ unit-number (r .site) (length (r .stamp .tuples)) (length (r .ops)) (r .stamp .epoch) (tuples ++ (ops ++ rest)) (h .epoch)
+
+  from-tuples : drop unitSize there ≡ tuples ++ (ops ++ rest)
+  from-tuples = ap (drop unitSize) there-is ∙ drop-at head (tuples ++ (ops ++ rest)) unitSize (unit-length (r .site) (length (r .stamp .tuples)) (length (r .ops)) (r .stamp .epoch))
+
+  from-ops : drop (opsFrom there) there ≡ ops ++ rest
+  from-ops =
+      let s : length tuples ≡ unitSize * tupleCount there = omega (arith, pairs-size (r .stamp .tuples), tuples-there) in
+      sym (drop-drop (unitSize * tupleCount there) unitSize there) ∙ ap (drop (unitSize * tupleCount there)) from-tuples ∙ drop-at tuples (ops ++ rest) (unitSize * tupleCount there) s
+
+  tuple-units : tupleUnits there ≡ map pairBytes (r .stamp .tuples)
+  tuple-units = ap₂ (λ (k : ℕ) (l : List ℕ). chunks unitSize k l) tuples-there from-tuples ∙ chunks-joined PairFits pairBytes pairRead pair-size (r .stamp .tuples) (ops ++ rest)
+
+  op-units : opUnits there ≡ map opBytes (r .ops)
+  op-units = ap₂ (λ (k : ℕ) (l : List ℕ). chunks unitSize k l) ops-there from-ops ∙ chunks-joined OpFits opBytes opRead op-size (r .ops) rest
+
+  pub record-reads : recordRead there ≡ r
+  unfolding recordRead
+  record-reads =
+      let ps = ap (map pairRead) tuple-units ∙ map-back PairFits pairBytes pairRead pair-size pair-read (r .stamp .tuples) (h .tuples) in
+      let os = ap (map opRead) op-units ∙ map-back OpFits opBytes opRead op-size op-read (r .ops) (h .ops) in
+      λ t. record { site = site-there t; stamp = record { epoch = epoch-there t; tuples = ps t }; ops = os t }
+
+  pub size-reads : sizeRead there ≡ length (recordBytes r)
+  unfolding sizeRead
+  size-reads = ap₂ (λ (x y : ℕ). unitSize + unitSize * x + unitSize * y) tuples-there ops-there ∙ sym (record-size r)
+
+  pub valid-reads : recordValid sites items there ≡ true
+  unfolding recordValid
+  valid-reads =
+      let long : leb (sizeRead there) (length there) ≡ true = le-leb (sizeRead there) (length there) (omega (arith, size-reads, length-append (recordBytes r) rest)) in
+      let t1 : leb 1 (tupleCount there) ≡ true = le-leb 1 (tupleCount there) (omega (arith, tuples-there, h .some-tuples)) in
+      let t2 : leb (tupleCount there) room ≡ true = le-leb (tupleCount there) room (omega (arith, tuples-there, h .few-tuples)) in
+      let o1 : leb 1 (opCount there) ≡ true = le-leb 1 (opCount there) (omega (arith, ops-there, h .some-ops)) in
+      let o2 : leb (opCount there) opsMost ≡ true = le-leb (opCount there) opsMost (omega (arith, ops-there, h .few-ops)) in
+      let z : eqb (getD there 3 0) 0 ≡ true = eq-eqb (getD there 3 0) 0 zero-there in
+      let p : every (padded 1) (tupleUnits there) ≡ true = ap (every (padded 1)) tuple-units ∙ every-good PairFits pairBytes pairRead pair-size (padded 1) pair-padded (r .stamp .tuples) in
+      let q : every (padded 2) (opUnits there) ≡ true = ap (every (padded 2)) op-units ∙ every-good OpFits opBytes opRead op-size (padded 2) op-padded (r .ops) in
+      let f : recordFits sites items (recordRead there) ≡ true = ap (recordFits sites items) record-reads ∙ h .fits in
+      λ i. long i && (((t1 i && t2 i) && (o1 i && o2 i)) && ((z i && (p i && q i)) && f i))
+
+  pub rest-reads : drop (sizeRead there) there ≡ rest
+  rest-reads = drop-at (recordBytes r) rest (sizeRead there) (sym size-reads)
+
+-- ---- all records
+module _ (sites items : ℕ) where
+  pub records-read : (rs : List Record) → All (RecordFits sites items) rs → recordsRead (length rs) (joined recordBytes rs) ≡ rs
+  unfolding recordsRead
+  records-read [] a = refl
+  records-read (r ∷ rs) (more h a) =
+      ap₂ {C = List Record} (λ x l. x ∷ l) (record-reads sites items r h (joined recordBytes rs))
+      (ap (λ (l : List ℕ). recordsRead (length rs) l) (rest-reads sites items r h (joined recordBytes rs)) ∙ records-read rs a)
+
+  pub records-fill : (rs : List Record) → All (RecordFits sites items) rs → recordsFill sites items (length rs) (joined recordBytes rs) ≡ true
+  unfolding recordsFill
+  records-fill [] a = refl
+  records-fill (r ∷ rs) (more h a) =
+      rw (valid-reads sites items r h (joined recordBytes rs))
+      (ap (λ (l : List ℕ). recordsFill sites items (length rs) l) (rest-reads sites items r h (joined recordBytes rs)) ∙ records-fill rs a)
+
+  pub records-short : (rs : List Record) → All (RecordFits sites items) rs → length (joined recordBytes rs) ≤ 136 * length rs
+  records-short [] a = omega arith
+  records-short (r ∷ rs) (more h a) = omega (arith, length-append (recordBytes r) (joined recordBytes rs), record-size r, h .few-tuples, h .few-ops, records-short rs a)
+
+-- ---- the file at the end of other bytes
+number-append : (xs ys : List ℕ) (i : ℕ) → numberAt (xs ++ ys) (length xs + i) ≡ numberAt ys i
+unfolding numberAt
+number-append xs ys i =
+    let at : (j k : ℕ) → length xs + i + j ≡ length xs + k → getD (xs ++ ys) (length xs + i + j) 0 ≡ getD ys k 0
+    = λ j k e. ap (λ (m : ℕ). getD (xs ++ ys) m 0) e ∙ getD-append-add xs ys k 0 in
+    let p = getD-append-add xs ys i 0 in
+    let q = at 1 (i + 1) (omega arith) in
+    let r = at 2 (i + 2) (omega arith) in
+    let s = at 3 (i + 3) (omega arith) in
+    λ t. p t + 256 * (q t + 256 * (r t + 256 * s t))
+
+module _ (h : History) (f : HistoryFits h) (before : List ℕ) where
+  abbrev end : List ℕ
+  end = trailer (length (h .records)) (length (body h) + trailerSize) (h .sites) (h .items)
+
+  abbrev whole : List ℕ
+  whole = before ++ fileOf h
+
+  whole-is : whole ≡ (before ++ body h) ++ end
+  unfolding fileOf
+  whole-is = sym (append-assoc before (body h) end)
+
+  whole-length : length whole ≡ length before + length (body h) + trailerSize
+  whole-length = length-append before (fileOf h) ∙ (let e : length before + length (fileOf h) ≡ length before + length (body h) + trailerSize = omega (arith, file-length h) in e)
+
+  at-end : trailerAt whole ≡ length (before ++ body h)
+  at-end = (let e : trailerAt whole ≡ length before + length (body h) = omega (arith, whole-length) in e) ∙ sym (length-append before (body h))
+
+  short : length (body h) + trailerSize < 4294967296
+  short = omega (arith, records-short (h .sites) (h .items) (h .records) (f .records), f .few-records)
+
+  end-drop : drop (trailerAt whole) whole ≡ end
+  end-drop = ap₂ (λ (k : ℕ) (l : List ℕ). drop k l) at-end whole-is ∙ drop-append-seam (before ++ body h) end
+
+  end-getD : (i : ℕ) → getD whole (trailerAt whole + i) 0 ≡ getD end i 0
+  end-getD i = ap₂ (λ (k : ℕ) (l : List ℕ). getD l (k + i) 0) at-end whole-is ∙ getD-append-add (before ++ body h) end i 0
+
+  end-number : (i : ℕ) → numberAt whole (trailerAt whole + i) ≡ numberAt end i
+  end-number i = ap₂ (λ (k : ℕ) (l : List ℕ). numberAt l (k + i)) at-end whole-is ∙ number-append (before ++ body h) end i
+
+  mark-there : marked whole ≡ true
+  unfolding trailer
+  mark-there = ap (λ (l : List ℕ). same (take 4 l) mark) end-drop
+
+  count-there : countRead whole ≡ length (h .records)
+  unfolding trailer numberAt
+  count-there = end-number 4 ∙ number-of (length (h .records)) (omega (arith, f .few-records))
+
+  distance-there : distanceRead whole ≡ length (body h) + trailerSize
+  unfolding trailer numberAt
+  distance-there = end-number 8 ∙ number-of (length (body h) + trailerSize) short
+
+  sites-there : sitesRead whole ≡ h .sites
+  unfolding trailer
+  sites-there = end-getD 12 ∙ small (h .sites) (omega (arith, f .few-sites))
+
+  items-there : itemsRead whole ≡ h .items
+  unfolding trailer
+  items-there = end-getD 13 ∙ small (h .items) (omega (arith, f .few-items))
+
+  zeros-there : zeros (part whole (trailerAt whole + 14) 2) ≡ true
+  unfolding trailer
+  zeros-there = ap (λ (l : List ℕ). zeros (take 2 l)) (sym (drop-drop 14 (trailerAt whole) whole) ∙ ap (drop 14) end-drop)
+
+  part-there : partRead whole ≡ body h
+  unfolding partRead fileOf
+  part-there =
+      let start : length whole - distanceRead whole ≡ length before = omega (arith, whole-length, distance-there) in
+      let size : distanceRead whole - trailerSize ≡ length (body h) = omega (arith, distance-there) in
+      ap₂ (λ (k n : ℕ). part whole k n) start size ∙ ap (take (length (body h))) (drop-append-seam before (body h ++ end)) ∙ take-append-seam (body h) end
+
+  pub file-accepted : Accepted whole
+  unfolding valid
+  file-accepted =
+      let s1 : leb 1 (sitesRead whole) ≡ true = le-leb 1 (sitesRead whole) (omega (arith, sites-there, f .some-sites)) in
+      let s2 : leb (sitesRead whole) 8 ≡ true = le-leb (sitesRead whole) 8 (omega (arith, sites-there, f .few-sites)) in
+      let i1 : leb 1 (itemsRead whole) ≡ true = le-leb 1 (itemsRead whole) (omega (arith, items-there, f .some-items)) in
+      let i2 : leb (itemsRead whole) 64 ≡ true = le-leb (itemsRead whole) 64 (omega (arith, items-there, f .few-items)) in
+      let few : leb (countRead whole) 256 ≡ true = le-leb (countRead whole) 256 (omega (arith, count-there, f .few-records)) in
+      let fills : recordsFill (sitesRead whole) (itemsRead whole) (countRead whole) (partRead whole) ≡ true
+      = (λ t. recordsFill (sites-there t) (items-there t) (count-there t) (part-there t)) ∙ records-fill (h .sites) (h .items) (h .records) (f .records) in
+      record {
+        long = omega (arith, whole-length);
+        mark-there = mark-there;
+        low = omega (arith, distance-there);
+        high = omega (arith, distance-there, whole-length);
+        good = λ t. ((s1 t && s2 t) && ((i1 t && i2 t) && zeros-there t)) && (few t && fills t);
+      }
+
+  -- what was written reads back to the same history, with the numbers of sites and items
+  pub reads-back : (fileNumber whole ≡ 0) × (historyRead whole ≡ h)
+  reads-back =
+      let z : fileNumber whole ≡ 0 = accepts whole file-accepted in
+      let records = ap₂ (λ (n : ℕ) (l : List ℕ). recordsRead n l) count-there part-there ∙ records-read (h .sites) (h .items) (h .records) (f .records) in
+      (z, history-read whole z ∙ (λ t. record { sites = sites-there t; items = items-there t; records = records t }))

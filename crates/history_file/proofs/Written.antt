@@ -1,0 +1,149 @@
+-- Bytes written one after another.
+use mathlib.Core.Path.{_≡_, refl, sym, ap, ap₂, _∙_}
+use mathlib.Core.List.{List, [], _∷_, _++_, append-assoc, append-nil}
+use Prim.Native.Nat.{ℕ, suc, _+_, _-_, _*_, _≤_, _<_}
+use native.Mathlib.Omega.{arith}
+use native.Mathlib.Numerals.{add-one}
+use native.Mathlib.Nat.{zero-mul, suc-mul}
+use lib.ListN.{length, getD, take, drop, length-append, length-drop, drop-of-length-le}
+use lib.Seq.{take-at, drop-at, drop-drop, take-suc, take-all, length-take-le}
+use Rattle.words.specs.Words.{put}
+use mir.Val.{toZ, ofZ}
+use mir.ValLaws.{ofZ-toZ}
+use mir.Syntax.{w32}
+use Rattle.words.proofs.Parts.{lent-length}
+use Rattle.timestamp.specs.Timestamp.{Pair}
+use Rattle.site.specs.Operations.{Op}
+use Rattle.site.specs.InWords.{opIn, opsIn}
+use Rattle.site.proofs.Laws.{op-word, ops-at}
+use Rattle.records.specs.Records.{Record}
+use Rattle.history_file.specs.Bytes.{unitSize, unit, joined}
+use Rattle.history_file.specs.File.{pairBytes, opBytes, recordBytes}
+
+-- n bytes behind those that are written
+pub put-next : (d pre ys w : List ℕ) (at n m : ℕ) → w ≡ pre ++ drop at d → length pre ≡ at → m ≡ n → put w at m ys ≡ (pre ++ ys) ++ drop (at + n) d
+put-next d pre ys w at n m e size same =
+    ap₂ (λ (x : List ℕ) (k : ℕ). put x at k ys) e same
+    ∙ ap₂ (λ (x y : List ℕ). x ++ (ys ++ drop n y)) (take-at pre (drop at d) at size) (drop-at pre (drop at d) at size)
+    ∙ ap (λ (x : List ℕ). pre ++ (ys ++ x)) (drop-drop n at d)
+    ∙ sym (append-assoc pre ys (drop (at + n) d))
+
+-- ---- joined
+module _ {A : Type 0} (f : A → List ℕ) where
+  pub joined-append : (xs ys : List A) → joined f (xs ++ ys) ≡ joined f xs ++ joined f ys
+  joined-append [] ys = refl
+  joined-append (x ∷ xs) ys = ap (λ (l : List ℕ). f x ++ l) (joined-append xs ys) ∙ sym (append-assoc (f x) (joined f xs) (joined f ys))
+
+  -- one more at the end
+  pub joined-next : (xs : List A) (i : ℕ) (d : A) → i < length xs → joined f (take (i + 1) xs) ≡ joined f (take i xs) ++ f (getD xs i d)
+  joined-next xs i d h =
+      ap (λ (k : ℕ). joined f (take k xs)) (add-one i)
+      ∙ ap (joined f) (take-suc xs i d h)
+      ∙ joined-append (take i xs) (getD xs i d ∷ [])
+      ∙ ap (λ (l : List ℕ). joined f (take i xs) ++ l) (append-nil (f (getD xs i d)))
+
+  pub joined-all : (xs : List A) (i : ℕ) → length xs ≤ i → joined f (take i xs) ≡ joined f xs
+  joined-all xs i h = ap (joined f) (take-all i xs h)
+
+  -- each of the same size
+  module _ (n : ℕ) (size : (x : A) → length (f x) ≡ n) where
+    pub joined-length : (xs : List A) → length (joined f xs) ≡ length xs * n
+    joined-length [] = sym (zero-mul n)
+    joined-length (x ∷ xs) = length-append (f x) (joined f xs) ∙ (let e : length (f x) + length (joined f xs) ≡ suc (length xs) * n = ap₂ (λ (a b : ℕ). a + b) (size x) (joined-length xs) ∙ (let g : n + length xs * n ≡ suc (length xs) * n = simp suc-mul (omega arith) in g) in e)
+
+-- ---- eights of bytes
+module _ {A : Type 0} (f : A → List ℕ) (size : (x : A) → length (f x) ≡ unitSize) (d : A) (xs : List A) (b : List ℕ) (long : length b ≡ length xs * unitSize) where
+  abbrev pub units : ℕ → List ℕ
+  units i = joined f (take i xs) ++ drop (i * unitSize) b
+
+  pub units-next : (i : ℕ) → i < length xs → (w ys : List ℕ) → w ≡ units i → ys ≡ f (getD xs i d) → put w (i * unitSize) (i * unitSize + unitSize - i * unitSize) ys ≡ units (i + 1)
+  units-next i h w ys e is =
+      let wide : length (joined f (take i xs)) ≡ i * unitSize
+      = joined-length f unitSize size (take i xs) ∙ ap (λ (k : ℕ). k * unitSize) (length-take-le i xs (omega arith)) in
+      let same : i * unitSize + unitSize - i * unitSize ≡ unitSize = omega arith in
+      let next : i * unitSize + unitSize ≡ (i + 1) * unitSize = omega arith in
+      put-next b (joined f (take i xs)) ys w (i * unitSize) unitSize (i * unitSize + unitSize - i * unitSize) e wide same
+      ∙ ap₂ (λ (x : List ℕ) (k : ℕ). x ++ drop k b) (ap (λ (y : List ℕ). joined f (take i xs) ++ y) is ∙ sym (joined-next f xs i d h)) next
+
+  pub units-length : (i : ℕ) → i < length xs → (w ys : List ℕ) → length w ≡ length b → ys ≡ f (getD xs i d) → length (put w (i * unitSize) (i * unitSize + unitSize - i * unitSize) ys) ≡ length b
+  units-length i h w ys e is = lent-length w (i * unitSize) unitSize ys (omega arith) (ap length is ∙ size (getD xs i d)) ∙ e
+
+  pub units-all : (i : ℕ) → length xs ≤ i → (w : List ℕ) → w ≡ units i → w ≡ joined f xs
+  units-all i h w e =
+      e
+      ∙ ap₂ (λ (x y : List ℕ). x ++ y) (joined-all f xs i h) (drop-of-length-le b {i = i * unitSize} (omega arith))
+      ∙ append-nil (joined f xs)
+
+-- ---- a record
+pub unit-length : (x y z n : ℕ) → length (unit x y z n) ≡ unitSize
+unfolding unit
+unit-length x y z n = refl
+
+pub pairs-size : (ps : List Pair) → length (joined pairBytes ps) ≡ length ps * unitSize
+pairs-size ps = joined-length pairBytes unitSize (λ (p : Pair). unit-length (p .site) 0 0 (p .count)) ps
+
+pub pair-size : (p : Pair) → length (pairBytes p) ≡ unitSize
+pair-size p = unit-length (p .site) 0 0 (p .count)
+
+pub op-size : (o : Op) → length (opBytes o) ≡ unitSize
+op-size o = unit-length (o .kind) (o .item) 0 _
+
+pub ops-size : (os : List Op) → length (joined opBytes os) ≡ length os * unitSize
+ops-size os = joined-length opBytes unitSize op-size os
+
+pub record-size : (r : Record) → length (recordBytes r) ≡ unitSize + unitSize * length (r .stamp .tuples) + unitSize * length (r .ops)
+unfolding recordBytes
+record-size r =
+    length-append (unit (r .site) (length (r .stamp .tuples)) (length (r .ops)) (r .stamp .epoch)) (joined pairBytes (r .stamp .tuples) ++ joined opBytes (r .ops))
+    ∙ (let e : length (unit (r .site) (length (r .stamp .tuples)) (length (r .ops)) (r .stamp .epoch)) + length (joined pairBytes (r .stamp .tuples) ++ joined opBytes (r .ops)) ≡ unitSize + unitSize * length (r .stamp .tuples) + unitSize * length (r .ops) = omega (arith, unit-length (r .site) (length (r .stamp .tuples)) (length (r .ops)) (r .stamp .epoch), length-append (joined pairBytes (r .stamp .tuples)) (joined opBytes (r .ops)), pairs-size (r .stamp .tuples), ops-size (r .ops)) in e)
+
+-- head, tuples and operations, one after another
+module _ (b : List ℕ) (r : Record) (n c : ℕ) (ns : n ≡ length (r .stamp .tuples)) (cs : c ≡ length (r .ops)) (long : length b ≡ length (recordBytes r)) where
+  abbrev pub afterHead : List ℕ → List ℕ
+  afterHead u = put b 0 unitSize u
+
+  abbrev pub afterTuples : List ℕ → List ℕ → List ℕ
+  afterTuples u t = put (afterHead u) unitSize (unitSize + unitSize * n - unitSize) t
+
+  all-size : length b ≡ unitSize + unitSize * n + unitSize * c
+  all-size = long ∙ record-size r ∙ sym (ap₂ (λ (x y : ℕ). unitSize + unitSize * x + unitSize * y) ns cs)
+
+  module _ (u t o : List ℕ) (us : u ≡ unit (r .site) (length (r .stamp .tuples)) (length (r .ops)) (r .stamp .epoch)) where
+    head-is : afterHead u ≡ u ++ drop unitSize b
+    head-is = put-next b [] u b 0 unitSize unitSize refl refl refl
+
+    head-size : length u ≡ unitSize
+    head-size = ap length us ∙ unit-length (r .site) (length (r .stamp .tuples)) (length (r .ops)) (r .stamp .epoch)
+
+    pub head-length : length (afterHead u) ≡ length b
+    head-length = ap length head-is ∙ length-append u (drop unitSize b) ∙ (let e : length u + length (drop unitSize b) ≡ length b = omega (arith, head-size, length-drop unitSize b, all-size) in e)
+
+    module _ (ts : t ≡ joined pairBytes (r .stamp .tuples)) where
+      tuples-is : afterTuples u t ≡ (u ++ t) ++ drop (unitSize + unitSize * n) b
+      tuples-is = put-next b u t (afterHead u) unitSize (unitSize * n) (unitSize + unitSize * n - unitSize) head-is head-size (omega arith)
+
+      front-size : length (u ++ t) ≡ unitSize + unitSize * n
+      front-size = length-append u t ∙ (let e : length u + length t ≡ unitSize + unitSize * n = omega (arith, head-size, ap length ts, pairs-size (r .stamp .tuples)) in e)
+
+      pub tuples-length : length (afterTuples u t) ≡ length b
+      tuples-length = ap length tuples-is ∙ length-append (u ++ t) (drop (unitSize + unitSize * n) b) ∙ (let e : length (u ++ t) + length (drop (unitSize + unitSize * n) b) ≡ length b = omega (arith, front-size, length-drop (unitSize + unitSize * n) b, all-size) in e)
+
+      pub record-written : o ≡ joined opBytes (r .ops) → put (afterTuples u t) (unitSize + unitSize * n) (unitSize + unitSize * n + unitSize * c - (unitSize + unitSize * n)) o ≡ recordBytes r
+      unfolding recordBytes
+      record-written os =
+          put-next b (u ++ t) o (afterTuples u t) (unitSize + unitSize * n) (unitSize * c) (unitSize + unitSize * n + unitSize * c - (unitSize + unitSize * n)) tuples-is front-size (omega arith)
+          ∙ ap (λ (x : List ℕ). ((u ++ t) ++ o) ++ x) (drop-of-length-le b {i = unitSize + unitSize * n + unitSize * c} (omega (arith, all-size)))
+          ∙ append-nil ((u ++ t) ++ o)
+          ∙ append-assoc u t o
+          ∙ (λ i. us i ++ (ts i ++ os i))
+
+-- ---- the words of an operation
+pub op-written : (n : ℕ) (ops : List ℕ) (i : ℕ) → i < n → (kind item v : ℕ) → kind ≡ getD ops (3 * i) 0 → item ≡ getD ops (3 * i + 1) 0 → v ≡ getD ops (3 * i + 2) 0 → v < 4294967296
+    → unit kind item 0 v ≡ opBytes (getD (opsIn n ops) i (opIn []))
+op-written n ops i h kind item v k j e fits =
+    let o = ops-at n ops i h in
+    let kind-is : kind ≡ getD (opsIn n ops) i (opIn []) .kind = k ∙ op-word ops i (3 * i) 0 (omega arith) (omega arith) ∙ sym (ap (λ (x : Op). x .kind) o) in
+    let item-is : item ≡ getD (opsIn n ops) i (opIn []) .item = j ∙ op-word ops i (3 * i + 1) 1 refl (omega arith) ∙ sym (ap (λ (x : Op). x .item) o) in
+    let value-is : toZ w32 v ≡ getD (opsIn n ops) i (opIn []) .value = ap (toZ w32) (e ∙ op-word ops i (3 * i + 2) 2 refl (omega arith)) ∙ sym (ap (λ (x : Op). x .value) o) in
+    let word-is : v ≡ ofZ w32 (getD (opsIn n ops) i (opIn []) .value) = sym (ofZ-toZ w32 v (record { fits = fits })) ∙ ap (ofZ w32) value-is in
+    λ t. unit (kind-is t) (item-is t) 0 (word-is t)

@@ -1,0 +1,50 @@
+-- The history file: the bytes that a history is written as.
+use mathlib.Core.List.{List, [], _∷_, _++_}
+use Prim.Native.Nat.{ℕ, _+_}
+use lib.ListN.{length}
+use mir.Val.{ofZ}
+use mir.Syntax.{w32}
+use Rattle.timestamp.specs.Timestamp.{Pair}
+use Rattle.site.specs.Operations.{Op}
+use Rattle.records.specs.Records.{Record}
+use Rattle.protocol.specs.Network.{Network}
+use Rattle.history_file.specs.Bytes.{byte, little, unit, joined}
+
+-- a history: its records in order, with the numbers of sites and items
+pub record History : Type 0 where
+  pub sites : ℕ
+  pub items : ℕ
+  pub records : List Record
+
+abbrev pub historyOf : Network → History
+historyOf n = record { sites = length (n .sites); items = length (n .items); records = n .history }
+
+-- per tuple: site, three 00, count
+abbrev pub pairBytes : Pair → List ℕ
+pairBytes p = unit (p .site) 0 0 (p .count)
+
+-- per operation: kind, item, two 00, value in two's complement
+abbrev pub opBytes : Op → List ℕ
+opBytes o = unit (o .kind) (o .item) 0 (ofZ w32 (o .value))
+
+-- a record: site, tuple count, operation count, 00, epoch; its tuples; its operations
+unfoldable pub recordBytes : Record → List ℕ
+recordBytes r =
+    unit (r .site) (length (r .stamp .tuples)) (length (r .ops)) (r .stamp .epoch)
+    ++ (joined pairBytes (r .stamp .tuples) ++ joined opBytes (r .ops))
+
+-- ---- the trailer: the mark, record count, distance from the end back to the first record, sites, items, 00, 00
+abbrev pub mark : List ℕ
+mark = 0x53 ∷ (0x45 ∷ (0x41 ∷ (0x54 ∷ [])))
+
+abbrev pub trailerSize : ℕ
+trailerSize = 16
+
+unfoldable pub trailer : ℕ → ℕ → ℕ → ℕ → List ℕ
+trailer count distance sites items = mark ++ (little count ++ (little distance ++ (byte sites ∷ (byte items ∷ (0 ∷ (0 ∷ []))))))
+
+abbrev pub body : History → List ℕ
+body h = joined recordBytes (h .records)
+
+unfoldable pub fileOf : History → List ℕ
+fileOf h = body h ++ trailer (length (h .records)) (length (body h) + trailerSize) (h .sites) (h .items)

@@ -1,0 +1,83 @@
+-- What the contracts of the calls say.
+use mathlib.Core.Path.{_≡_}
+use mathlib.Core.Bool.{cond}
+use mathlib.Core.List.{List, [], _∷_, _++_}
+use mathlib.Core.Option.{Option, none, some}
+use Prim.Native.Nat.{ℕ, zero, suc, _+_}
+use lib.IntN.{pos}
+use lib.ListN.{length, getD, drop}
+use lib.Dec.{eqb, ltb, leb}
+use Rattle.timestamp.specs.Timestamp.{stampOf}
+use Rattle.site.specs.Operations.{Op}
+use Rattle.limits.specs.Limits.{opsMost}
+use Rattle.lists.specs.Numbers.{firstNumber, numberIf}
+use Rattle.records.specs.Records.{Record}
+use Rattle.protocol.specs.Network.{Network, noRecord}
+use Rattle.history_file.specs.declared.Found.{Found}
+use Rattle.history_file.specs.File.{historyOf, fileOf}
+use Rattle.history_file.specs.Reading.{fileNumber, historyRead, partRead, recordRead, recordValid, sizeRead, startOf}
+
+-- ---- export: its number, the file's length, and the buffer afterwards; refused, the buffer as it was
+pub record Export : Type 0 where
+  pub number : ℕ
+  pub size : ℕ
+  pub buffer : List ℕ
+
+-- the file over the front of the buffer
+abbrev pub exported : List ℕ → List ℕ → Export
+exported file b = cond (ltb (length b) (length file)) (record { number = 25; size = 0; buffer = b }) (record { number = 0; size = length file; buffer = file ++ drop (length file) b })
+
+-- of a network, or of a state that is none
+unfoldable pub exportOf : Option Network → List ℕ → Export
+exportOf none b = record { number = 6; size = 0; buffer = b }
+exportOf (some n) b = exported (fileOf (historyOf n)) b
+
+-- ---- read: the part, empty where refused
+unfoldable pub partAnswered : List ℕ → List ℕ
+partAnswered b = cond (eqb (fileNumber b) 0) (partRead b) []
+
+-- ---- read one record
+-- what stands where there is no operation
+abbrev pub noOp : Op
+noOp = record { kind = 0; item = 0; value = pos 0 }
+
+-- a field of n operations from number i on, that of no operation past the last
+abbrev pub placesFrom : {A : Type 0} → (Op → A) → List Op → ℕ → ℕ → List A
+placesFrom f os i zero = []
+placesFrom f os i (suc n) = f (getD os i noOp) ∷ placesFrom f os (suc i) n
+
+-- what reading one record answers: its number, where the next starts in the part, and the record
+pub record Step : Type 0 where
+  pub number : ℕ
+  pub next : ℕ
+  pub found : Record
+
+-- refused: the number alone
+abbrev pub noStep : ℕ → Step
+noStep k = record { number = k; next = 0; found = noRecord }
+
+-- the fields of the code's value are those of the answer; its operations stand at eight places
+pub record Gives (s : Step) (r : Found) : Type 0 where
+  pub number-is : r .number ≡ s .number
+  pub next-is : r .next ≡ s .next
+  pub site-is : r .site ≡ s .found .site
+  pub stamp-is : stampOf (r .stamp) ≡ s .found .stamp
+  pub count-is : r .count ≡ length (s .found .ops)
+  pub kinds-are : r .kinds ≡ placesFrom (λ o. o .kind) (s .found .ops) 0 opsMost
+  pub items-are : r .items ≡ placesFrom (λ o. o .item) (s .found .ops) 0 opsMost
+  pub values-are : r .values ≡ placesFrom (λ o. o .value) (s .found .ops) 0 opsMost
+
+-- ---- by its number in a file
+unfoldable pub recordNumber : List ℕ → ℕ → ℕ
+recordNumber b k = firstNumber (fileNumber b ∷ numberIf (leb (length (historyRead b .records)) k) 24 ∷ [])
+
+unfoldable pub stepNumbered : List ℕ → ℕ → Step
+stepNumbered b k =
+    cond (eqb (recordNumber b k) 0) (record { number = 0; next = startOf (suc k) (partRead b); found = getD (historyRead b .records) k noRecord }) (noStep (recordNumber b k))
+
+-- ---- by the place of a part where it starts, of a group of that many sites and items
+abbrev pub stepAt : ℕ → ℕ → ℕ → List ℕ → Step
+stepAt sites items at b = cond (recordValid sites items b) (record { number = 0; next = at + sizeRead b; found = recordRead b }) (noStep 23)
+
+unfoldable pub stepOf : List ℕ → ℕ → ℕ → ℕ → Step
+stepOf b at sites items = cond (leb (length b) at) (noStep 24) (stepAt sites items at (drop at b))

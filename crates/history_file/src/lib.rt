@@ -1,0 +1,35 @@
+// The history file: its definitions, both statements, and what its calls answer. No code.
+use timestamp::Timestamp;
+
+// The mark at the start of the trailer: 53 45 41 54.
+pub const MARK: [u8; 4] = *b"SEAT";
+
+// The size of the trailer.
+pub const TRAILER: usize = 16;
+
+// What an export answers: its number and the file's length, which is 0 where it is refused.
+pub struct Exported {
+    pub number: u32,
+    pub length: usize,
+}
+
+// What a file holds: the number for which it is refused, or 0; and how many records, sites and items, 0 where it is refused.
+pub struct Checked {
+    pub number: u32,
+    pub records: u32,
+    pub sites: u32,
+    pub items: u32,
+}
+
+// A record that was read: the number for which it was refused, or 0; its site, its timestamp, and its operations, which are the first
+// `count` of eight places. What is not there is 0, and where it is refused all is. `next` is where the next record starts.
+pub struct Found {
+    pub number: u32,
+    pub next: usize,
+    pub site: u32,
+    pub stamp: Timestamp,
+    pub count: usize,
+    pub kinds: [u8; 8],
+    pub items: [u32; 8],
+    pub values: [i32; 8],
+}

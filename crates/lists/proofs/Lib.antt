@@ -1,0 +1,4 @@
+pub mod Lists
+pub mod Every
+pub mod Some
+pub mod Numbers

@@ -1,0 +1,69 @@
+-- Laws of lists: the first elements, one replaced, a function of each, a list of known length written out.
+use mathlib.Core.Path.{_≡_, refl, sym, ap, _∙_}
+use mathlib.Core.List.{List, [], _∷_, map}
+use Prim.Native.Nat.{ℕ, zero, suc, _+_, _-_, _≤_, _<_, min}
+use native.Mathlib.Omega.{arith}
+use native.Mathlib.Nat.{zero-min, suc-min-suc}
+use lib.ListN.{length, getD, set, take, drop, drop-of-length-le}
+use lib.Seq.{drop-cons, take-nil, drop-nil}
+
+module _ {A : Type 0} where
+  pub take-min : (n : ℕ) (l : List A) → take (min n (length l)) l ≡ take n l
+  take-min zero l = ap (λ (k : ℕ). take k l) (zero-min (length l))
+  take-min (suc n) [] = take-nil (min (suc n) 0)
+  take-min (suc n) (x ∷ l) = ap (λ (k : ℕ). take k (x ∷ l)) (suc-min-suc n (length l)) ∙ ap {B = List A} (λ r. x ∷ r) (take-min n l)
+
+  pub drop-min : (n : ℕ) (l : List A) → drop (min n (length l)) l ≡ drop n l
+  drop-min zero l = ap (λ (k : ℕ). drop k l) (zero-min (length l))
+  drop-min (suc n) [] = drop-nil (min (suc n) 0)
+  drop-min (suc n) (x ∷ l) = ap (λ (k : ℕ). drop k (x ∷ l)) (suc-min-suc n (length l)) ∙ drop-min n l
+
+-- ---- the first n of a list without its first element
+pub take-rest : {A : Type 0} (n : ℕ) (l : List A) → take n (drop 1 l) ≡ drop 1 (take (suc n) l)
+take-rest n [] = take-nil n
+take-rest n (x ∷ xs) = refl
+
+-- what holds of each element by its place still does where one is replaced
+pub set-each : {A : Type 0} (holds : ℕ → A → Type 0) (xs : List A) (i : ℕ) (y d : A) → ((k : ℕ) → k < length xs → holds k (getD xs k d)) → (i < length xs → holds i y)
+    → (k : ℕ) → k < length (set xs i y) → holds k (getD (set xs i y) k d)
+set-each holds [] i y d f g k h = absurd (omega arith)
+set-each holds (x ∷ xs) zero y d f g zero h = g (omega arith)
+set-each holds (x ∷ xs) zero y d f g (suc k) h = f (suc k) h
+set-each holds (x ∷ xs) (suc i) y d f g zero h = f zero (omega arith)
+set-each holds (x ∷ xs) (suc i) y d f g (suc k) h =
+    set-each (λ m. holds (suc m)) xs i y d (λ m b. f (suc m) (omega arith)) (λ b. g (omega arith)) k (omega arith)
+
+-- ---- a function of each element
+module _ {A B : Type 0} (f : A → B) where
+  pub map-take : (n : ℕ) (l : List A) → map f (take n l) ≡ take n (map f l)
+  map-take zero l = refl
+  map-take (suc n) [] = refl
+  map-take (suc n) (x ∷ l) = ap {B = List B} (λ r. f x ∷ r) (map-take n l)
+
+  pub map-set : (l : List A) (i : ℕ) (v : A) → map f (set l i v) ≡ set (map f l) i (f v)
+  map-set [] i v = refl
+  map-set (x ∷ xs) zero v = refl
+  map-set (x ∷ xs) (suc i) v = ap {B = List B} (λ r. f x ∷ r) (map-set xs i v)
+
+-- ---- a list of a known length, written out
+module _ {A : Type 0} (d : A) where
+  -- n elements from place i on, d past the end
+  abbrev pub spell : ℕ → ℕ → List A → List A
+  spell i zero l = []
+  spell i (suc n) l = getD l i d ∷ spell (suc i) n l
+
+  spelled-from : (i n : ℕ) (l : List A) → length l ≤ i + n → take (length l - i) (spell i n l) ≡ drop i l
+  spelled-from i zero l h = take-nil (length l - i) ∙ sym (drop-of-length-le l {i = i} (omega arith))
+  spelled-from i (suc n) l h = go (length l - i) refl (λ g. spelled-from (suc i) n l g)
+    where
+      go : (m : ℕ) → length l - i ≡ m → (length l ≤ suc i + n → take (length l - suc i) (spell (suc i) n l) ≡ drop (suc i) l) → take (length l - i) (spell i (suc n) l) ≡ drop i l
+      go zero e rest = ap (λ (k : ℕ). take k (spell i (suc n) l)) e ∙ sym (drop-of-length-le l {i = i} (omega arith))
+      go (suc m) e rest =
+          let f : length l - suc i ≡ m = omega arith in
+          ap (λ (k : ℕ). take k (spell i (suc n) l)) e
+          ∙ ap {B = List A} (λ r. getD l i d ∷ r) (ap (λ (k : ℕ). take k (spell (suc i) n l)) (sym f) ∙ rest (omega arith))
+          ∙ sym (drop-cons l i d (omega arith))
+
+  -- the elements of a list of at most n, among n written out
+  pub spelled : (n : ℕ) (l : List A) → length l ≤ n → take (length l) (spell 0 n l) ≡ l
+  spelled n l h = let z : length l - 0 ≡ length l = omega arith in ap (λ (k : ℕ). take k (spell 0 n l)) (sym z) ∙ spelled-from 0 n l (omega arith)

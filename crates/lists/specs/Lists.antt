@@ -1,0 +1,38 @@
+-- Tests over the elements of a list, and the elements that pass one.
+use mathlib.Core.Bool.{Bool, true, false, cond, _&&_, _||_}
+use mathlib.Core.List.{List, [], _∷_}
+use Prim.Native.Nat.{ℕ, zero, suc}
+
+abbrev pub isEmpty : {A : Type 0} → List A → Bool
+isEmpty [] = true
+isEmpty (x ∷ xs) = false
+
+-- each element passes the test
+abbrev pub every : {A : Type 0} → (A → Bool) → List A → Bool
+every p [] = true
+every p (x ∷ xs) = p x && every p xs
+
+-- each element passes the test of its number, counted from i on
+abbrev pub everyFrom : {A : Type 0} → (ℕ → A → Bool) → ℕ → List A → Bool
+everyFrom p i [] = true
+everyFrom p i (x ∷ xs) = p i x && everyFrom p (suc i) xs
+
+-- some element passes the test
+abbrev pub any : {A : Type 0} → (A → Bool) → List A → Bool
+any p [] = false
+any p (x ∷ xs) = p x || any p xs
+
+-- some number below k passes the test
+abbrev pub someBelow : (ℕ → Bool) → ℕ → Bool
+someBelow f zero = false
+someBelow f (suc k) = f k || someBelow f k
+
+-- the elements that pass the test
+abbrev pub keep : {A : Type 0} → (A → Bool) → List A → List A
+keep p [] = []
+keep p (x ∷ xs) = cond (p x) (x ∷ keep p xs) (keep p xs)
+
+-- n numbers from k on
+abbrev pub upTo : ℕ → ℕ → List ℕ
+upTo k zero = []
+upTo k (suc n) = k ∷ upTo (suc k) n

@@ -1,0 +1,1 @@
+// Lists of any elements: definitions and laws, no code.

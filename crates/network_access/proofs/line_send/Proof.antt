@@ -1,0 +1,52 @@
+-- `line_send` changes one line of the network, as `lines::send` changes its words.
+use Rattle.lines.specs.Lines.{sentOrSame}
+use Rattle.lines.specs.InWords.{messageOf}
+use Rattle.network_access.proofs.AccessLaws.{line-stepped}
+use borrow.Author.Needs.{needs}
+use Rattle.network_access.proofs.line_send.Statement.{statement}
+use Rattle.network_access.proofs.line_send.Tie as tie
+
+mul-a : tie.Need-mul-a
+mul-a c = search needs
+
+add-a : tie.Need-add-a
+add-a c = search needs
+
+add-e : tie.Need-add-e
+add-e c = search needs
+
+mul-send : tie.Need-mul-send
+mul-send c = search needs
+
+sub-send : tie.Need-sub-send
+sub-send c = search needs
+
+part-send-start : tie.Need-part-send-start
+part-send-start c = search needs
+
+part-send-end : tie.Need-part-send-end
+part-send-end c = search needs
+
+send-requires : tie.Need-send-requires
+send-requires c κs = search needs
+
+same-length : tie.Need-same-length
+same-length c = search needs
+
+returns : tie.Need-returns
+returns c = line-stepped (c .before .before .before .before .before .args .state .now) (c .before .before .before .before .before .pre .0) (c .before .before .before .before .before .args .k) (c .before .before .before .before .before .pre .1) (c .before .before .before .before .before .pre .2) (sentOrSame (messageOf (c .before .before .before .before .before .args .m))) (c .before .before .send .last .0) (c .before .before .send .kept .0) (c .before .before .send .ensures)
+
+pub line-send-spec : {M : Type 1} → statement M
+line-send-spec =
+    tie.close
+    (tie.spec
+    mul-a
+    add-a
+    add-e
+    mul-send
+    sub-send
+    part-send-start
+    part-send-end
+    send-requires
+    same-length
+    returns)

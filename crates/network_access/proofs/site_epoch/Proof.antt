@@ -1,0 +1,51 @@
+-- `site_epoch` changes one site of the network, as `site::epoch` changes its words.
+use Rattle.site.specs.Site.{atEpoch}
+use Rattle.network_access.proofs.AccessLaws.{site-stepped}
+use borrow.Author.Needs.{needs}
+use Rattle.network_access.proofs.site_epoch.Statement.{statement}
+use Rattle.network_access.proofs.site_epoch.Tie as tie
+
+mul-a : tie.Need-mul-a
+mul-a c = search needs
+
+add-a : tie.Need-add-a
+add-a c = search needs
+
+add-e : tie.Need-add-e
+add-e c = search needs
+
+mul-epoch : tie.Need-mul-epoch
+mul-epoch c = search needs
+
+sub-epoch : tie.Need-sub-epoch
+sub-epoch c = search needs
+
+part-epoch-start : tie.Need-part-epoch-start
+part-epoch-start c = search needs
+
+part-epoch-end : tie.Need-part-epoch-end
+part-epoch-end c = search needs
+
+epoch-requires : tie.Need-epoch-requires
+epoch-requires c κs = search needs
+
+same-length : tie.Need-same-length
+same-length c = search needs
+
+returns : tie.Need-returns
+returns c = site-stepped (c .before .before .before .before .before .args .state .now) (c .before .before .before .before .before .pre .0) (c .before .before .before .before .before .pre .1) (c .before .before .before .before .before .args .i) (c .before .before .before .before .before .pre .2) (atEpoch (c .before .before .before .before .before .args .number)) (c .before .before .epoch .last .0) (c .before .before .epoch .kept .0) (c .before .before .epoch .ensures)
+
+pub site-epoch-spec : {M : Type 1} → statement M
+site-epoch-spec =
+    tie.close
+    (tie.spec
+    mul-a
+    add-a
+    add-e
+    mul-epoch
+    sub-epoch
+    part-epoch-start
+    part-epoch-end
+    epoch-requires
+    same-length
+    returns)

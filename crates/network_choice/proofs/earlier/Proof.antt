@@ -1,0 +1,32 @@
+-- `earlier` asks which of the three the order is.
+use mathlib.Core.Path.{sym, ap, _∙_}
+use Rattle.timestamp.specs.Order.{isEarlier}
+use borrow.Author.Needs.{needs}
+use Rattle.network_choice.proofs.earlier.Statement.{statement}
+use Rattle.network_choice.proofs.earlier.Tie as tie
+
+compare-requires : tie.Need-compare-requires
+compare-requires c κs = search needs
+
+enum-told : tie.Need-enum-told
+enum-told c = search needs
+
+enum-told-2 : tie.Need-enum-told-2
+enum-told-2 c = search needs
+
+enum-told-3 : tie.Need-enum-told-3
+enum-told-3 c = search needs
+
+returns : tie.Need-returns
+returns c = ap isEarlier (sym (c .enum-told .given .1) ∙ c .before .before .compare .ensures)
+
+returns-2 : tie.Need-returns-2
+returns-2 c = ap isEarlier (sym (c .enum-told2 .given .1) ∙ c .before .before .compare .ensures)
+
+returns-3 : tie.Need-returns-3
+returns-3 c = ap isEarlier (sym (c .enum-told3 .given .1) ∙ c .before .before .compare .ensures)
+
+pub earlier-spec : {M : Type 1} → statement M
+earlier-spec =
+    tie.close
+    (tie.spec compare-requires enum-told enum-told-2 enum-told-3 returns returns-2 returns-3)

@@ -1,0 +1,132 @@
+// Which message a schedule takes: its number, and of the parents' oldest messages the earliest.
+use timestamp::Order;
+use timestamp::Timestamp;
+ghost use mathlib.Core.Path.{_≡_};
+ghost use mathlib.Core.Bool.{true, _&&_};
+ghost use Prim.Native.Nat.{_+_, _<_};
+ghost use lib.ListN.{length};
+ghost use lib.Dec.{eqb};
+ghost use Rattle.timestamp.specs.Timestamp.{stampOf};
+ghost use Rattle.timestamp.specs.Order.{order, isEarlier};
+ghost use Rattle.limits.specs.Limits.{sitesMost};
+ghost use Rattle.placement.specs.Masks.{maskOf};
+ghost use Rattle.placement.specs.Placement.{isLine};
+ghost use Rattle.network_layout.specs.Layout.{stateSize};
+ghost use Rattle.protocol.specs.Network.{lineAt};
+ghost use Rattle.lists.specs.Lists.{someBelow};
+ghost use Rattle.protocol.specs.Steps.{scheduleNumber, headStamp};
+ghost use Rattle.network_layout.specs.InWords.{networkIn, inRange, numberIn};
+ghost use Rattle.network_choice.specs.Choice.{Best};
+
+// A parent and the timestamp of its oldest message; the parent is 8 where there is none.
+pub struct Head {
+    pub parent: u32,
+    pub stamp: Timestamp,
+}
+
+// The number of the first cause that refuses the step, or 0.
+pub fn schedule_number(state: &[u32], j: u32) -> u32
+    requires { ⌜ length (now state) ≡ stateSize ⌝ }
+    ensures { λ r. ⌜ r ≡ numberIn (now (state .entry)) (λ n. scheduleNumber n j) ⌝ }
+{
+    if !network_shape::shaped(state) {
+        return 6;
+    }
+    if !network_shape::is_site(state, j) {
+        return 7;
+    }
+    if !network_access::has_parents(state, j) {
+        return 19;
+    }
+    if lacks_arrived(state, j) {
+        return 20;
+    }
+    0
+}
+
+// Whether the line from some parent has no message that has arrived.
+fn lacks_arrived(state: &[u32], j: u32) -> bool
+    requires { ⌜ (length (now state) ≡ stateSize) × (inRange (now state) ≡ true) × (j < sitesMost) ⌝ }
+    ensures { λ r. ⌜ r ≡ someBelow (λ p. isLine (networkIn (now (state .entry)) .items) p j && eqb (lineAt (networkIn (now (state .entry))) p j .arrived) 0) sitesMost ⌝ }
+{
+    let mask = network_access::parents(state, j);
+    let mut p = 0;
+    while p < 8 {
+        if lacks_from(state, mask, p, j) {
+            return true;
+        }
+        p += 1;
+    }
+    false
+}
+
+// Whether p is one of the parents, whose mask is given, and its line has no message that has arrived.
+fn lacks_from(state: &[u32], mask: u32, p: u32, j: u32) -> bool
+    requires { ⌜ (length (now state) ≡ stateSize) × (j < sitesMost) × (p < sitesMost) × (mask ≡ maskOf (λ q. isLine (networkIn (now state) .items) q j) sitesMost) ⌝ }
+    ensures { λ r. ⌜ r ≡ (isLine (networkIn (now (state .entry)) .items) p j && eqb (lineAt (networkIn (now (state .entry))) p j .arrived) 0) ⌝ }
+{
+    if !placement::bit(mask, p) {
+        return false;
+    }
+    let k = words::wide(p) * 8 + words::wide(j);
+    network_access::line_arrived(state, k) == 0
+}
+
+// ---- the parent with the earliest message, at a site whose schedule is not refused
+pub fn chosen(state: &[u32], j: u32) -> Head
+    requires { ⌜ (length (now state) ≡ stateSize) × (numberIn (now state) (λ n. scheduleNumber n j) ≡ 0) ⌝ }
+    ensures { λ r. ⌜ Best (networkIn (now (state .entry))) j sitesMost (r .parent) (stampOf (r .stamp)) ⌝ }
+{
+    let mask = network_access::parents(state, j);
+    let mut best = Head {
+        parent: 8,
+        stamp: network_access::no_stamp(),
+    };
+    let mut p = 0;
+    while p < 8 {
+        best = better(state, mask, p, j, best);
+        p += 1;
+    }
+    best
+}
+
+// The best of the parents below p, unless p is a parent and its message is earlier.
+fn better(state: &[u32], mask: u32, p: u32, j: u32, best: Head) -> Head
+    requires { ⌜ (length (now state) ≡ stateSize) × (numberIn (now state) (λ n. scheduleNumber n j) ≡ 0) × (p < sitesMost) × (mask ≡ maskOf (λ q. isLine (networkIn (now state) .items) q j) sitesMost) × Best (networkIn (now state)) j p (best .parent) (stampOf (best .stamp)) ⌝ }
+    ensures { λ r. ⌜ Best (networkIn (now (state .entry))) j (p + 1) (r .parent) (stampOf (r .stamp)) ⌝ }
+{
+    if !placement::bit(mask, p) {
+        return best;
+    }
+    let stamp = head_stamp(state, p, j);
+    if 8 <= best.parent {
+        return Head { parent: p, stamp };
+    }
+    if earlier(stamp, best.stamp) {
+        return Head { parent: p, stamp };
+    }
+    best
+}
+
+fn earlier(a: Timestamp, b: Timestamp) -> bool
+    ensures { λ r. ⌜ r ≡ isEarlier (order (stampOf a) (stampOf b)) ⌝ }
+{
+    match a.compare(b) {
+        Order::Earlier => true,
+        Order::Equal => false,
+        Order::Later => false,
+    }
+}
+
+// The timestamp of the oldest message from a parent.
+fn head_stamp(state: &[u32], p: u32, j: u32) -> Timestamp
+    requires { ⌜ (length (now state) ≡ stateSize) × (numberIn (now state) (λ n. scheduleNumber n j) ≡ 0) × (isLine (networkIn (now state) .items) p j ≡ true) ⌝ }
+    ensures { λ r. ⌜ stampOf r ≡ headStamp (networkIn (now (state .entry))) p j ⌝ }
+{
+    let k = words::wide(p) * 8 + words::wide(j);
+    let m = network_access::line_first(state, k);
+    if m.name < 256 {
+        return network_access::record_stamp(state, words::wide(m.name));
+    }
+    m.stamp
+}

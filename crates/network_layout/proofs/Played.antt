@@ -1,0 +1,38 @@
+-- What the code's contracts say of calls made one after another is what the definitions say of them.
+use mathlib.Core.Path.{_≡_, refl, ap, sym, subst, _∙_}
+use mathlib.Core.List.{List, [], _∷_, map}
+use mathlib.Core.Option.{Option}
+use Prim.Native.Nat.{ℕ}
+use Rattle.protocol.specs.Network.{Network}
+use Rattle.protocol.specs.Calls.{Call, setUp, Outcome, perform}
+use Rattle.network_layout.specs.InWords.{meaning}
+use Rattle.network_layout.specs.Promises.{Performed}
+use Rattle.protocol.specs.Agreement.{Known, nothingKnown, witnessed, learnedAll, Agreement, OneCopyAgreement}
+use Rattle.network_layout.specs.Played.{Event, Played, seenOf, witnessedAll, PlayedAgreement}
+use Rattle.protocol.proofs.Theorem.{one-copy-agreement}
+
+abbrev calls : List Event → List Call
+calls es = map (λ (e : Event). e .call) es
+
+-- a contract kept is the outcome of `perform`
+outcome-is : (w : List ℕ) (e : Event) → Performed (e .call) w (e .left) (e .number) (e .parent) (e .stamp) (e .values) → seenOf e ≡ perform (meaning w) (e .call)
+outcome-is w e p =
+    λ i. record { number = p .number-is i; parent = p .parent-is i; stamp = p .stamp-is i; values = p .values-are i; after = p .after-is i }
+
+witnessed-is : (w : List ℕ) (k : Known) (es : List Event) → k .state ≡ meaning w → Played w es → witnessedAll k es ≡ learnedAll k (calls es)
+witnessed-is w k [] s p = refl
+witnessed-is w k (e ∷ es) s (p, ps) =
+    let same : seenOf e ≡ perform (k .state) (e .call) = outcome-is w e p ∙ ap (λ (x : Option Network). perform x (e .call)) (sym s) in
+    witnessed-is (e .left) (witnessed k (e .call) (seenOf e)) es refl ps
+    ∙ ap (λ (o : Outcome). learnedAll (witnessed k (e .call) o) (calls es)) same
+
+pub played-agreement : OneCopyAgreement → PlayedAgreement
+unfolding OneCopyAgreement PlayedAgreement
+played-agreement theorem w e es sites items primaries masks c z (p, ps) =
+    let start = nothingKnown (meaning w) in
+    let asked : perform (meaning w) (setUp sites items primaries masks) .number ≡ 0 = ap (λ (x : Call). perform (meaning w) x .number) (sym c) ∙ sym (p .number-is) ∙ z in
+    subst Agreement (ap (λ (x : Call). learnedAll start (x ∷ calls es)) (sym c) ∙ sym (witnessed-is w start (e ∷ es) refl (p, ps)))
+    (theorem (meaning w) sites items primaries masks asked (calls es))
+
+pub one-copy-played : PlayedAgreement
+one-copy-played = played-agreement one-copy-agreement

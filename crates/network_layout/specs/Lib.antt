@@ -1,0 +1,5 @@
+pub mod Layout
+pub mod InWords
+pub mod Promises
+pub mod Reading
+pub mod Played

@@ -1,0 +1,70 @@
+// The layout of a state in words, and what the calls answer. No code.
+use timestamp::Timestamp;
+
+// An operation of a commit: 0 a read or 1 a write, the item, and the value that is written.
+pub struct Operation {
+    pub kind: u8,
+    pub item: u32,
+    pub value: i32,
+}
+
+// What a commit answers: its number, the timestamp, and the first `count` values, those read in order; all zero where refused.
+pub struct Committed {
+    pub number: u32,
+    pub stamp: Timestamp,
+    pub count: usize,
+    pub values: [i32; 8],
+}
+
+// What a dummy answers: its number and the timestamp, which is zero where it is refused.
+pub struct Dummied {
+    pub number: u32,
+    pub stamp: Timestamp,
+}
+
+// What a schedule answers: its number, the parent and the message's timestamp; all zero where refused.
+pub struct Scheduled {
+    pub number: u32,
+    pub parent: u32,
+    pub stamp: Timestamp,
+}
+
+// What a waiting report answers: its number, and the first `count` items, those that are waiting; all zero where refused.
+pub struct Report {
+    pub number: u32,
+    pub count: usize,
+    pub items: [u32; 64],
+}
+
+// How many sites, items and records a state holds.
+pub struct Totals {
+    pub sites: u32,
+    pub items: u32,
+    pub records: u32,
+}
+
+// A record of the history: its site, its timestamp, and the first `count` of eight operations, three words each.
+pub struct Entry {
+    pub site: u32,
+    pub stamp: Timestamp,
+    pub count: usize,
+    pub ops: [u32; 24],
+}
+
+// Where the parts of a state start, and its size.
+pub const ITEMS: usize = 3;
+
+pub const SITES: usize = ITEMS + 64 * 2;
+
+pub const SITE: usize = 82;
+
+pub const LINES: usize = SITES + 8 * SITE;
+
+pub const LINE: usize = 306;
+
+pub const HISTORY: usize = LINES + 64 * LINE;
+
+pub const RECORD: usize = 44;
+
+// The words of a state.
+pub const WORDS: usize = HISTORY + 256 * RECORD;

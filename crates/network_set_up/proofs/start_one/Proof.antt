@@ -1,0 +1,50 @@
+-- `start_one` lays the words of a site at its start after those before it.
+use mathlib.Core.Path.{ap}
+use Prim.Native.Nat.{ℕ, _*_}
+use Rattle.site.specs.InWords.{siteSize}
+use Rattle.network_set_up.proofs.SetUpLaws.{start-next, start-range}
+use borrow.Author.Needs.{needs}
+use Rattle.network_set_up.proofs.start_one.Statement.{statement}
+use Rattle.network_set_up.proofs.start_one.Tie as tie
+
+array-write-words : tie.Need-array-write-words
+array-write-words c = search needs
+
+array-write-words-2 : tie.Need-array-write-words-2
+array-write-words-2 c = search needs
+
+wide-requires : tie.Need-wide-requires
+wide-requires c κs = search needs
+
+mul-lay : tie.Need-mul-lay
+mul-lay c = search needs
+
+slice-aggregate-lay : tie.Need-slice-aggregate-lay
+slice-aggregate-lay c = search needs
+
+lay-requires : tie.Need-lay-requires
+lay-requires c κs = search needs
+
+same-length : tie.Need-same-length
+same-length c = search needs
+
+returns : tie.Need-returns
+returns c =
+    let A = c .before .before .before .before .before .before .before .args in
+    let a = ap (λ (n : ℕ). n * siteSize) (c .before .before .before .before .wide .ensures) in (
+      start-next (A .w .now) (c .before .before .lay .last .0) (A .i) (c .before .before .before .before .wide .result * siteSize) (c .before .before .before .before .before .before .before .pre .0) (c .before .before .before .before .before .before .before .pre .1) a (c .before .before .lay .ensures),
+      start-range (A .w .now) (c .before .before .lay .last .0) (A .i) (c .before .before .before .before .wide .result * siteSize) (c .before .before .before .before .before .before .before .pre .0) (c .before .before .before .before .before .before .before .pre .1) a (c .before .before .lay .ensures),
+    )
+
+pub start-one-spec : {M : Type 1} → statement M
+start-one-spec =
+    tie.close
+    (tie.spec
+    array-write-words
+    array-write-words-2
+    wide-requires
+    mul-lay
+    slice-aggregate-lay
+    lay-requires
+    same-length
+    returns)

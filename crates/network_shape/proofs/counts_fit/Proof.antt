@@ -1,0 +1,27 @@
+-- `counts_fit` leaves at the first count out of range.
+use mathlib.Core.Path.{sym}
+use native.Mathlib.Omega.{arith}
+use borrow.Author.Tests.{le-leb, lt-leb}
+use Rattle.network_shape.proofs.counts_fit.Statement.{statement}
+use Rattle.network_shape.proofs.counts_fit.Tie as tie
+
+returns : tie.Need-returns
+returns c = let A = c .before .args in sym (rw (lt-leb 1 (A .sites) (omega arith)))
+
+returns-2 : tie.Need-returns-2
+returns-2 c = let A = c .before .before .args in sym (rw (le-leb 1 (A .sites) (omega arith), lt-leb (A .sites) 8 (omega arith)))
+
+returns-3 : tie.Need-returns-3
+returns-3 c =
+    let A = c .before .before .before .args in sym (rw (le-leb 1 (A .sites) (omega arith), le-leb (A .sites) 8 (omega arith), lt-leb 1 (A .items) (omega arith)))
+
+returns-4 : tie.Need-returns-4
+returns-4 c =
+    let A = c .before .before .before .before .args in sym (rw (le-leb 1 (A .sites) (omega arith), le-leb (A .sites) 8 (omega arith), le-leb 1 (A .items) (omega arith), lt-leb (A .items) 64 (omega arith)))
+
+returns-5 : tie.Need-returns-5
+returns-5 c =
+    let A = c .before .before .before .before .args in sym (rw (le-leb 1 (A .sites) (omega arith), le-leb (A .sites) 8 (omega arith), le-leb 1 (A .items) (omega arith), le-leb (A .items) 64 (omega arith)))
+
+pub counts-fit-spec : {M : Type 1} → statement M
+counts-fit-spec = tie.close (tie.spec returns returns-2 returns-3 returns-4 returns-5)

@@ -1,0 +1,212 @@
+-- The waiting report: what a message writes, by its name; the items collected, each once; and the call.
+use mathlib.Core.Path.{_≡_, refl, sym, ap, _∙_}
+use mathlib.Core.Bool.{Bool, true, false, cond, _&&_}
+use mathlib.Core.List.{List, [], _∷_, _++_, append-nil}
+use Prim.Native.Nat.{ℕ, zero, suc, _+_, _*_, _%_, _^_, _≤_, _<_, min}
+use native.Mathlib.Omega.{arith}
+use native.Mathlib.Numerals.{add-one}
+use native.Mathlib.Nat.{zero-div}
+use lib.ListN.{length, getD, set, take, List·getD-map, List·getD-eq-default}
+use lib.Seq.{getD-take, take-suc-set, drop-set-lt}
+use lib.Dec.{eqb, ltb}
+use borrow.Author.Tests.{lt-ltb, le-ltb, ltb-true, ltb-false, eq-eqb, ne-eqb, eqb-true, eqb-false}
+use Rattle.words.specs.Words.{part, chunks}
+use Rattle.words.proofs.Parts.{part-getD, part-part}
+use Rattle.words.proofs.Chunks.{chunks-at}
+use Rattle.timestamp.specs.InWords.{stampIn, stampSize}
+use Rattle.placement.specs.Masks.{bit}
+use Rattle.placement.specs.Placement.{Item, noItem, copies}
+use Rattle.lists.specs.Lists.{any, someBelow}
+use Rattle.limits.specs.Limits.{sitesMost, itemsMost, heldMost, recordsMost}
+use Rattle.lines.specs.Lines.{Line, Message, commit, dummy, noLine}
+use Rattle.lines.specs.InWords.{messageIn, messageSize, lineIn, lineSize, boxesIn, boxesSize}
+use Rattle.lines.proofs.Boxes.{messages-length}
+use Rattle.records.specs.Records.{Record}
+use Rattle.network_layout.specs.Layout.{linesAt, stateSize}
+use Rattle.protocol.specs.Network.{linesMost, Network, noStamp, noRecord, messageOps, lineNumber}
+use Rattle.lists.specs.Numbers.{numberIf}
+use Rattle.protocol.specs.Steps.{noSuchSite}
+use Rattle.protocol.specs.Waiting.{writesItem, onLine, isWaiting, waitingNumber, occurrences, EachOnce}
+use Rattle.network_waiting.specs.Collected.{named, Collected}
+use Rattle.protocol.specs.Calls.{waiting, accepted, perform}
+use Rattle.network_layout.specs.InWords.{networkIn, inRange, numberIn}
+use Rattle.network_layout.specs.Promises.{Performed}
+use Rattle.network_layout.proofs.Assembled.{partsOf, range-parts, line-read}
+use Rattle.network_layout.proofs.Performs.{records-count, items-count, shaped-range, shaped-well, meaning-some, number-shaped, site-found, site-first, performs-refused, performs-accepted}
+use Rattle.lists.proofs.Some.{some-below-at}
+
+-- ---- message i of a line, by its name
+named-by : (x : ℕ) (t : List ℕ) → min x recordsMost ≡ named (cond (ltb x recordsMost) (commit x) (dummy (stampIn t)))
+named-by x t = go (ltb x recordsMost) refl
+  where
+    go : (b : Bool) → ltb x recordsMost ≡ b → min x recordsMost ≡ named (cond (ltb x recordsMost) (commit x) (dummy (stampIn t)))
+    go true h = rw h (omega (arith, ltb-true x recordsMost h))
+    go false h = rw h (omega (arith, ltb-false x recordsMost h))
+
+module _ (w : List ℕ) (size : length w ≡ stateSize) (k : ℕ) (b : k < linesMost) (i : ℕ) (h : i < length (getD (networkIn w .lines) k noLine .messages)) where
+  pub message-low : i < heldMost
+  message-low = omega (arith, messages-length (part w (linesAt + k * lineSize) lineSize), ap (λ (l : Line). length (l .messages)) (line-read w size k b))
+
+  message-at : getD (getD (networkIn w .lines) k noLine .messages) i (commit 0) ≡ messageIn (part w (linesAt + k * lineSize + (2 + i * messageSize)) messageSize)
+  unfolding lineIn
+  message-at =
+      let l = part w (linesAt + k * lineSize) lineSize in
+      let cs = chunks messageSize heldMost (part l 2 boxesSize) in
+      let low : i < heldMost = message-low in
+      let held : i < getD l 0 0 = omega (arith, messages-length l, ap (λ (x : Line). length (x .messages)) (line-read w size k b)) in
+      ap (λ (x : Line). getD (x .messages) i (commit 0)) (line-read w size k b)
+      ∙ List·getD-map messageIn (boxesIn l) i []
+      ∙ ap messageIn
+      (getD-take (getD l 0 0) cs i [] held
+      ∙ chunks-at messageSize heldMost (part l 2 boxesSize) i low
+      ∙ part-part l 2 boxesSize (i * messageSize) messageSize (omega arith)
+      ∙ part-part w (linesAt + k * lineSize) lineSize (2 + i * messageSize) messageSize (omega arith))
+
+  pub message-named : (x : ℕ) → x ≡ getD w (linesAt + k * lineSize + 2 + i * messageSize) 0 → min x recordsMost ≡ named (getD (getD (networkIn w .lines) k noLine .messages) i (commit 0))
+  message-named x e =
+      let at = linesAt + k * lineSize + (2 + i * messageSize) in
+      let place : linesAt + k * lineSize + 2 + i * messageSize ≡ at + 0 = omega arith in
+      let is : x ≡ getD (part w at messageSize) 0 0 = e ∙ ap (λ (j : ℕ). getD w j 0) place ∙ sym (part-getD w at messageSize 0 (omega arith)) in
+      ap (λ (y : ℕ). min y recordsMost) is ∙ named-by (getD (part w at messageSize) 0 0) (part (part w at messageSize) 1 stampSize) ∙ sym (ap named message-at)
+
+-- ---- what a message writes, where x is its name
+pub few-made : (w : List ℕ) → inRange w ≡ true → length (networkIn w .history) ≤ recordsMost
+unfolding partsOf
+few-made w e = omega (arith, records-count w, range-parts w e .few-records)
+
+module _ (item : ℕ) (h : List Record) (few : length h ≤ recordsMost) (m : Message) (x : ℕ) (e : min x recordsMost ≡ named m) where
+  ops-by-name : (m : Message) → messageOps h m ≡ getD h (named m) noRecord .ops
+  ops-by-name (commit k) = refl
+  ops-by-name (dummy t) = sym (ap (λ (r : Record). r .ops) (List·getD-eq-default h noRecord {n = recordsMost} few))
+
+  pub message-none : length h ≤ x → false ≡ any (writesItem item) (messageOps h m)
+  message-none g = sym (ap (any (writesItem item)) (ops-by-name m ∙ ap (λ (r : Record). r .ops) (List·getD-eq-default h noRecord {n = named m} (omega arith))))
+
+  pub message-some : x < length h → any (writesItem item) (getD h x noRecord .ops) ≡ any (writesItem item) (messageOps h m)
+  message-some g = let is : x ≡ named m = omega arith in ap (λ (k : ℕ). any (writesItem item) (getD h k noRecord .ops)) is ∙ sym (ap (any (writesItem item)) (ops-by-name m))
+
+-- ---- the messages of line k, and whether one of them writes the item
+abbrev pub onIt : List ℕ → ℕ → List Message
+onIt w k = getD (networkIn w .lines) k noLine .messages
+
+abbrev pub carries : List ℕ → ℕ → Message → Bool
+carries w item m = any (writesItem item) (messageOps (networkIn w .history) m)
+
+pub carried : (w : List ℕ) (p site item k : ℕ) → k ≡ lineNumber p site → any (carries w item) (onIt w k) ≡ onLine (networkIn w) site item p
+carried w p site item k e = ap (λ (j : ℕ). any (carries w item) (onIt w j)) e
+
+-- ---- an item, by the tests of the code
+module _ (n : Network) (i k : ℕ) where
+  pub not-copied : copies (n .items) i k ≡ false → false ≡ isWaiting n i k
+  unfolding isWaiting
+  not-copied e = sym (rw e)
+
+  module _ (e : copies (n .items) i k ≡ true) where
+    copied : isWaiting n i k ≡ someBelow (onLine n i k) sitesMost
+    unfolding isWaiting
+    copied = rw e
+
+    pub comes : (p : ℕ) → p < sitesMost → onLine n i k p ≡ true → true ≡ isWaiting n i k
+    comes p h t = sym (copied ∙ some-below-at (onLine n i k) sitesMost p h t)
+
+    pub comes-not : false ≡ someBelow (onLine n i k) sitesMost → false ≡ isWaiting n i k
+    comes-not f = f ∙ sym copied
+
+-- an item that is not there has no copy
+past : (n : Network) (i k : ℕ) → length (n .items) ≤ k → isWaiting n i k ≡ false
+past n i k h =
+    sym
+    (not-copied n i k
+    (ap (λ (x : Item). bit (x .mask) i) (List·getD-eq-default (n .items) noItem {n = k} h) ∙ ap (λ (q : ℕ). eqb (q % 2) 1) (zero-div (2 ^ i))))
+
+-- ---- the numbers below k that pass a test, in order
+abbrev pub passing : (ℕ → Bool) → ℕ → List ℕ
+passing f zero = []
+passing f (suc k) = passing f k ++ cond (f k) (k ∷ []) []
+
+occurrences-append : (j : ℕ) (xs ys : List ℕ) → occurrences j (xs ++ ys) ≡ occurrences j xs + occurrences j ys
+occurrences-append j [] ys = omega arith
+occurrences-append j (x ∷ xs) ys = omega (arith, occurrences-append j xs ys)
+
+abbrev once : Bool → ℕ
+once b = cond b 1 0
+
+-- the last of them counts where it is j
+last-here : (b : Bool) (k : ℕ) → occurrences k (cond b (k ∷ []) []) ≡ once b
+last-here true k = rw (eq-eqb k k refl)
+last-here false k = refl
+
+last-other : (b : Bool) (j k : ℕ) → (k ≡ j → ⊥) → occurrences j (cond b (k ∷ []) []) ≡ 0
+last-other true j k h = rw (ne-eqb k j h)
+last-other false j k h = refl
+
+-- a number other than k is below k + 1 where it is below k
+below-other : (j k : ℕ) → (k ≡ j → ⊥) → ltb j (suc k) ≡ ltb j k
+below-other j k h = go (ltb j k) refl
+  where
+    go : (b : Bool) → ltb j k ≡ b → ltb j (suc k) ≡ ltb j k
+    go true t = lt-ltb j (suc k) (omega (arith, ltb-true j k t)) ∙ sym t
+    go false t = le-ltb j (suc k) (omega (arith, h, ltb-false j k t)) ∙ sym t
+
+module _ (f : ℕ → Bool) (j : ℕ) where
+  passing-once : (k : ℕ) → occurrences j (passing f k) ≡ once (ltb j k && f j)
+  passing-once zero = rw (le-ltb j 0 (omega arith))
+  passing-once (suc k) = occurrences-append j (passing f k) (cond (f k) (k ∷ []) []) ∙ go (eqb k j) refl (passing-once k)
+    where
+      go : (b : Bool) → eqb k j ≡ b → occurrences j (passing f k) ≡ once (ltb j k && f j)
+          → occurrences j (passing f k) + occurrences j (cond (f k) (k ∷ []) []) ≡ once (ltb j (suc k) && f j)
+      go true t rest =
+          let same : k ≡ j = eqb-true k j t in
+          let front : occurrences j (passing f k) ≡ 0 = rest ∙ rw (le-ltb j k (omega arith)) in
+          let last : occurrences j (cond (f k) (k ∷ []) []) ≡ once (f j) = ap (λ (x : ℕ). occurrences j (cond (f x) (x ∷ []) [])) same ∙ last-here (f j) j in
+          rw (lt-ltb j (suc k) (omega arith)) (omega (arith, front, last))
+      go false t rest =
+          let other : k ≡ j → ⊥ = eqb-false k j t in
+          rw (below-other j k other) (omega (arith, rest, last-other (f k) j k other))
+
+  within : (m : ℕ) → (m ≤ j → f j ≡ false) → once (ltb j m && f j) ≡ once (f j)
+  within m none = go (ltb j m) refl
+    where
+      go : (b : Bool) → ltb j m ≡ b → once (ltb j m && f j) ≡ once (f j)
+      go true t = rw t
+      go false t = rw (t, none (omega (arith, ltb-false j m t)))
+
+pub each-once : (w : List ℕ) (i : ℕ) (xs : List ℕ) (m : ℕ) → m ≡ getD w 1 0 → xs ≡ passing (isWaiting (networkIn w) i) m → EachOnce (networkIn w) i xs
+each-once w i xs m is e j =
+    ap (occurrences j) e ∙ passing-once (isWaiting (networkIn w) i) j m ∙ within (isWaiting (networkIn w) i) j m (λ h. past (networkIn w) i j (omega (arith, items-count w 0)))
+
+-- ---- one item more
+module _ (waits : Bool) (vs : List ℕ) (count k : ℕ) (low : count ≤ k) where
+  pub collected-none : waits ≡ false → Collected waits vs vs count count k
+  collected-none e = record { above = omega arith; below = omega arith; items-are = sym (rw e (append-nil (take count vs))); rest-is = refl }
+
+  pub collected-one : waits ≡ true → count < length vs → Collected waits vs (set vs count k) count (count + 1) k
+  collected-one e h =
+      record {
+        above = omega arith;
+        below = omega arith;
+        items-are = ap (λ (m : ℕ). take m (set vs count k)) (add-one count) ∙ take-suc-set vs count k h ∙ sym (rw e);
+        rest-is = drop-set-lt (count + 1) vs count k (omega arith);
+      }
+
+pub collected-next : (f : ℕ → Bool) (vs vs′ : List ℕ) (count count′ k : ℕ) → take count vs ≡ passing f k → Collected (f k) vs vs′ count count′ k → take count′ vs′ ≡ passing f (k + 1)
+collected-next f vs vs′ count count′ k e s = s .items-are ∙ ap (λ (l : List ℕ). l ++ cond (f k) (k ∷ []) []) e ∙ sym (ap (passing f) (add-one k))
+
+pub few-placed : (w : List ℕ) → inRange w ≡ true → getD w 1 0 ≤ itemsMost
+unfolding partsOf
+few-placed w e = range-parts w e .few-items
+
+-- ---- the call
+module _ (w : List ℕ) (i : ℕ) where
+  pub waiting-refused : (r : ℕ) → r ≡ numberIn w (λ n. numberIf (noSuchSite n i) 7) → (r ≡ 0 → ⊥) → Performed (waiting i) w w r 0 noStamp []
+  unfolding perform waitingNumber
+  waiting-refused r e h =
+      performs-refused (waiting i) (λ n. waitingNumber n i) (λ n. accepted 0 noStamp [] n) (λ n. refl) refl w r (site-first w i (λ n. []) r e h) h
+
+  pub waiting-done : numberIn w (λ n. numberIf (noSuchSite n i) 7) ≡ 0 → Performed (waiting i) w w 0 0 noStamp []
+  unfolding perform waitingNumber
+  waiting-done z =
+      let q = site-found w i z in
+      let none : numberIn w (λ n. waitingNumber n i) ≡ 0 = number-shaped w (λ n. waitingNumber n i) (q .0) ∙ rw (q .1) in
+      performs-accepted (waiting i) (λ n. waitingNumber n i) (λ n. accepted 0 noStamp [] n) (λ n. refl) refl w w 0 noStamp [] none refl refl refl refl
+      (meaning-some w (networkIn w) (shaped-range w (q .0)) refl (shaped-well w (q .0)))

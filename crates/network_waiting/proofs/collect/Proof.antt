@@ -1,0 +1,75 @@
+-- `collect` asks one item after another: those below k that are waiting have been put down, in order.
+use mathlib.Core.Path.{_≡_, refl, _∙_}
+use Prim.Native.Nat.{_≤_, _-_}
+use native.Mathlib.Omega.{arith}
+use lib.ListN.{length, getD, take}
+use Rattle.limits.specs.Limits.{itemsMost}
+use Rattle.protocol.specs.Waiting.{isWaiting}
+use Rattle.network_layout.specs.InWords.{networkIn}
+use Rattle.network_layout.specs.Promises.{Filled}
+use Rattle.network_layout.proofs.Places.{filled-more}
+use Rattle.network_waiting.proofs.WaitingLaws.{passing, each-once, collected-next, few-placed}
+use borrow.Author.Needs.{needs}
+use Rattle.network_waiting.proofs.collect.Statement.{statement}
+use Rattle.network_waiting.proofs.collect.Tie as tie
+
+abbrev Inv-loop : tie.InvT-loop
+Inv-loop state site items₀ placed count₀ k₀ items count k = (k ≤ placed) × (count ≤ k) × (length items ≡ itemsMost) × (take count items ≡ passing (isWaiting (networkIn state) site) k) × Filled 0 itemsMost count items
+
+abbrev μ-loop : tie.MeasureT-loop
+μ-loop state site items₀ placed count₀ k₀ items count k = placed - k
+
+shared-slice-read-placed : tie.Need-shared-slice-read-placed Inv-loop μ-loop
+shared-slice-read-placed c = search needs
+
+loop-holds : tie.Need-loop-holds Inv-loop μ-loop
+loop-holds c = (omega arith, omega arith, refl, refl, record { fits = omega arith; rest-is = refl })
+
+slice-aggregate-collect-one : tie.Need-slice-aggregate-collect-one Inv-loop μ-loop
+slice-aggregate-collect-one c = search needs
+
+collect-one-requires : tie.Need-collect-one-requires Inv-loop μ-loop
+collect-one-requires c κs =
+    let s = c .before .before .before .before .before in
+    let l = c .before .before .loop in
+    (s .pre .0, s .pre .1, s .pre .2, l .inv .1, omega (arith, c .before .loop-test .taken, few-placed (s .args .state .now) (s .pre .1)), l .inv .2)
+
+add-k : tie.Need-add-k Inv-loop μ-loop
+add-k c = omega (arith, c .before .before .before .loop-test .taken, few-placed (c .before .before .before .before .before .before .before .args .state .now) (c .before .before .before .before .before .before .before .pre .1))
+
+loop-less : tie.Need-loop-less Inv-loop μ-loop
+loop-less c = search needs
+
+loop-again : tie.Need-loop-again Inv-loop μ-loop
+loop-again c =
+    let A = c .before .before .before .before .before .before .before .args in
+    let l = c .before .before .before .before .loop in
+    let q = c .before .collect-one in (
+      omega arith,
+      q .ensures .below,
+      q .kept .0 ∙ l .inv .2,
+      collected-next (isWaiting (networkIn (A .state .now)) (A .site)) (l .items) (q .last .0) (l .count) (q .result) (l .k) (l .inv .3) (q .ensures),
+      filled-more 0 itemsMost (l .count) (q .result) (l .items) (q .last .0) (l .inv .4) (q .ensures .above) (omega (arith, q .ensures .below, few-placed (A .state .now) (c .before .before .before .before .before .before .before .pre .1))) (q .ensures .rest-is),
+    )
+
+returns : tie.Need-returns Inv-loop μ-loop
+returns c =
+    let A = c .before .before .before .before .args in
+    let l = c .before .loop in
+    let all : l .k ≡ getD (A .state .now) 1 0 = omega (arith, l .inv .0, c .loop-test .left) in
+    (refl, each-once (A .state .now) (A .site) (take (l .count) (l .items)) (l .k) all (l .inv .3), l .inv .4)
+
+pub collect-spec : {M : Type 1} → statement M
+collect-spec =
+    tie.close
+    (tie.spec
+    Inv-loop
+    μ-loop
+    shared-slice-read-placed
+    loop-holds
+    slice-aggregate-collect-one
+    collect-one-requires
+    add-k
+    loop-less
+    loop-again
+    returns)

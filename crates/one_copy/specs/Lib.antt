@@ -1,4 +1,0 @@
-pub mod Book
-pub mod Run
-pub mod Agreement
-pub mod Played

@@ -1,1 +1,0 @@
-// One-copy agreement: definitions and a theorem, no code.

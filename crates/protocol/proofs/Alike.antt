@@ -1,0 +1,160 @@
+-- Commits alike: those that read and write the same, whatever values their reads were recorded with. The run of such commits is one run.
+use mathlib.Core.Path.{_≡_, refl, ap, ap₂, subst, _∙_}
+use mathlib.Core.Bool.{Bool, true, false, cond}
+use mathlib.Core.List.{List, [], _∷_, _++_, map}
+use Prim.Native.Nat.{ℕ, zero, suc, _<_}
+use native.Mathlib.Omega.{arith}
+use lib.IntN.{ℤ, pos}
+use lib.ListN.{length, getD}
+use Rattle.timestamp.specs.Timestamp.{Stamp}
+use Rattle.timestamp.specs.Order.{order, notLater}
+use Rattle.site.specs.Operations.{Op, reads, recorded, written, Work, work, worked}
+use Rattle.records.specs.Records.{Record}
+use Rattle.lists.specs.Lists.{keep, upTo}
+use Rattle.protocol.specs.Run.{Turn, numbered, comesFirst, insert, sorted, inTurn, after, seen, run, zeros, find, shown, valueAt}
+use Rattle.protocol.proofs.Works.{read-no-write}
+
+-- the same work on every table
+abbrev pub AlikeOps : List Op → List Op → Type 0
+AlikeOps os us = (before table : List ℤ) → work before table os ≡ work before table us
+
+pub record Alike (r c : Record) : Type 0 where
+  pub site-same : r .site ≡ c .site
+  pub stamp-same : r .stamp ≡ c .stamp
+  pub ops-alike : AlikeOps (r .ops) (c .ops)
+
+-- ---- two lists of one length, element with element
+abbrev pub Matched : {A : Type 0} → (A → A → Type 0) → List A → List A → Type 0
+Matched R [] [] = Unit {0}
+Matched R [] (y ∷ ys) = ⊥
+Matched R (x ∷ xs) [] = ⊥
+Matched R (x ∷ xs) (y ∷ ys) = R x y × Matched R xs ys
+
+abbrev pub AllAlike : List Record → List Record → Type 0
+AllAlike h cs = Matched Alike h cs
+
+module _ {A : Type 0} (R : A → A → Type 0) where
+  pub matched-length : (xs ys : List A) → Matched R xs ys → length xs ≡ length ys
+  matched-length [] [] m = refl
+  matched-length [] (y ∷ ys) m = absurd m
+  matched-length (x ∷ xs) [] m = absurd m
+  matched-length (x ∷ xs) (y ∷ ys) m = ap suc (matched-length xs ys (m .1))
+
+  pub matched-at : (xs ys : List A) (k : ℕ) (d : A) → Matched R xs ys → k < length xs → R (getD xs k d) (getD ys k d)
+  matched-at [] [] k d m l = absurd (omega arith)
+  matched-at [] (y ∷ ys) k d m l = absurd m
+  matched-at (x ∷ xs) [] k d m l = absurd m
+  matched-at (x ∷ xs) (y ∷ ys) zero d m l = m .0
+  matched-at (x ∷ xs) (y ∷ ys) (suc k) d m l = matched-at xs ys k d (m .1) (omega arith)
+
+  matched-add : (xs ys : List A) (x y : A) → Matched R xs ys → R x y → Matched R (xs ++ (x ∷ [])) (ys ++ (y ∷ []))
+  matched-add [] [] x y m e = (e, tt)
+  matched-add [] (v ∷ ys) x y m e = absurd m
+  matched-add (u ∷ xs) [] x y m e = absurd m
+  matched-add (u ∷ xs) (v ∷ ys) x y m e = (m .0, matched-add xs ys x y (m .1) e)
+
+  -- those that pass a test that does not tell them apart
+  matched-keep : (p : A → Bool) → ((x y : A) → R x y → p x ≡ p y) → (xs ys : List A) → Matched R xs ys → Matched R (keep p xs) (keep p ys)
+  matched-keep p same [] [] m = tt
+  matched-keep p same [] (y ∷ ys) m = absurd m
+  matched-keep p same (x ∷ xs) [] m = absurd m
+  matched-keep p same (x ∷ xs) (y ∷ ys) m =
+      subst (λ (b : Bool). Matched R (keep p (x ∷ xs)) (cond b (y ∷ keep p ys) (keep p ys))) (same x y (m .0)) (go (p x) (matched-keep p same xs ys (m .1)))
+    where
+      go : (b : Bool) → Matched R (keep p xs) (keep p ys) → Matched R (cond b (x ∷ keep p xs) (keep p xs)) (cond b (y ∷ keep p ys) (keep p ys))
+      go true r = (m .0, r)
+      go false r = r
+
+pub all-alike-add : (h cs : List Record) (r c : Record) → AllAlike h cs → Alike r c → AllAlike (h ++ (r ∷ [])) (cs ++ (c ∷ []))
+all-alike-add h cs r c m e = matched-add Alike h cs r c m e
+
+-- ---- operations recorded with values are alike to those without: a read is read again, and writes nothing
+module _ (before table : List ℤ) (o : Op) (b t : List ℤ) where
+  recorded-again : recorded b t (recorded before table o) ≡ recorded b t o
+  recorded-again = go (reads o) refl
+    where
+      go : (r : Bool) → reads o ≡ r → recorded b t (recorded before table o) ≡ recorded b t o
+      go true e = simp e
+      go false e = simp e
+
+  written-again : written t (recorded before table o) ≡ written t o
+  written-again = go (reads o) refl
+    where
+      go : (r : Bool) → reads o ≡ r → written t (recorded before table o) ≡ written t o
+      go true e = rw (e, read-no-write o e)
+      go false e = rw e
+
+pub worked-alike : (before table : List ℤ) (os : List Op) → AlikeOps (work before table os .ops) os
+unfolding work
+worked-alike before table [] b t = refl
+worked-alike before table (o ∷ os) b t =
+    let rest : work b (written t (recorded before table o)) (work before (written table o) os .ops) ≡ work b (written t o) os
+    = ap (λ (l : List ℤ). work b l (work before (written table o) os .ops)) (written-again before table o b t) ∙ worked-alike before (written table o) os b (written t o) in
+    λ i. record { table = rest i .table; ops = recorded-again before table o b t i ∷ rest i .ops }
+
+-- ---- turns alike
+abbrev AlikeTurns : Turn → Turn → Type 0
+AlikeTurns c d = (c .number ≡ d .number) × Alike (c .commit) (d .commit)
+
+numbered-alike : (j : ℕ) (h cs : List Record) → AllAlike h cs → Matched AlikeTurns (numbered j h) (numbered j cs)
+numbered-alike j [] [] m = tt
+numbered-alike j [] (c ∷ cs) m = absurd m
+numbered-alike j (r ∷ h) [] m = absurd m
+numbered-alike j (r ∷ h) (c ∷ cs) m = ((refl, m .0), numbered-alike (suc j) h cs (m .1))
+
+insert-alike : (c d : Turn) (xs ys : List Turn) → AlikeTurns c d → Matched AlikeTurns xs ys → Matched AlikeTurns (insert c xs) (insert d ys)
+insert-alike c d [] [] e m = (e, tt)
+insert-alike c d [] (y ∷ ys) e m = absurd m
+insert-alike c d (x ∷ xs) [] e m = absurd m
+insert-alike c d (x ∷ xs) (y ∷ ys) e m =
+    let same : comesFirst (c .commit) (x .commit) ≡ comesFirst (d .commit) (y .commit) = λ i. notLater (order (e .1 .stamp-same i) (m .0 .1 .stamp-same i)) in
+    subst (λ (b : Bool). Matched AlikeTurns (insert c (x ∷ xs)) (cond b (d ∷ (y ∷ ys)) (y ∷ insert d ys))) same
+    (go (comesFirst (c .commit) (x .commit)) (insert-alike c d xs ys e (m .1)))
+  where
+    go : (b : Bool) → Matched AlikeTurns (insert c xs) (insert d ys) → Matched AlikeTurns (cond b (c ∷ (x ∷ xs)) (x ∷ insert c xs)) (cond b (d ∷ (y ∷ ys)) (y ∷ insert d ys))
+    go true r = (e, m)
+    go false r = (m .0, r)
+
+sorted-alike : (xs ys : List Turn) → Matched AlikeTurns xs ys → Matched AlikeTurns (sorted xs) (sorted ys)
+sorted-alike [] [] m = tt
+sorted-alike [] (y ∷ ys) m = absurd m
+sorted-alike (x ∷ xs) [] m = absurd m
+sorted-alike (x ∷ xs) (y ∷ ys) m = insert-alike x y (sorted xs) (sorted ys) (m .0) (sorted-alike xs ys (m .1))
+
+turns-alike : (h cs : List Record) → AllAlike h cs → Matched AlikeTurns (inTurn h) (inTurn cs)
+turns-alike h cs m = sorted-alike (numbered 0 h) (numbered 0 cs) (numbered-alike 0 h cs m)
+
+-- ---- one run
+table-alike : (table : List ℤ) (c d : Turn) → AlikeTurns c d → worked table (c .commit .ops) .table ≡ worked table (d .commit .ops) .table
+table-alike table c d e = ap (λ (w : Work). w .table) (e .1 .ops-alike table table)
+
+after-alike : (table : List ℤ) (xs ys : List Turn) → Matched AlikeTurns xs ys → after table xs ≡ after table ys
+after-alike table [] [] m = refl
+after-alike table [] (y ∷ ys) m = absurd m
+after-alike table (x ∷ xs) [] m = absurd m
+after-alike table (x ∷ xs) (y ∷ ys) m = after-alike (worked table (x .commit .ops) .table) xs ys (m .1) ∙ ap (λ (t : List ℤ). after t ys) (table-alike table x y (m .0))
+
+seen-alike : (table : List ℤ) (c d : Turn) → AlikeTurns c d → seen table c ≡ seen table d
+seen-alike table c d e =
+    λ i. record { number = e .0 i; commit = record { site = e .1 .site-same i; stamp = e .1 .stamp-same i; ops = e .1 .ops-alike table table i .ops } }
+
+run-alike : (table : List ℤ) (xs ys : List Turn) → Matched AlikeTurns xs ys → run table xs ≡ run table ys
+run-alike table [] [] m = refl
+run-alike table [] (y ∷ ys) m = absurd m
+run-alike table (x ∷ xs) [] m = absurd m
+run-alike table (x ∷ xs) (y ∷ ys) m =
+    ap₂ {C = List Turn} (λ c cs. c ∷ cs) (seen-alike table x y (m .0))
+    (run-alike (worked table (x .commit .ops) .table) xs ys (m .1) ∙ ap (λ (t : List ℤ). run t ys) (table-alike table x y (m .0)))
+
+module _ (h cs : List Record) (m : AllAlike h cs) where
+  pub alike-shown : shown zeros h ≡ shown zeros cs
+  unfolding shown
+  alike-shown = ap₂ (λ (ts : List Turn) (n : ℕ). map (find ts) (upTo 0 n)) (run-alike zeros (inTurn h) (inTurn cs) (turns-alike h cs m)) (matched-length Alike h cs m)
+
+  pub alike-value : (t : Stamp) (x : ℕ) → valueAt zeros h t x ≡ valueAt zeros cs t x
+  unfolding valueAt
+  alike-value t x =
+      let passes : Turn → Bool = λ c. notLater (order (c .commit .stamp) t) in
+      ap (λ (l : List ℤ). getD l x (pos 0))
+      (after-alike zeros (keep passes (inTurn h)) (keep passes (inTurn cs))
+      (matched-keep AlikeTurns passes (λ c d e i. notLater (order (e .1 .stamp-same i) t)) (inTurn h) (inTurn cs) (turns-alike h cs m)))

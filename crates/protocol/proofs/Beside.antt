@@ -1,0 +1,142 @@
+-- Beside one-copy agreement: no two commits have one timestamp, and no call is refused with 6.
+use mathlib.Core.Path.{_≡_, refl, ap, sym, _∙_}
+use mathlib.Core.Bool.{Bool, true, false, cond, not, _&&_, _||_}
+use mathlib.Core.List.{List, [], _∷_, map}
+use mathlib.Core.Option.{Option, some}
+use Prim.Native.Nat.{ℕ, _<_}
+use native.Mathlib.Omega.{arith}
+use lib.IntN.{ℤ}
+use lib.ListN.{length, getD}
+use lib.Dec.{eqb, ltb, leb}
+use borrow.Author.Tests.{eqb-false}
+use Rattle.site.specs.Operations.{Op, reads, writes}
+use Rattle.placement.specs.Masks.{bit}
+use Rattle.placement.specs.Placement.{Item, namesMissing, namesBelow, itemNumber, owns, copies, isLine, hasParents}
+use Rattle.lists.specs.Numbers.{firstNumber, numberIf, outside}
+use Rattle.limits.specs.Limits.{sitesMost, itemsMost, recordsMost}
+use Rattle.protocol.specs.Network.{Network, noRecord, siteAt, lineAt}
+use Rattle.protocol.specs.Steps.{itemsOf, noSuchSite, countAtMost, someLineFull, opsOf, opNumber, due, wrongLists, setUpNumber, commitNumber, dummyNumber, epochNumber, deliverNumber, scheduleNumber}
+use Rattle.lists.specs.Lists.{someBelow}
+use Rattle.protocol.specs.Waiting.{waitingNumber}
+use Rattle.protocol.specs.Calls.{Call, setUp, commit, dummy, epoch, deliver, schedule, waiting, perform}
+use Rattle.protocol.specs.Agreement.{Known, StampsDiffer, Never6}
+use Rattle.protocol.proofs.Alike.{Alike, matched-length, matched-at}
+use Rattle.protocol.proofs.Follows.{Follows, always}
+use Rattle.protocol.proofs.Theorem.{stamps-apart}
+
+-- ---- timestamps
+differ : (k : Known) → Follows k → (a b : ℕ) → a < b → b < length (k .book .commits) → getD (k .book .commits) a noRecord .stamp ≡ getD (k .book .commits) b noRecord .stamp → ⊥
+differ k f a b l m e =
+    let h = f .network .history in
+    let cs = k .book .commits in
+    let many = matched-length Alike h cs (f .commits-alike) in
+    let same : (c : ℕ) → c < length h → getD h c noRecord .stamp ≡ getD cs c noRecord .stamp = λ c q. matched-at Alike h cs c noRecord (f .commits-alike) q .stamp-same in
+    stamps-apart (f .network) (f .inv) a b l (omega arith) (same a (omega arith) ∙ e ∙ sym (same b (omega arith)))
+
+-- ---- numbers: no cause of a call has 6
+record Not6 (m : ℕ) : Type 0 where
+  differs : eqb m 6 ≡ false
+
+zero-not6 : Not6 0
+zero-not6 = record { differs = refl }
+
+either-not6 : {m k : ℕ} (b : Bool) → Not6 m → Not6 k → Not6 (cond b m k)
+either-not6 true f g = f
+either-not6 false f g = g
+
+-- the first of a number and the rest
+first-not6 : {m rest : ℕ} → Not6 m → Not6 rest → Not6 (cond (eqb m 0) rest m)
+first-not6 {m = m} f g = either-not6 (eqb m 0) g f
+
+-- the first of a cause and the rest
+when-not6 : {rest : ℕ} (b : Bool) (m : ℕ) → eqb m 6 ≡ false → Not6 rest → Not6 (cond (eqb (numberIf b m) 0) rest (numberIf b m))
+when-not6 b m e g = first-not6 (either-not6 b (record { differs = e }) zero-not6) g
+
+all-not6 : {A : Type 0} (f : A → ℕ) → ((x : A) → Not6 (f x)) → (xs : List A) → Not6 (firstNumber (map f xs))
+all-not6 f g [] = zero-not6
+all-not6 f g (x ∷ xs) = first-not6 (g x) (all-not6 f g xs)
+
+item-not6 : (sites : ℕ) (x : Item) → Not6 (itemNumber sites x)
+unfolding itemNumber
+item-not6 sites x =
+    let three : Not6 3 = record { differs = refl } in
+    let four : Not6 4 = record { differs = refl } in
+    let five : Not6 5 = record { differs = refl } in
+    either-not6 (leb sites (x .primary)) three
+    (either-not6 (namesMissing sites (x .mask) || bit (x .mask) (x .primary)) four (either-not6 (namesBelow (x .primary) (x .mask)) five zero-not6))
+
+set-up-not6 : (sites items : ℕ) (ps ms : List ℕ) → Not6 (setUpNumber sites items ps ms)
+unfolding setUpNumber
+set-up-not6 sites items ps ms =
+    when-not6 (outside 1 sitesMost sites) 1 refl
+    (when-not6 (outside 1 itemsMost items || (not (eqb (length ps) items) || not (eqb (length ms) items))) 2 refl
+    (first-not6 (all-not6 (itemNumber sites) (item-not6 sites) (itemsOf ps ms)) zero-not6))
+
+-- a call answers its number, accepted or not
+by-number : {A : Type 0} (m : ℕ) → (eqb m 0 ≡ true → A) → (eqb m 0 ≡ false → A) → A
+by-number {A = A} m f g = go (eqb m 0) refl
+  where
+    go : (b : Bool) → eqb m 0 ≡ b → A
+    go true e = f e
+    go false e = g e
+
+module _ (n : Network) where
+  op-not6 : (i : ℕ) (o : Op) → Not6 (opNumber (n .items) i o)
+  op-not6 i o =
+      let xs = n .items in
+      when-not6 (ltb 1 (o .kind) || leb (length xs) (o .item)) 9 refl
+      (when-not6 (reads o && not (owns xs i (o .item) || copies xs i (o .item))) 10 refl (when-not6 (writes o && not (owns xs i (o .item))) 11 refl zero-not6))
+
+  commit-not6 : (i : ℕ) (ks is : List ℕ) (vs : List ℤ) → Not6 (commitNumber n i ks is vs)
+  unfolding commitNumber
+  commit-not6 i ks is vs =
+      let os = opsOf ks is vs in
+      when-not6 (noSuchSite n i) 7 refl
+      (when-not6 (wrongLists (length ks) (length is) (length vs)) 8 refl
+      (first-not6 (all-not6 (opNumber (n .items) i) (op-not6 i) os)
+      (when-not6 (leb recordsMost (length (n .history))) 12 refl (when-not6 (someLineFull n i (due (n .items) os)) 13 refl (when-not6 (countAtMost n i) 14 refl zero-not6)))))
+
+  dummy-not6 : (i : ℕ) → Not6 (dummyNumber n i)
+  unfolding dummyNumber
+  dummy-not6 i = when-not6 (noSuchSite n i) 7 refl (when-not6 (someLineFull n i (isLine (n .items) i)) 13 refl (when-not6 (countAtMost n i) 14 refl zero-not6))
+
+  epoch-not6 : (i e : ℕ) → Not6 (epochNumber n i e)
+  unfolding epochNumber
+  epoch-not6 i e = when-not6 (noSuchSite n i) 7 refl (when-not6 (hasParents (n .items) i) 15 refl (when-not6 (leb e (siteAt n i .stamp .epoch)) 16 refl zero-not6))
+
+  deliver-not6 : (p c : ℕ) → Not6 (deliverNumber n p c)
+  unfolding deliverNumber
+  deliver-not6 p c =
+      when-not6 (noSuchSite n p || noSuchSite n c) 7 refl
+      (when-not6 (not (isLine (n .items) p c)) 17 refl (when-not6 (leb (length (lineAt n p c .messages)) (lineAt n p c .arrived)) 18 refl zero-not6))
+
+  schedule-not6 : (j : ℕ) → Not6 (scheduleNumber n j)
+  unfolding scheduleNumber
+  schedule-not6 j =
+      when-not6 (noSuchSite n j) 7 refl
+      (when-not6 (not (hasParents (n .items) j)) 19 refl (when-not6 (someBelow (λ p. isLine (n .items) p j && eqb (lineAt n p j .arrived) 0) sitesMost) 20 refl zero-not6))
+
+  waiting-not6 : (i : ℕ) → Not6 (waitingNumber n i)
+  unfolding waitingNumber
+  waiting-not6 i = when-not6 (noSuchSite n i) 7 refl zero-not6
+
+  call-not6 : (c : Call) → Not6 (perform (some n) c .number)
+  unfolding perform
+  call-not6 (setUp sites items ps ms) = by-number (setUpNumber sites items ps ms) (λ e. rw e zero-not6) (λ e. rw e (set-up-not6 sites items ps ms))
+  call-not6 (commit i ks is vs) = by-number (commitNumber n i ks is vs) (λ e. rw e zero-not6) (λ e. rw e (commit-not6 i ks is vs))
+  call-not6 (dummy i) = by-number (dummyNumber n i) (λ e. rw e zero-not6) (λ e. rw e (dummy-not6 i))
+  call-not6 (epoch i h) = by-number (epochNumber n i h) (λ e. rw e zero-not6) (λ e. rw e (epoch-not6 i h))
+  call-not6 (deliver p c) = by-number (deliverNumber n p c) (λ e. rw e zero-not6) (λ e. rw e (deliver-not6 p c))
+  call-not6 (schedule j) = by-number (scheduleNumber n j) (λ e. rw e zero-not6) (λ e. rw e (schedule-not6 j))
+  call-not6 (waiting i) = by-number (waitingNumber n i) (λ e. rw e zero-not6) (λ e. rw e (waiting-not6 i))
+
+never : (k : Known) → Follows k → (c : Call) → perform (k .state) c .number ≡ 6 → ⊥
+never k f c = eqb-false (perform (k .state) c .number) 6 (ap (λ (s : Option Network). eqb (perform s c .number) 6) (f .state-is) ∙ call-not6 (f .network) c .differs)
+
+pub stamps-differ : StampsDiffer
+unfolding StampsDiffer
+stamps-differ = always _ differ
+
+pub never-6 : Never6
+unfolding Never6
+never-6 = always _ never

@@ -1,0 +1,215 @@
+-- Deliver, epoch and dummy keep the invariant.
+use mathlib.Core.Path.{_≡_, refl, ap, sym, subst, _∙_}
+use mathlib.Core.Bool.{Bool, true, false, true≢false}
+use mathlib.Core.List.{List, [], _∷_, _++_}
+use mathlib.Core.Logic.{_⊎_, inl, inr}
+use Prim.Native.Nat.{ℕ, _<_}
+use native.Mathlib.Omega.{arith}
+use lib.ListN.{length, getD, set, length-set}
+use lib.Seq.{getD-set-same}
+use lib.Dec.{eqb, leb}
+use borrow.Author.Tests.{eqb-true, eqb-false, leb-false}
+use Rattle.timestamp.specs.Timestamp.{raised, raisedOrSame, ownCount, greatest}
+use Rattle.timestamp.specs.Order.{byNumber}
+use Rattle.timestamp.proofs.Made.{without}
+use Rattle.timestamp.proofs.OrderLaws.{epoch-later}
+use Rattle.timestamp.proofs.Value.{raise-room}
+use Rattle.site.specs.Site.{Site, dummied, atEpoch}
+use Rattle.site.specs.InWords.{tableSize}
+use Rattle.placement.specs.Placement.{isLine, hasParents}
+use Rattle.limits.specs.Limits.{sitesMost}
+use Rattle.lines.specs.Lines.{Message, dummy, Line, noLine, delivered}
+use Rattle.records.specs.Records.{Record}
+use Rattle.protocol.specs.Network.{Network, noSite, siteAt, lineAt, lineNumber, messageStamp, messageFits, wellShaped}
+use Rattle.lists.specs.Numbers.{numberIf}
+use Rattle.protocol.specs.Steps.{noSuchSite, countAtMost, someLineFull, sentTo, dummyNumber, dummyNetwork, epochNumber, epochNetwork, deliverNumber, deliverNetwork}
+use Rattle.lists.proofs.Numbers.{none-holds}
+use Rattle.lists.proofs.Lists.{set-each}
+use Rattle.protocol.proofs.WellShaped.{sent-length, sent-other, sent-here}
+use Rattle.protocol.proofs.Keeps.{keeps-deliver, keeps-epoch, keeps-dummy}
+use Rattle.protocol.proofs.Times.{Before, UpTo, upto-self, upto-before, without-raised, raised-before}
+use Rattle.protocol.proofs.Invariant.{stampAt, heardAt, tableAt, messagesAt, Sizes, Invariant, line-up, line-number, line-child, stamp-made}
+use Rattle.protocol.proofs.Calm.{changed, Sent, Calm, calm-keeps}
+
+-- ---- one site replaced
+module _ (n : Network) (inv : Invariant n) (i : ℕ) (new : Site) where
+  abbrev pub moved : List Site
+  moved = set (n .sites) i new
+
+  pub moved-many : length moved ≡ length (n .sites)
+  moved-many = length-set (n .sites) i new
+
+  -- what holds of each site, and of the new one
+  pub moved-each : (holds : ℕ → Site → Type 0) → ((j : ℕ) → j < length (n .sites) → holds j (siteAt n j)) → holds i new
+      → (j : ℕ) → j < length (n .sites) → holds j (getD moved j noSite)
+  moved-each holds f g j l = set-each holds (n .sites) i new noSite f (λ b. g) j (omega (arith, moved-many))
+
+  pub moved-here : i < length (n .sites) → getD moved i noSite ≡ new
+  moved-here l = getD-set-same (n .sites) i new noSite l
+
+  pub moved-sizes : (ls : List Line) (h : List Record) → length ls ≡ length (n .lines) → length (new .table) ≡ tableSize → Sizes (changed n moved ls h)
+  moved-sizes ls h e t =
+      record {
+        lines = e ∙ inv .sizes .lines;
+        sites = omega (arith, moved-many, inv .sizes .sites);
+        items = inv .sizes .items;
+        tables = λ j l. moved-each (λ k s. length (s .table) ≡ tableSize) (inv .sizes .tables) t j (omega (arith, moved-many));
+      }
+
+  pub moved-grows : UpTo (stampAt n i) (new .stamp) → (j : ℕ) → j < length (n .sites) → UpTo (stampAt n j) (getD moved j noSite .stamp)
+  moved-grows u = moved-each (λ j s. UpTo (stampAt n j) (s .stamp)) (λ j l. upto-self (stampAt n j)) u
+
+  pub moved-calm : (hasParents (n .items) i ≡ true → without (new .stamp) ≡ heardAt n i) → (p j : ℕ) → isLine (n .items) p j ≡ true → without (getD moved j noSite .stamp) ≡ heardAt n j
+  moved-calm e p j line =
+      moved-each (λ k s. hasParents (n .items) k ≡ true → without (s .stamp) ≡ heardAt n k) (λ k l h. refl) e j (line-up n inv p j line .1) (line-child (n .items) p j line)
+
+  pub moved-tables : new .table ≡ tableAt n i → (j : ℕ) → j < length (n .sites) → getD moved j noSite .table ≡ tableAt n j
+  moved-tables e = moved-each (λ j s. s .table ≡ tableAt n j) (λ j l. refl) e
+
+-- ---- a message sent from i
+module _ (n : Network) (inv : Invariant n) (gets : ℕ → Bool) (i : ℕ) (m : Message) where
+  abbrev pub mailed : List Line
+  mailed = sentTo gets i m sitesMost (n .lines)
+
+  child : (p j : ℕ) → isLine (n .items) p j ≡ true → j < sitesMost
+  child p j line = omega (arith, line-up n inv p j line .1, inv .sizes .sites)
+
+  -- to a child that gets one
+  pub mail-here : (j : ℕ) → isLine (n .items) i j ≡ true → gets j ≡ true → getD mailed (lineNumber i j) noLine .messages ≡ messagesAt n i j ++ (m ∷ [])
+  mail-here j line f = ap (λ (l : Line). l .messages) (sent-here gets i m (n .lines) sitesMost j (child i j line) f (line-number n inv i j line))
+
+  module _ (p j : ℕ) (line : isLine (n .items) p j ≡ true) where
+    abbrev Same : Type 0
+    Same = getD mailed (lineNumber p j) noLine .messages ≡ messagesAt n p j
+
+    abbrev More : Type 0
+    More = (p ≡ i) × (gets j ≡ true) × (getD mailed (lineNumber p j) noLine .messages ≡ messagesAt n p j ++ (m ∷ []))
+
+    other : ((c : ℕ) → c < sitesMost → gets c ≡ true → lineNumber p j ≡ lineNumber i c → ⊥) → Same ⊎ More
+    other f = inl (ap (λ (l : Line). l .messages) (sent-other gets i m (n .lines) sitesMost (lineNumber p j) f))
+
+    pub mail-sent : Same ⊎ More
+    mail-sent = go (eqb p i) refl (gets j) refl
+      where
+        go : (b : Bool) → eqb p i ≡ b → (g : Bool) → gets j ≡ g → Same ⊎ More
+        go false e g f = other (λ c l s q. eqb-false p i e (omega (arith, child p j line)))
+        go true e false f =
+            other (λ c l s q. let same : c ≡ j = omega (arith, child p j line, eqb-true p i e) in true≢false (sym s ∙ ap gets same ∙ f))
+        go true e true f =
+            let same : p ≡ i = eqb-true p i e in
+            let from : isLine (n .items) i j ≡ true = ap (λ (q : ℕ). isLine (n .items) q j) (sym same) ∙ line in
+            let more : (q : ℕ) → Type 0 = λ q. getD mailed (lineNumber q j) noLine .messages ≡ messagesAt n q j ++ (m ∷ []) in
+            inr (same, f, subst more (sym same) (mail-here j from f))
+
+-- ---- deliver: what has arrived is no part of the invariant
+pub deliver-keeps : (n : Network) → Invariant n → (p c : ℕ) → deliverNumber n p c ≡ 0 → Invariant (deliverNetwork n p c)
+unfolding deliverNetwork
+deliver-keeps n inv p c z =
+    let k = lineNumber p c in
+    let ls = set (n .lines) k (delivered (lineAt n p c)) in
+    let size : length ls ≡ length (n .lines) = length-set (n .lines) k (delivered (lineAt n p c)) in
+    calm-keeps n inv (n .sites) ls
+    (record {
+      sizes = record { lines = size ∙ inv .sizes .lines; sites = inv .sizes .sites; items = inv .sizes .items; tables = inv .sizes .tables };
+      shape = keeps-deliver n p c (inv .shape) z;
+      many = refl;
+      grows = λ j l. upto-self (stampAt n j);
+      calm = λ q j line. refl;
+      mail = λ q j line. inl (set-each (λ a l. l .messages ≡ getD (n .lines) a noLine .messages) (n .lines) k (delivered (lineAt n p c)) noLine (λ a l. refl) (λ b. refl)
+          (lineNumber q j) (omega (arith, size, line-number n inv q j line)));
+      stays = λ q m f. refl;
+    })
+    (λ j l. refl)
+
+-- ---- epoch: at a site without parents
+pub epoch-keeps : (n : Network) → Invariant n → (i e : ℕ) → epochNumber n i e ≡ 0 → Invariant (epochNetwork n i e)
+unfolding epochNetwork epochNumber
+epoch-keeps n inv i e z =
+    let t = stampAt n i in
+    let low = leb e (t .epoch) in
+    let new = atEpoch e (siteAt n i) in
+    let a = none-holds (noSuchSite n i) 6 (numberIf (hasParents (n .items) i) 15 ∷ (numberIf low 16 ∷ [])) z in
+    let b = none-holds (hasParents (n .items) i) 14 (numberIf low 16 ∷ []) (a .1) in
+    let c = none-holds low 15 [] (b .1) in
+    let site : i < length (n .sites) = leb-false (length (n .sites)) i (a .0) in
+    let later : Before t (new .stamp) = epoch-later byNumber t (new .stamp) (leb-false e (t .epoch) (c .0)) in
+    calm-keeps n inv (moved n inv i new) (n .lines)
+    (record {
+      sizes = moved-sizes n inv i new (n .lines) (n .history) refl (inv .sizes .tables i site);
+      shape = keeps-epoch n i e (inv .shape) z;
+      many = moved-many n inv i new;
+      grows = moved-grows n inv i new (upto-before t (new .stamp) later);
+      calm = moved-calm n inv i new (λ h. absurd (true≢false (sym h ∙ b .0)));
+      mail = λ q j line. inl refl;
+      stays = λ q m f. refl;
+    })
+    (moved-tables n inv i new refl)
+
+-- ---- a site whose own count rises, and what it sends with the new timestamp
+module _ (n : Network) (inv : Invariant n) (i : ℕ) (site : i < length (n .sites)) (few : countAtMost n i ≡ false) where
+  pub risen : raisedOrSame (stampAt n i) ≡ raised (stampAt n i)
+  risen = raise-room (stampAt n i) (leb-false greatest (ownCount (stampAt n i)) few)
+
+  pub risen-before : Before (stampAt n i) (raisedOrSame (stampAt n i))
+  risen-before = subst (Before (stampAt n i)) (sym risen) (raised-before i (stampAt n i) (stamp-made n inv i site))
+
+  pub risen-without : without (raisedOrSame (stampAt n i)) ≡ heardAt n i
+  risen-without = ap without risen ∙ without-raised i (stampAt n i) (stamp-made n inv i site)
+
+  module _ (new : Site) (same : new .stamp ≡ raisedOrSame (stampAt n i)) (size : length (new .table) ≡ tableSize) (gets : ℕ → Bool) (m : Message) (h : List Record) (is : messageStamp h m ≡ new .stamp) where
+    abbrev after : Network
+    after = changed n (moved n inv i new) (mailed n inv gets i m) h
+
+    higher : Before (stampAt n i) (new .stamp)
+    higher = subst (Before (stampAt n i)) (sym same) risen-before
+
+    here : siteAt after i ≡ new
+    here = moved-here n inv i new site
+
+    was-sent : (p j : ℕ) → p ≡ i → messagesAt after p j ≡ messagesAt n p j ++ (m ∷ []) → Sent n after p j
+    was-sent p j s e =
+        record {
+          message = m;
+          extends = e;
+          stamp = is ∙ ap (λ (x : Site). x .stamp) (sym here) ∙ ap (stampAt after) (sym s);
+          higher = subst (λ (k : ℕ). Before (stampAt n k) (stampAt after k)) (sym s) (subst (λ (x : Site). Before (stampAt n i) (x .stamp)) (sym here) higher);
+        }
+
+    pub raise-calm : wellShaped after ≡ true → ((p : ℕ) (x : Message) → messageFits (n .history) p x ≡ true → messageStamp h x ≡ messageStamp (n .history) x)
+        → Calm n (moved n inv i new) (mailed n inv gets i m) h
+    raise-calm well stays =
+        record {
+          sizes = moved-sizes n inv i new (mailed n inv gets i m) h (sent-length gets i m (n .lines) sitesMost) size;
+          shape = well;
+          many = moved-many n inv i new;
+          grows = moved-grows n inv i new (upto-before (stampAt n i) (new .stamp) higher);
+          calm = moved-calm n inv i new (λ e. ap without same ∙ risen-without);
+          mail = λ p j line. go p j (mail-sent n inv gets i m p j line);
+          stays = stays;
+        }
+      where
+        go : (p j : ℕ) → (messagesAt after p j ≡ messagesAt n p j) ⊎ ((p ≡ i) × (gets j ≡ true) × (messagesAt after p j ≡ messagesAt n p j ++ (m ∷ []))) → (messagesAt after p j ≡ messagesAt n p j) ⊎ Sent n after p j
+        go p j (inl e) = inl e
+        go p j (inr (s, _, e)) = inr (was-sent p j s e)
+
+-- ---- dummy
+-- what holds where no cause does
+pub dummy-causes : (n : Network) (i : ℕ) → dummyNumber n i ≡ 0 → (i < length (n .sites)) × (countAtMost n i ≡ false)
+unfolding dummyNumber
+dummy-causes n i z =
+    let gets = isLine (n .items) i in
+    let a = none-holds (noSuchSite n i) 6 (numberIf (someLineFull n i gets) 13 ∷ (numberIf (countAtMost n i) 14 ∷ [])) z in
+    let b = none-holds (someLineFull n i gets) 12 (numberIf (countAtMost n i) 14 ∷ []) (a .1) in
+    (leb-false (length (n .sites)) i (a .0), none-holds (countAtMost n i) 13 [] (b .1) .0)
+
+pub dummy-keeps : (n : Network) → Invariant n → (i : ℕ) → dummyNumber n i ≡ 0 → Invariant (dummyNetwork n i)
+unfolding dummyNetwork
+dummy-keeps n inv i z =
+    let gets = isLine (n .items) i in
+    let new = dummied (siteAt n i) in
+    let m = dummy (new .stamp) in
+    let c = dummy-causes n i z in
+    calm-keeps n inv (moved n inv i new) (mailed n inv gets i m)
+    (raise-calm n inv i (c .0) (c .1) new refl (inv .sizes .tables i (c .0)) gets m (n .history) refl
+    (keeps-dummy n i (inv .sizes .lines) (inv .sizes .sites) (inv .shape) z) (λ p x f. refl))
+    (moved-tables n inv i new refl)

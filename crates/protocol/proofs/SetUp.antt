@@ -1,0 +1,102 @@
+-- An accepted set-up gives a network with the invariant.
+use mathlib.Core.Path.{_≡_, ap, sym, subst, _∙_}
+use mathlib.Core.Bool.{true, not, _||_}
+use mathlib.Core.List.{List, [], _∷_}
+use Prim.Native.Nat.{ℕ, _+_, _<_, _≤_}
+use native.Mathlib.Omega.{arith}
+use lib.IntN.{pos}
+use lib.ListN.{length, getD, length-replicate, getD-replicate}
+use lib.Dec.{eqb, ltb}
+use borrow.Author.Tests.{eqb-true, ltb-false, not-false}
+use Rattle.timestamp.specs.Order.{byNumber}
+use Rattle.timestamp.proofs.OrderLaws.{bare-not-later}
+use Rattle.timestamp.proofs.Made.{without}
+use Rattle.site.specs.Site.{Site}
+use Rattle.site.specs.InWords.{tableSize}
+use Rattle.placement.specs.Placement.{itemsNumber, isLine}
+use Rattle.limits.specs.Limits.{sitesMost, itemsMost}
+use Rattle.placement.proofs.Laws.{line-upward}
+use Rattle.lines.specs.Lines.{Line, noLine}
+use Rattle.protocol.specs.Network.{linesMost, Network, siteAt, lineNumber}
+use Rattle.lists.specs.Numbers.{numberIf, outside}
+use Rattle.protocol.specs.Steps.{itemsOf, startSite, setUpNumber, setUpNetwork}
+use Rattle.lists.proofs.Numbers.{none-holds, none-first, or-false}
+use Rattle.protocol.proofs.Keeps.{start-length, start-at, keeps-set-up}
+use Rattle.protocol.proofs.Times.{UpTo}
+use Rattle.protocol.proofs.Invariant.{stampAt, heardAt, tableAt, messagesAt, Sizes, Invariant}
+
+pairs-most : (ps ms : List ℕ) → length (itemsOf ps ms) ≤ length ps
+pairs-most [] ms = omega arith
+pairs-most (p ∷ ps) [] = omega arith
+pairs-most (p ∷ ps) (m ∷ ms) = omega (arith, pairs-most ps ms)
+
+module _ (sites items : ℕ) (ps ms : List ℕ) (z : setUpNumber sites items ps ms ≡ 0) where
+  -- few sites, few items, each where it may be
+  causes : (sites ≤ sitesMost) × (length (itemsOf ps ms) ≤ tableSize) × (itemsNumber sites (itemsOf ps ms) ≡ 0)
+  unfolding setUpNumber
+  causes =
+      let xs = itemsOf ps ms in
+      let lists = not (eqb (length ps) items) || not (eqb (length ms) items) in
+      let a = none-holds (outside 1 sitesMost sites) 0 (numberIf (outside 1 itemsMost items || lists) 2 ∷ (itemsNumber sites xs ∷ [])) z in
+      let b = none-holds (outside 1 itemsMost items || lists) 1 (itemsNumber sites xs ∷ []) (a .1) in
+      let c = or-false (outside 1 itemsMost items) lists (b .0) in
+      let few = ltb-false sitesMost sites (or-false (ltb sites 1) (ltb sitesMost sites) (a .0) .1) in
+      let least = ltb-false itemsMost items (or-false (ltb items 1) (ltb itemsMost items) (c .0) .1) in
+      let all = eqb-true (length ps) items (not-false (eqb (length ps) items) (or-false (not (eqb (length ps) items)) (not (eqb (length ms) items)) (c .1) .0)) in
+      (few, omega (arith, pairs-most ps ms), none-first (itemsNumber sites xs) [] (b .1) .0)
+
+  abbrev start : Network
+  start = setUpNetwork sites ps ms
+
+  start-site : (j : ℕ) → j < sites → siteAt start j ≡ startSite j
+  unfolding setUpNetwork
+  start-site j l = let number : 0 + j ≡ j = omega arith in start-at 0 sites j l ∙ ap startSite number
+
+  start-line : (p j : ℕ) → isLine (itemsOf ps ms) p j ≡ true → (p < sites) × (j < sites) × (messagesAt start p j ≡ [])
+  unfolding setUpNetwork
+  start-line p j line =
+      let up = line-upward sites (itemsOf ps ms) p j (causes .2) line in
+      let near : lineNumber p j < linesMost = omega (arith, up .0, up .1, causes .0) in
+      (omega (arith, up .0, up .1), up .1, ap (λ (l : Line). l .messages) (getD-replicate linesMost (lineNumber p j) noLine noLine near))
+
+  -- nothing is on the way
+  none-sent : (p j a : ℕ) → isLine (itemsOf ps ms) p j ≡ true → a < length (messagesAt start p j) → ⊥
+  none-sent p j a line l = let none : length (messagesAt start p j) ≡ 0 = ap length (start-line p j line .2) in omega arith
+
+  start-heard : (p j : ℕ) → isLine (itemsOf ps ms) p j ≡ true → UpTo (heardAt start j) (stampAt start p)
+  start-heard p j line =
+      let at = start-line p j line in
+      subst (λ (s : Site). UpTo (without (s .stamp)) (stampAt start p)) (sym (start-site j (at .1)))
+      (bare-not-later byNumber 0 (stampAt start p) (omega arith))
+
+  start-copy : (j x : ℕ) → j < sites → x < length (itemsOf ps ms) → getD (tableAt start j) x (pos 0) ≡ pos 0
+  start-copy j x l b =
+      ap (λ (s : Site). getD (s .table) x (pos 0)) (start-site j l) ∙ getD-replicate tableSize x (pos 0) (pos 0) (omega (arith, causes .1))
+
+  start-sizes : Sizes start
+  unfolding setUpNetwork
+  start-sizes =
+      record {
+        lines = length-replicate linesMost noLine;
+        sites = omega (arith, start-length 0 sites, causes .0);
+        items = causes .1;
+        tables = λ j l. ap (λ (s : Site). length (s .table)) (start-site j (omega (arith, start-length 0 sites))) ∙ length-replicate tableSize (pos 0);
+      }
+
+  pub set-up-starts : Invariant start
+  unfolding setUpNetwork
+  set-up-starts =
+      record {
+        sizes = start-sizes;
+        shape = keeps-set-up sites items ps ms z;
+        past = λ k l. absurd (omega arith);
+        rise = λ k m l h. absurd (omega arith);
+        queue = λ p j line a b l h. absurd (none-sent p j b line h);
+        ahead = λ p j line a l. absurd (none-sent p j a line l);
+        behind = λ p j line a l. absurd (none-sent p j a line l);
+        owed = λ k j l. absurd (omega arith);
+        heard = start-heard;
+        copy = λ j x l b e. start-copy j x (omega (arith, start-length 0 sites)) b;
+        read = λ k l. absurd (omega arith);
+        allowed = λ k l. absurd (omega arith);
+      }

@@ -1,0 +1,92 @@
+-- One-copy agreement.
+use mathlib.Core.Path.{_≡_, refl, ap, sym, subst, _∙_}
+use mathlib.Core.Bool.{Bool, true, false}
+use mathlib.Core.List.{List}
+use Prim.Native.Nat.{ℕ, _<_}
+use native.Mathlib.Omega.{arith}
+use lib.IntN.{pos}
+use lib.ListN.{length, getD, length-map}
+use lib.Dec.{eqb}
+use borrow.Author.Tests.{eqb-true, eqb-false}
+use Rattle.timestamp.specs.Timestamp.{Stamp}
+use Rattle.site.specs.Site.{Site}
+use Rattle.placement.specs.Placement.{Item, owns}
+use Rattle.protocol.specs.Network.{Network}
+use Rattle.protocol.specs.Run.{zeros, shown, valueAt}
+use Rattle.protocol.specs.Agreement.{Known, holds, Agreement, OneCopyAgreement}
+use Rattle.protocol.proofs.Values.{touches}
+use Rattle.protocol.proofs.Runs.{run-value, run-shows}
+use Rattle.protocol.proofs.Alike.{alike-shown, alike-value}
+use Rattle.protocol.proofs.Times.{Before, never-before, made-apart}
+use Rattle.protocol.proofs.Invariant.{stampAt, tableAt, made, Invariant, one-owner, touch-owns, record-made}
+use Rattle.protocol.proofs.Follows.{valuesOf, Follows, always}
+
+-- ---- the commits of a network
+module _ (n : Network) (inv : Invariant n) where
+  -- no two have one timestamp: those of one site rise, those of two end differently
+  pub stamps-apart : (k m : ℕ) → k < m → m < length (n .history) → made n k .stamp ≡ made n m .stamp → ⊥
+  stamps-apart k m l h e = go (eqb (made n k .site) (made n m .site)) refl
+    where
+      go : (b : Bool) → eqb (made n k .site) (made n m .site) ≡ b → ⊥
+      go true s =
+          never-before (made n m .stamp) (subst (λ (t : Stamp). Before t (made n m .stamp)) e (inv .rise k m l h (eqb-true (made n k .site) (made n m .site) s)))
+      go false s =
+          made-apart (made n k .site) (made n m .site) (made n k .stamp) (made n m .stamp) (record-made n inv k (omega arith)) (record-made n inv m h)
+          (eqb-false (made n k .site) (made n m .site) s) e
+
+  -- those that write an item are its owner's, and rise
+  writers-rise : (x k m : ℕ) → k < m → m < length (n .history) → touches x (made n k .ops) ≡ true → touches x (made n m .ops) ≡ true → Before (made n k .stamp) (made n m .stamp)
+  writers-rise x k m l h t u =
+      let owner : (a : ℕ) → a < length (n .history) → touches x (made n a .ops) ≡ true → owns (n .items) (made n a .site) x ≡ true
+      = λ a b. touch-owns (n .items) (made n a .site) (made n a .ops) (inv .allowed a b) x in
+      inv .rise k m l h (one-owner (n .items) (made n k .site) (made n m .site) x (owner k (omega arith) t) (owner m h u))
+
+  run-history : n .history ≡ shown zeros (n .history)
+  run-history =
+      run-shows (n .history) stamps-apart writers-rise
+      (λ k a l b e. let item = inv .allowed k l a b .item in (omega (arith, inv .sizes .items), inv .read k l a b e))
+
+-- ---- what follows from the calls agrees with the run
+module _ (k : Known) (f : Follows k) where
+  abbrev n : Network
+  n = f .network
+
+  history-shown : n .history ≡ shown zeros (k .book .commits)
+  history-shown = run-history n (f .inv) ∙ alike-shown (n .history) (k .book .commits) (f .commits-alike)
+
+  -- the sites and items of the calls are the network's
+  site-there : (i : ℕ) → i < length (k .book .stamps) → i < length (n .sites)
+  site-there i l = omega (arith, ap length (f .stamps-are), length-map (n .sites) (λ (s : Site). s .stamp))
+
+  item-there : (x : ℕ) → x < length (k .items) → x < length (n .items)
+  item-there x b = omega (arith, ap length (f .items-are))
+
+  table-reaches : (i x : ℕ) → i < length (k .book .stamps) → x < length (k .items) → x < length (tableAt n i)
+  table-reaches i x l b = omega (arith, item-there x b, f .inv .sizes .items, f .inv .sizes .tables i (site-there i l))
+
+  copy-agrees : (i x : ℕ) → i < length (k .book .stamps) → x < length (k .items) → holds (k .items) i x ≡ true
+      → getD (tableAt n i) x (pos 0) ≡ valueAt zeros (k .book .commits) (stampAt n i) x
+  copy-agrees i x l b e =
+      let site = site-there i l in
+      let item = item-there x b in
+      let held : holds (n .items) i x ≡ true = ap (λ (xs : List Item). holds xs i x) (sym (f .items-are)) ∙ e in
+      f .inv .copy i x site item held
+      ∙ sym (run-value (n .history) x (omega (arith, f .inv .sizes .items)) (writers-rise n (f .inv) x) (stampAt n i))
+      ∙ alike-value (n .history) (k .book .commits) (f .commits-alike) (stampAt n i) x
+
+  agreement-of : Agreement k
+  agreement-of =
+      record {
+        network = n;
+        state-is = f .state-is;
+        values-agree = f .values-are ∙ ap valuesOf history-shown;
+        history-agrees = history-shown;
+        answers-agree = f .answers-are;
+        stamps-agree = f .stamps-are;
+        tables-reach = table-reaches;
+        copies-agree = copy-agrees;
+      }
+
+pub one-copy-agreement : OneCopyAgreement
+unfolding OneCopyAgreement
+one-copy-agreement = always Agreement agreement-of

@@ -1,0 +1,58 @@
+-- Calls as data, what each answers, and what performing one does to a state: a network, or nothing where there is none.
+use mathlib.Core.Bool.{cond}
+use mathlib.Core.List.{List, []}
+use mathlib.Core.Option.{Option, none, some}
+use Prim.Native.Nat.{ℕ}
+use lib.IntN.{ℤ}
+use lib.Dec.{eqb}
+use Rattle.timestamp.specs.Timestamp.{Stamp}
+use Rattle.site.specs.Operations.{valuesRead}
+use Rattle.protocol.specs.Network.{Network, noStamp, siteAt}
+use Rattle.protocol.specs.Steps.{setUpNumber, setUpNetwork, opsOf, commitNumber, commitNetwork, recordOf, dummyNumber, dummyNetwork, epochNumber, epochNetwork, deliverNumber, deliverNetwork, scheduleNumber, scheduleNetwork, chosen, headStamp}
+use Rattle.protocol.specs.Waiting.{waitingNumber}
+
+pub data Call : Type 0 where
+  setUp : (sites items : ℕ) (primaries masks : List ℕ) → Call
+  commit : (site : ℕ) (kinds items : List ℕ) (values : List ℤ) → Call
+  dummy : (site : ℕ) → Call
+  epoch : (site number : ℕ) → Call
+  deliver : (parent child : ℕ) → Call
+  schedule : (site : ℕ) → Call
+  waiting : (site : ℕ) → Call
+
+-- what a call answers, fields that it lacks being 0, and the state after it; the items of a waiting report, whose order is left open, are not in it
+pub record Outcome : Type 0 where
+  pub number : ℕ
+  pub parent : ℕ
+  pub stamp : Stamp
+  pub values : List ℤ
+  pub after : Option Network
+
+-- refused: its number alone, and the state as it was
+abbrev pub refused : ℕ → Option Network → Outcome
+refused k s = record { number = k; parent = 0; stamp = noStamp; values = []; after = s }
+
+-- accepted: the answer's fields, and the network after
+abbrev pub accepted : ℕ → Stamp → List ℤ → Network → Outcome
+accepted p t vs n = record { number = 0; parent = p; stamp = t; values = vs; after = some n }
+
+abbrev pub judged : ℕ → Option Network → Outcome → Outcome
+judged k s o = cond (eqb k 0) o (refused k s)
+
+-- every call but set-up needs a network, and is else refused with 6
+unfoldable pub perform : Option Network → Call → Outcome
+perform s (setUp sites items ps ms) = judged (setUpNumber sites items ps ms) s (accepted 0 noStamp [] (setUpNetwork sites ps ms))
+perform none (commit i ks is vs) = refused 6 none
+perform none (dummy i) = refused 6 none
+perform none (epoch i e) = refused 6 none
+perform none (deliver p c) = refused 6 none
+perform none (schedule j) = refused 6 none
+perform none (waiting i) = refused 6 none
+perform (some n) (commit i ks is vs) =
+    let os = opsOf ks is vs in
+    judged (commitNumber n i ks is vs) (some n) (accepted 0 (recordOf n i os .stamp) (valuesRead (recordOf n i os .ops)) (commitNetwork n i os))
+perform (some n) (dummy i) = judged (dummyNumber n i) (some n) (accepted 0 (siteAt (dummyNetwork n i) i .stamp) [] (dummyNetwork n i))
+perform (some n) (epoch i e) = judged (epochNumber n i e) (some n) (accepted 0 noStamp [] (epochNetwork n i e))
+perform (some n) (deliver p c) = judged (deliverNumber n p c) (some n) (accepted 0 noStamp [] (deliverNetwork n p c))
+perform (some n) (schedule j) = judged (scheduleNumber n j) (some n) (accepted (chosen n j) (headStamp n (chosen n j) j) [] (scheduleNetwork n j))
+perform (some n) (waiting i) = judged (waitingNumber n i) (some n) (accepted 0 noStamp [] n)

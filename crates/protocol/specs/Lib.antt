@@ -1,0 +1,7 @@
+pub mod Network
+pub mod Steps
+pub mod Waiting
+pub mod Calls
+pub mod Book
+pub mod Run
+pub mod Agreement

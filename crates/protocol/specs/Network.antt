@@ -1,0 +1,88 @@
+-- A network: its sites, the placement of its items, its lines and its history; and which networks are well shaped.
+use mathlib.Core.Bool.{Bool, _&&_, _||_}
+use mathlib.Core.List.{List, [], _∷_, _++_}
+use Prim.Native.Nat.{ℕ, _+_, _*_, _/_, _%_}
+use lib.ListN.{length, getD, set}
+use lib.Dec.{eqb, ltb, leb}
+use Rattle.lists.specs.Lists.{every, everyFrom, isEmpty}
+use Rattle.timestamp.specs.Timestamp.{Stamp}
+use Rattle.timestamp.specs.Order.{byNumber}
+use Rattle.timestamp.specs.Made.{madeBy}
+use Rattle.site.specs.Operations.{Op}
+use Rattle.site.specs.Site.{Site}
+use Rattle.placement.specs.Placement.{Item, itemsNumber, isLine}
+use Rattle.limits.specs.Limits.{sitesMost}
+use Rattle.lines.specs.Lines.{Message, commit, dummy, Line, noLine}
+use Rattle.records.specs.Records.{Record, recordFits}
+
+pub record Network : Type 0 where
+  pub sites : List Site
+  pub items : List Item
+  pub lines : List Line
+  pub history : List Record
+
+-- what stands where there is nothing
+abbrev pub noStamp : Stamp
+noStamp = record { epoch = 0; tuples = [] }
+
+abbrev pub noSite : Site
+noSite = record { table = []; stamp = noStamp }
+
+abbrev pub noRecord : Record
+noRecord = record { site = 0; stamp = noStamp; ops = [] }
+
+abbrev pub siteAt : Network → ℕ → Site
+siteAt n i = getD (n .sites) i noSite
+
+-- a line for each two sites, that from p to c at number 8 p + c
+abbrev pub linesMost : ℕ
+linesMost = sitesMost * sitesMost
+
+-- the line from p to c
+abbrev pub lineNumber : ℕ → ℕ → ℕ
+lineNumber p c = p * sitesMost + c
+
+abbrev pub lineAt : Network → ℕ → ℕ → Line
+lineAt n p c = getD (n .lines) (lineNumber p c) noLine
+
+-- ---- a network with another site, another line, a record more
+abbrev pub withSite : Network → ℕ → Site → Network
+withSite n i s = record { sites = set (n .sites) i s; items = n .items; lines = n .lines; history = n .history }
+
+abbrev pub withLine : Network → ℕ → Line → Network
+withLine n k l = record { sites = n .sites; items = n .items; lines = set (n .lines) k l; history = n .history }
+
+abbrev pub withLines : Network → List Line → Network
+withLines n ls = record { sites = n .sites; items = n .items; lines = ls; history = n .history }
+
+abbrev pub withRecord : Network → Record → Network
+withRecord n r = record { sites = n .sites; items = n .items; lines = n .lines; history = n .history ++ (r ∷ []) }
+
+-- ---- what a message carries
+abbrev pub messageStamp : List Record → Message → Stamp
+messageStamp h (commit k) = getD h k noRecord .stamp
+messageStamp h (dummy t) = t
+
+abbrev pub messageOps : List Record → Message → List Op
+messageOps h (commit k) = getD h k noRecord .ops
+messageOps h (dummy t) = []
+
+-- ---- well shaped
+-- a message on a line from p names a recorded commit of p, or is a dummy that p made
+abbrev pub messageFits : List Record → ℕ → Message → Bool
+messageFits h p (commit k) = ltb k (length h) && eqb (getD h k noRecord .site) p
+messageFits h p (dummy t) = madeBy byNumber p t
+
+-- the line of a number: arrived not above held, nothing held where the placement gives no line, and every message fits
+unfoldable pub lineFits : List Item → List Record → ℕ → Line → Bool
+lineFits xs h k l =
+    leb (l .arrived) (length (l .messages))
+    && ((isEmpty (l .messages) || isLine xs (k / sitesMost) (k % sitesMost)) && every (messageFits h (k / sitesMost)) (l .messages))
+
+-- the placement as set-up demands; every site's timestamp its own; every record and every line fitting
+unfoldable pub wellShaped : Network → Bool
+wellShaped n =
+    eqb (itemsNumber (length (n .sites)) (n .items)) 0
+    && (everyFrom (λ i s. madeBy byNumber i (s .stamp)) 0 (n .sites)
+    && (every (recordFits (length (n .sites)) (length (n .items))) (n .history)
+    && everyFrom (lineFits (n .items) (n .history)) 0 (n .lines)))

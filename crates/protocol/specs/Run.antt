@@ -1,0 +1,71 @@
+-- The one-copy run: the commits one after another by rising timestamp, equal ones in the order made, on one copy of each item.
+use mathlib.Core.Bool.{Bool, cond}
+use mathlib.Core.List.{List, [], _∷_, map}
+use Prim.Native.Nat.{ℕ, suc}
+use lib.IntN.{ℤ, pos}
+use lib.ListN.{length, getD, replicate}
+use lib.Dec.{eqb}
+use Rattle.timestamp.specs.Timestamp.{Stamp}
+use Rattle.timestamp.specs.Order.{order, notLater}
+use Rattle.site.specs.Operations.{worked}
+use Rattle.site.specs.InWords.{tableSize}
+use Rattle.records.specs.Records.{Record}
+use Rattle.protocol.specs.Network.{noRecord}
+use Rattle.lists.specs.Lists.{keep, upTo}
+
+-- a commit with its number in the order made
+pub record Turn : Type 0 where
+  pub number : ℕ
+  pub commit : Record
+
+abbrev pub numbered : ℕ → List Record → List Turn
+numbered k [] = []
+numbered k (c ∷ cs) = record { number = k; commit = c } ∷ numbered (suc k) cs
+
+-- ---- by rising timestamp; a commit made before others goes before those that equal it
+abbrev pub comesFirst : Record → Record → Bool
+comesFirst c d = notLater (order (c .stamp) (d .stamp))
+
+abbrev pub insert : Turn → List Turn → List Turn
+insert c [] = c ∷ []
+insert c (d ∷ ds) = cond (comesFirst (c .commit) (d .commit)) (c ∷ (d ∷ ds)) (d ∷ insert c ds)
+
+abbrev pub sorted : List Turn → List Turn
+sorted [] = []
+sorted (c ∷ cs) = insert c (sorted cs)
+
+abbrev pub inTurn : List Record → List Turn
+inTurn cs = sorted (numbered 0 cs)
+
+-- ---- the run: the reads of each commit get the table before it, then its writes go in
+abbrev pub after : List ℤ → List Turn → List ℤ
+after table [] = table
+after table (c ∷ cs) = after (worked table (c .commit .ops) .table) cs
+
+-- a commit with the values that its reads get
+abbrev pub seen : List ℤ → Turn → Turn
+seen table c =
+    let r = c .commit in
+    record { number = c .number; commit = record { site = r .site; stamp = r .stamp; ops = worked table (r .ops) .ops } }
+
+abbrev pub run : List ℤ → List Turn → List Turn
+run table [] = []
+run table (c ∷ cs) = seen table c ∷ run (worked table (c .commit .ops) .table) cs
+
+-- every item starts at 0
+abbrev pub zeros : List ℤ
+zeros = replicate tableSize (pos 0)
+
+-- ---- what the run shows
+-- the commit of that number
+abbrev pub find : List Turn → ℕ → Record
+find [] k = noRecord
+find (c ∷ cs) k = cond (eqb (c .number) k) (c .commit) (find cs k)
+
+-- the commits in the order made, each read with the value that the run has there
+unfoldable pub shown : List ℤ → List Record → List Record
+shown start cs = map (find (run start (inTurn cs))) (upTo 0 (length cs))
+
+-- the run's value of an item after exactly the commits not later than a timestamp
+unfoldable pub valueAt : List ℤ → List Record → Stamp → ℕ → ℤ
+valueAt start cs t x = getD (after start (keep (λ c. notLater (order (c .commit .stamp) t)) (inTurn cs))) x (pos 0)

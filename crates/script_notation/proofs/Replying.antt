@@ -1,0 +1,195 @@
+-- From a call's promise and what was printed to the promise of its line; and the calls that numbers and fields stand for.
+use mathlib.Core.Path.{_≡_, refl, sym, ap, subst, _∙_}
+use mathlib.Core.Bool.{Bool, true, false, cond, not}
+use mathlib.Core.List.{List, [], _∷_, map}
+use mathlib.Core.Option.{Option, none, some}
+use Prim.Native.Nat.{ℕ, suc, _+_, _-_, _≤_, _<_}
+use native.Mathlib.Omega.{arith}
+use lib.IntN.{ℤ}
+use lib.ListN.{length, getD, take, drop}
+use lib.Seq.{length-take-le}
+use borrow.Author.Tests.{not-true, not-false, eqb-true, eqb-false, ne-eqb, le-leb, lt-leb}
+use lib.Dec.{eqb}
+use Rattle.decimal.specs.Decimal.{natural}
+use Rattle.timestamp.specs.Timestamp.{Stamp}
+use Rattle.site.specs.Operations.{Op}
+use Rattle.placement.specs.Placement.{Item}
+use Rattle.protocol.specs.Calls.{Call, setUp, commit, Outcome, perform}
+use Rattle.network_layout.specs.InWords.{meaning}
+use Rattle.network_layout.specs.Promises.{Performed}
+use Rattle.script_notation.specs.Fields.{space, place, fields, fieldsFrom}
+use Rattle.script_notation.specs.Parse.{on, one, two, setUpWith, setUpOf, commitWith, commitOf, called, byLetter, longest, parse, all, operation, placed, listed, exact, operationsIn, itemsIn}
+use Rattle.script_notation.specs.Print.{print, fieldsOf, answerMost, Put}
+use Rattle.script_notation.specs.Answers.{replied, Replied}
+use Rattle.script_notation.proofs.Places.{field-next, fields-end}
+use Rattle.script_notation.proofs.Putting.{put-as, print-fields}
+use Rattle.script_notation.proofs.Parsing.{kinds-of, items-of, values-of, primaries-of, masks-of}
+
+-- ---- no call, and a call
+pub replied-none : {out₀ out : List ℕ} {r : ℕ} (call : Option Call) (w : List ℕ) → none ≡ call → Put answerMost out₀ out 0 r (63 ∷ []) → Replied call w w out₀ out r
+replied-none call w e p =
+    record {
+      printed = put-as (omega arith) (ap (λ (o : Option Call). replied (meaning w) o .bytes) e) p;
+      after-is = ap (λ (o : Option Call). replied (meaning w) o .after) e;
+      kept = λ h. refl;
+    }
+
+pub replied-as : {entry exit out₀ out : List ℕ} {r : ℕ} {a b : Option Call} → a ≡ b → Replied a entry exit out₀ out r → Replied b entry exit out₀ out r
+replied-as {entry} {exit} {out₀} {out} {r} e p = subst (λ (o : Option Call). Replied o entry exit out₀ out r) e p
+
+pub replied-some : {entry exit out₀ out : List ℕ} {r number parent : ℕ} {stamp : Stamp} {values : List ℤ} (call : Call) → Performed call entry exit number parent stamp values
+    → Put answerMost out₀ out 0 r (print call (fieldsOf number parent stamp values)) → Replied (some call) entry exit out₀ out r
+replied-some {entry} {exit} {out₀} {out} {r} {number} {parent} {stamp} {values} call p q =
+    record {
+      printed =
+          put-as
+          (omega arith)
+          (ap (λ (k : ℕ). print call (fieldsOf k parent stamp values)) (p .number-is)
+          ∙ ap (λ (k : ℕ). print call (fieldsOf (o .number) k stamp values)) (p .parent-is)
+          ∙ ap (λ (t : Stamp). print call (fieldsOf (o .number) (o .parent) t values)) (p .stamp-is)
+          ∙ ap (λ (vs : List ℤ). print call (fieldsOf (o .number) (o .parent) (o .stamp) vs)) (p .values-are)
+          ∙ print-fields call o) q;
+      after-is = p .after-is;
+      kept = λ h. p .kept (λ z. eqb-false (o .number) 0 h (sym (p .number-is) ∙ z));
+    }
+  where
+    o : Outcome
+    o = perform (meaning entry) call
+
+-- ---- the call that a list of numbers stands for
+module _ {A B : Type 0} (ok : Bool) (xs : List A) (o : Option (List A)) (g : List A → Option B) (e : listed ok xs ≡ o) where
+  pub on-none : not ok ≡ true → none ≡ on o g
+  on-none h = ap (λ (b : Bool). on (listed b xs) g) (sym (not-true ok h)) ∙ ap (λ (z : Option (List A)). on z g) e
+
+  pub on-is : not ok ≡ false → g xs ≡ on o g
+  on-is h = ap (λ (b : Bool). on (listed b xs) g) (sym (not-false ok h)) ∙ ap (λ (z : Option (List A)). on z g) e
+
+-- so many numbers, of a list of which the first n are used
+pub exact-none : (k : ℕ) (ok : Bool) (xs : List ℕ) (o : Option (List ℕ)) → listed ok xs ≡ o → not ok ≡ true → none ≡ exact k o
+exact-none k ok xs o e h = ap (λ (b : Bool). exact k (listed b xs)) (sym (not-true ok h)) ∙ ap (exact k) e
+
+exact-size : (k n : ℕ) (l : List ℕ) → n ≤ length l → (b : Bool) → eqb n k ≡ b → listed b (take k l) ≡ cond b (some (take n l)) none
+exact-size k n l h true e = ap (λ (m : ℕ). some (take m l)) (sym (eqb-true n k e))
+exact-size k n l h false e = refl
+
+pub exact-is : (k n : ℕ) (ok : Bool) (l : List ℕ) (o : Option (List ℕ)) → listed ok (take n l) ≡ o → not ok ≡ false → n ≤ length l → listed (eqb n k) (take k l) ≡ exact k o
+exact-is k n ok l o e h g =
+    exact-size k n l g (eqb n k) refl
+    ∙ ap (λ (m : ℕ). cond (eqb m k) (some (take n l)) none) (sym (length-take-le n l g))
+    ∙ ap (λ (b : Bool). exact k (listed b (take n l))) (sym (not-false ok h))
+    ∙ ap (exact k) e
+
+module _ (f : ℕ → Call) where
+  one-exact : (o : Option (List ℕ)) → on (exact 1 o) (one f) ≡ on o (one f)
+  one-exact none = refl
+  one-exact (some []) = refl
+  one-exact (some (a ∷ [])) = refl
+  one-exact (some (a ∷ (b ∷ xs))) = rw (ne-eqb (suc (suc (length xs))) 1 (λ e. omega arith))
+
+  is-first : (l : List ℕ) → 1 ≤ length l → some (f (getD l 0 0)) ≡ one f (take 1 l)
+  is-first [] h = absurd (omega arith)
+  is-first (a ∷ l) h = refl
+
+  module _ (ok : Bool) (l : List ℕ) (o : Option (List ℕ)) (e : listed ok (take 1 l) ≡ exact 1 o) where
+    pub not-one : not ok ≡ true → none ≡ on o (one f)
+    not-one h = on-none ok (take 1 l) (exact 1 o) (one f) e h ∙ one-exact o
+
+    pub is-one : not ok ≡ false → 1 ≤ length l → some (f (getD l 0 0)) ≡ on o (one f)
+    is-one h g = is-first l g ∙ on-is ok (take 1 l) (exact 1 o) (one f) e h ∙ one-exact o
+
+module _ (f : ℕ → ℕ → Call) where
+  two-exact : (o : Option (List ℕ)) → on (exact 2 o) (two f) ≡ on o (two f)
+  two-exact none = refl
+  two-exact (some []) = refl
+  two-exact (some (a ∷ [])) = refl
+  two-exact (some (a ∷ (b ∷ []))) = refl
+  two-exact (some (a ∷ (b ∷ (c ∷ xs)))) = rw (ne-eqb (suc (suc (suc (length xs)))) 2 (λ e. omega arith))
+
+  are-first : (l : List ℕ) → 2 ≤ length l → some (f (getD l 0 0) (getD l 1 0)) ≡ two f (take 2 l)
+  are-first [] h = absurd (omega arith)
+  are-first (a ∷ []) h = absurd (omega arith)
+  are-first (a ∷ (b ∷ l)) h = refl
+
+  module _ (ok : Bool) (l : List ℕ) (o : Option (List ℕ)) (e : listed ok (take 2 l) ≡ exact 2 o) where
+    pub not-two : not ok ≡ true → none ≡ on o (two f)
+    not-two h = on-none ok (take 2 l) (exact 2 o) (two f) e h ∙ two-exact o
+
+    pub is-two : not ok ≡ false → 2 ≤ length l → some (f (getD l 0 0) (getD l 1 0)) ≡ on o (two f)
+    is-two h g = are-first l g ∙ on-is ok (take 2 l) (exact 2 o) (two f) e h ∙ two-exact o
+
+-- ---- set-up
+pub few-numbers : (l : List ℕ) → length l < 2 → none ≡ setUpOf l
+few-numbers [] h = refl
+few-numbers (a ∷ []) h = refl
+few-numbers (a ∷ (b ∷ l)) h = absurd (omega arith)
+
+pub set-up-of : (l : List ℕ) → 2 ≤ length l → on (placed (drop 2 l)) (λ is. some (setUpWith (getD l 0 0) (getD l 1 0) is)) ≡ setUpOf l
+set-up-of [] h = absurd (omega arith)
+set-up-of (a ∷ []) h = absurd (omega arith)
+set-up-of (a ∷ (b ∷ l)) h = refl
+
+pub set-up-with : (sites items n : ℕ) (ps ms : List ℕ) → length (take n ms) ≡ length (take n ps) → some (setUp sites items (take n ps) (take n ms)) ≡ some (setUpWith sites items (itemsIn n ps ms))
+set-up-with sites items n ps ms e =
+    ap (λ (l : List ℕ). some (setUp sites items l (take n ms))) (sym (primaries-of (take n ps) (take n ms) e))
+    ∙ ap (λ (l : List ℕ). some (setUp sites items (map (λ (i : Item). i .primary) (itemsIn n ps ms)) l)) (sym (masks-of (take n ps) (take n ms) e))
+
+-- ---- commit
+pub commit-with : (site n : ℕ) (ks is : List ℕ) (vs : List ℤ) → length (take n is) ≡ length (take n ks) → length (take n vs) ≡ length (take n ks)
+    → some (commit site (take n ks) (take n is) (take n vs)) ≡ some (commitWith site (operationsIn n ks is vs))
+commit-with site n ks is vs e f =
+    let os = operationsIn n ks is vs in
+    ap (λ (l : List ℕ). some (commit site l (take n is) (take n vs))) (sym (kinds-of (take n ks) (take n is) (take n vs) e f))
+    ∙ ap (λ (l : List ℕ). some (commit site (map (λ (o : Op). o .kind) os) l (take n vs))) (sym (items-of (take n ks) (take n is) (take n vs) e f))
+    ∙ ap (λ (l : List ℤ). some (commit site (map (λ (o : Op). o .kind) os) (map (λ (o : Op). o .item) os) l)) (sym (values-of (take n ks) (take n is) (take n vs) e f))
+
+abbrev pub committing : List (List ℕ) → ℕ → Option Call
+committing fs site = on (all operation fs) (λ os. some (commitWith site os))
+
+module _ (text : List ℕ) where
+  pub no-site : length text < 2 → none ≡ commitOf (fieldsFrom text 2)
+  no-site h = ap commitOf (sym (fields-end text 2 h))
+
+  module _ (h : 2 ≤ length text) (end : ℕ) (e : end ≡ 2 + place space (drop 2 text)) where
+    pub site-first : on (natural (take (end - 2) (drop 2 text))) (committing (fieldsFrom text (end + 1))) ≡ commitOf (fieldsFrom text 2)
+    site-first = ap commitOf (sym (field-next text 2 end e h))
+
+-- ---- by the letter
+pub no-letter : (b : ℕ) (fs : List (List ℕ)) → (b ≡ 112 → ⊥) → (b ≡ 99 → ⊥) → (b ≡ 100 → ⊥) → (b ≡ 101 → ⊥) → (b ≡ 108 → ⊥) → (b ≡ 115 → ⊥) → none ≡ called b fs
+unfolding called
+no-letter b fs p c d e l s = rw (ne-eqb b 112 p, ne-eqb b 99 c, ne-eqb b 100 d, ne-eqb b 101 e, ne-eqb b 108 l, ne-eqb b 115 s)
+
+letter-long : (f : List ℕ) (fs : List (List ℕ)) → (length f ≡ 1 → ⊥) → none ≡ byLetter (f ∷ fs)
+letter-long [] fs n = refl
+letter-long (b ∷ []) fs n = absurd (n refl)
+letter-long (b ∷ (x ∷ xs)) fs n = refl
+
+letter-one : (l : List ℕ) (fs : List (List ℕ)) → 1 ≤ length l → called (getD l 0 0) fs ≡ byLetter (take 1 l ∷ fs)
+letter-one [] fs h = absurd (omega arith)
+letter-one (b ∷ l) fs h = refl
+
+module _ (text : List ℕ) where
+  pub too-long : longest < length text → none ≡ parse text
+  unfolding parse
+  too-long h = rw (lt-leb (length text) longest h)
+
+  module _ (h : length text ≤ longest) (end : ℕ) (e : end ≡ 0 + place space text) where
+    opened : byLetter (take end text ∷ fieldsFrom text (end + 1)) ≡ parse text
+    unfolding parse
+    opened =
+        let z : end - 0 ≡ end = omega arith in
+        sym
+        (ap (λ (b : Bool). cond b (byLetter (fields text)) none) (le-leb (length text) longest h)
+        ∙ ap byLetter (sym zero-on ∙ field-next text 0 end e (omega arith))
+        ∙ ap (λ (k : ℕ). byLetter (take k text ∷ fieldsFrom text (end + 1))) z)
+      where
+        zero-on : fieldsFrom text 0 ≡ fields text
+        zero-on = ap (λ (b : Bool). cond b (fields text) []) (le-leb 0 (length text) (omega arith))
+
+    pub other-letter : end ≤ length text → (end ≡ 1 → ⊥) → none ≡ parse text
+    other-letter g n = letter-long (take end text) (fieldsFrom text (end + 1)) (λ z. n (sym (length-take-le end text g) ∙ z)) ∙ opened
+
+    pub one-letter : end ≤ length text → end ≡ 1 → called (getD text 0 0) (fieldsFrom text 2) ≡ parse text
+    one-letter g z =
+        letter-one text (fieldsFrom text 2) (omega arith)
+        ∙ ap (λ (k : ℕ). byLetter (take k text ∷ fieldsFrom text (k + 1))) (sym z)
+        ∙ opened

@@ -1,0 +1,42 @@
+-- The table of worked examples: the ten lines of the script, one after another on one state that starts from nothing, and the three
+-- comparisons printed under Definition 3.3.
+use mathlib.Core.Path.{_≡_}
+use mathlib.Core.List.{List, [], _∷_, map}
+use mathlib.Core.Option.{none}
+use Prim.Native.Nat.{ℕ}
+use lib.ListN.{length, replicate}
+use Rattle.timestamp.specs.declared.Order.the-variants.{Earlier}
+use Rattle.timestamp.specs.Order.{order}
+use Rattle.timestamp.specs.Examples.{Comparison, comparisons}
+use Rattle.script_notation.specs.Answers.{answers}
+
+-- a line and its answer, as bytes
+pub record Line : Type 0 where
+  pub input : List ℕ
+  pub output : List ℕ
+
+pub record Table : Type 0 where
+  pub lines : List Line
+  pub pairs : List Comparison
+
+abbrev pub tenLines : List Line
+tenLines =
+    record { input = 112 ∷ 32 ∷ 51 ∷ 32 ∷ 50 ∷ 32 ∷ 48 ∷ 32 ∷ 54 ∷ 32 ∷ 49 ∷ 32 ∷ 52 ∷ []; output = 48 ∷ [] }  -- p 3 2 0 6 1 4 | 0
+    ∷ record { input = 99 ∷ 32 ∷ 48 ∷ 32 ∷ 119 ∷ 48 ∷ 61 ∷ 53 ∷ []; output = 48 ∷ 32 ∷ 48 ∷ 32 ∷ 48 ∷ 46 ∷ 49 ∷ [] }  -- c 0 w0=5 | 0 0 0.1
+    ∷ record { input = 108 ∷ 32 ∷ 48 ∷ 32 ∷ 49 ∷ []; output = 48 ∷ [] }  -- l 0 1 | 0
+    ∷ record { input = 115 ∷ 32 ∷ 49 ∷ []; output = 48 ∷ 32 ∷ 48 ∷ 32 ∷ 48 ∷ 32 ∷ 48 ∷ 46 ∷ 49 ∷ [] }  -- s 1 | 0 0 0 0.1
+    ∷ record { input = 99 ∷ 32 ∷ 49 ∷ 32 ∷ 114 ∷ 48 ∷ 32 ∷ 119 ∷ 49 ∷ 61 ∷ 55 ∷ []; output = 48 ∷ 32 ∷ 48 ∷ 32 ∷ 48 ∷ 46 ∷ 49 ∷ 44 ∷ 49 ∷ 46 ∷ 49 ∷ 32 ∷ 53 ∷ [] }  -- c 1 r0 w1=7 | 0 0 0.1,1.1 5
+    ∷ record { input = 108 ∷ 32 ∷ 49 ∷ 32 ∷ 50 ∷ []; output = 48 ∷ [] }  -- l 1 2 | 0
+    ∷ record { input = 115 ∷ 32 ∷ 50 ∷ []; output = 50 ∷ 48 ∷ [] }  -- s 2 | 20
+    ∷ record { input = 108 ∷ 32 ∷ 48 ∷ 32 ∷ 50 ∷ []; output = 48 ∷ [] }  -- l 0 2 | 0
+    ∷ record { input = 115 ∷ 32 ∷ 50 ∷ []; output = 48 ∷ 32 ∷ 48 ∷ 32 ∷ 48 ∷ 32 ∷ 48 ∷ 46 ∷ 49 ∷ [] }  -- s 2 | 0 0 0 0.1
+    ∷ record { input = 99 ∷ 32 ∷ 50 ∷ 32 ∷ 114 ∷ 48 ∷ 32 ∷ 114 ∷ 49 ∷ []; output = 48 ∷ 32 ∷ 48 ∷ 32 ∷ 48 ∷ 46 ∷ 49 ∷ 44 ∷ 50 ∷ 46 ∷ 49 ∷ 32 ∷ 53 ∷ 32 ∷ 48 ∷ [] }  -- c 2 r0 r1 | 0 0 0.1,2.1 5 0
+    ∷ []
+
+abbrev pub table : Table
+table = record { lines = tenLines; pairs = comparisons }
+
+-- every line is answered as the table has it, and of every pair the first timestamp is the earlier one
+pub record Holds (t : Table) : Type 0 where
+  pub lines-hold : answers none (map (λ (l : Line). l .input) (t .lines)) ≡ map (λ (l : Line). l .output) (t .lines)
+  pub pairs-hold : map (λ (c : Comparison). order (c .first) (c .second)) (t .pairs) ≡ replicate (length (t .pairs)) Earlier

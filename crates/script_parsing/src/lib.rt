@@ -1,0 +1,207 @@
+// A line's fields: the numbers, a set-up's items and a commit's operations in them.
+use decimal::Integer;
+use decimal::Number;
+ghost use mathlib.Core.Path.{_≡_};
+ghost use mathlib.Core.Bool.{false};
+ghost use Prim.Native.Nat.{_+_, _≤_};
+ghost use lib.ListN.{length, take, drop};
+ghost use Rattle.decimal.specs.Decimal.{natural, numberOf, integerOf};
+ghost use Rattle.script_notation.specs.Fields.{place, fieldsFrom};
+ghost use Rattle.script_notation.specs.Parse.{all, longest, listed, exact, reading as readingOf, writing as writingOf, assigned as assignedIn, operation as operationIn, operationsIn, placed, itemsIn};
+ghost use mathlib.Core.Option.{none};
+ghost use Rattle.script_parsing.specs.Parsed.{operationOf};
+
+// How many things there are in a list, where it is one.
+pub struct Listed {
+    pub ok: bool,
+    pub count: usize,
+}
+
+// Where a byte first stands from a place on, or the end.
+pub fn find(text: &[u8], from: usize, byte: u8) -> usize
+    ensures { λ r. ⌜ r ≡ from + place byte (drop from (now (text .entry))) ⌝ }
+{
+    let mut i = from;
+    while i < text.len() {
+        if text[i] == byte {
+            return i;
+        }
+        i += 1;
+    }
+    i
+}
+
+// The fields from a place on as numbers, from the front of a list.
+pub fn numbers(text: &[u8], from: usize, list: &mut [u32]) -> Listed
+    requires { ⌜ (length (now text) ≤ longest) × (2 ≤ from) × (length (now list) ≡ 256) ⌝ }
+    ensures { λ r. ⌜ (listed (r .ok) (take (r .count) (now (list .exit))) ≡ all natural (fieldsFrom (now (text .entry)) from)) × (r .count ≤ 256) ⌝ }
+{
+    let mut at = from;
+    let mut count = 0;
+    while at <= text.len() {
+        let end = find(text, at, 32);
+        let n = decimal::natural(&text[at..end]);
+        if !n.ok {
+            return no_list();
+        }
+        list[count] = n.value;
+        count += 1;
+        at = end + 1;
+    }
+    Listed { ok: true, count }
+}
+
+// The fields behind the letter as k numbers, from the front of a list; false where they are not.
+pub fn exactly(text: &[u8], k: usize, list: &mut [u32]) -> bool
+    requires { ⌜ (length (now text) ≤ longest) × (length (now list) ≡ 256) ⌝ }
+    ensures { λ r. ⌜ listed r (take k (now (list .exit))) ≡ exact k (all natural (fieldsFrom (now (text .entry)) 2)) ⌝ }
+{
+    let n = numbers(text, 2, list);
+    if !n.ok {
+        return false;
+    }
+    n.count == k
+}
+
+// What is no list.
+pub fn no_list() -> Listed
+    ensures { λ r. ⌜ (r .ok ≡ false) × (r .count ≡ 0) ⌝ }
+{
+    Listed {
+        ok: false,
+        count: 0,
+    }
+}
+
+// An operation, where a field is one; else `ok` is false.
+pub struct Parsed {
+    pub ok: bool,
+    pub kind: u8,
+    pub item: u32,
+    pub value: i32,
+}
+
+// The operations in the fields from a place on, from the front of the lists.
+pub fn operations(
+    text: &[u8],
+    from: usize,
+    kinds: &mut [u8],
+    items: &mut [u32],
+    values: &mut [i32],
+) -> Listed
+    requires { ⌜ (length (now text) ≤ longest) × (4 ≤ from) × (length (now kinds) ≡ 170) × (length (now items) ≡ 170) × (length (now values) ≡ 170) ⌝ }
+    ensures { λ r. ⌜ (listed (r .ok) (operationsIn (r .count) (now (kinds .exit)) (now (items .exit)) (now (values .exit))) ≡ all operationIn (fieldsFrom (now (text .entry)) from)) × (r .count ≤ 170) ⌝ }
+{
+    let mut at = from;
+    let mut count = 0usize;
+    while at <= text.len() {
+        let end = find(text, at, 32);
+        let o = operation(&text[at..end]);
+        if !o.ok {
+            return no_list();
+        }
+        kinds[count] = o.kind;
+        items[count] = o.item;
+        let v = o.value;
+        values[count] = v;
+        count += 1;
+        at = end + 1;
+    }
+    Listed { ok: true, count }
+}
+
+// The operation in a field.
+fn operation(field: &[u8]) -> Parsed
+    ensures { λ r. ⌜ operationOf r ≡ operationIn (now (field .entry)) ⌝ }
+{
+    if field.len() == 0 {
+        return no_operation();
+    }
+    if field[0] == 114 {
+        return reading(decimal::natural(&field[1..]));
+    }
+    if field[0] == 119 {
+        return assigned(&field[1..]);
+    }
+    no_operation()
+}
+
+// A write, from what stands behind its letter.
+fn assigned(text: &[u8]) -> Parsed
+    ensures { λ r. ⌜ operationOf r ≡ assignedIn (now (text .entry)) ⌝ }
+{
+    let end = find(text, 0, 61);
+    if text.len() <= end {
+        return no_operation();
+    }
+    let item = decimal::natural(&text[..end]);
+    let from = end + 1;
+    let value = decimal::signed(&text[from..]);
+    writing(item, value)
+}
+
+fn reading(item: Number) -> Parsed
+    ensures { λ r. ⌜ operationOf r ≡ readingOf (numberOf item) ⌝ }
+{
+    if !item.ok {
+        return no_operation();
+    }
+    Parsed {
+        ok: true,
+        kind: 0,
+        item: item.value,
+        value: 0,
+    }
+}
+
+fn writing(item: Number, value: Integer) -> Parsed
+    ensures { λ r. ⌜ operationOf r ≡ writingOf (numberOf item) (integerOf value) ⌝ }
+{
+    if !item.ok {
+        return no_operation();
+    }
+    if !value.ok {
+        return no_operation();
+    }
+    Parsed {
+        ok: true,
+        kind: 1,
+        item: item.value,
+        value: value.value,
+    }
+}
+
+fn no_operation() -> Parsed
+    ensures { λ r. ⌜ operationOf r ≡ none ⌝ }
+{
+    Parsed {
+        ok: false,
+        kind: 0,
+        item: 0,
+        value: 0,
+    }
+}
+
+// The items that numbers stand for two by two, from the front of the lists.
+pub fn items(list: &[u32], primaries: &mut [u32], masks: &mut [u8]) -> Listed
+    requires { ⌜ (length (now list) ≤ 256) × (length (now primaries) ≡ 128) × (length (now masks) ≡ 128) ⌝ }
+    ensures { λ r. ⌜ (listed (r .ok) (itemsIn (r .count) (now (primaries .exit)) (now (masks .exit))) ≡ placed (now (list .entry))) × (r .count ≤ 128) ⌝ }
+{
+    let mut count = 0usize;
+    let mut at = 0usize;
+    while at < list.len() {
+        let next = at + 1;
+        if list.len() <= next {
+            return no_list();
+        }
+        let mask = list[next];
+        if 255 < mask {
+            return no_list();
+        }
+        primaries[count] = list[at];
+        masks[count] = mask as u8;
+        count += 1;
+        at = next + 1;
+    }
+    Listed { ok: true, count }
+}

@@ -1,0 +1,43 @@
+-- `printing::scheduled` prints the number and, of an accepted schedule, the parent and the timestamp.
+use mathlib.Core.List.{[]}
+use native.Mathlib.Omega.{arith}
+use Rattle.timestamp.specs.Timestamp.{stampOf}
+use Rattle.protocol.specs.Calls.{schedule}
+use Rattle.script_notation.specs.Print.{fieldsOf}
+use Rattle.script_notation.proofs.Putting.{put-as, put-then, put-end, print-refused, print-accepted}
+use borrow.Author.Needs.{needs}
+use Rattle.script_printing.proofs.scheduled.Statement.{statement}
+use Rattle.script_printing.proofs.scheduled.Tie as tie
+
+number-requires : tie.Need-number-requires
+number-requires c κs = search needs
+
+same-length : tie.Need-same-length
+same-length c = search needs
+
+returns : tie.Need-returns
+returns c = let a = c .before .before .before .before .before .before .before .args .answer in put-as (omega arith) (print-refused (schedule 0) (fieldsOf (a .number) (a .parent) (stampOf (a .stamp)) []) (c .if1 .taken)) (c .before .before .before .number .ensures)
+
+behind-byte-requires : tie.Need-behind-byte-requires
+behind-byte-requires c κs = search needs
+
+stamp-requires : tie.Need-stamp-requires
+stamp-requires c κs = search needs
+
+same-length-2 : tie.Need-same-length-2
+same-length-2 c = search needs
+
+returns-2 : tie.Need-returns-2
+returns-2 c = let a = c .before .before .before .before .before .before .before .before .before .before .before .before .before .before .before .args .answer in put-as (omega arith) (print-accepted (schedule 0) (fieldsOf (a .number) (a .parent) (stampOf (a .stamp)) []) (c .before .before .before .before .before .before .before .before .if1 .left)) (put-then (omega arith) (c .before .before .before .before .before .before .before .before .before .before .before .number .ensures) (put-then (omega (arith, put-end (c .before .before .before .before .before .before .before .before .before .before .before .number .ensures), c .before .before .before .before .before .before .before .before .before .before .before .number .kept .0)) (c .before .before .before .before .before .before .behind-byte .ensures) (c .before .before .stamp .ensures)))
+
+pub scheduled-spec : {M : Type 1} → statement M
+scheduled-spec =
+    tie.close
+    (tie.spec
+    number-requires
+    same-length
+    returns
+    behind-byte-requires
+    stamp-requires
+    same-length-2
+    returns-2)
