@@ -12,9 +12,9 @@ use Rattle.words.specs.Words.{part}
 use Rattle.lists.proofs.Every.{and-true}
 use Rattle.records.specs.Records.{Record}
 use Rattle.protocol.specs.Network.{noRecord}
-use Rattle.history_file.specs.Bytes.{zeros}
+use Rattle.history_file.specs.Bytes.{allZero}
 use Rattle.history_file.specs.File.{History, mark, trailerSize}
-use Rattle.history_file.specs.Reading.{recordRead, sizeRead, recordValid, recordsRead, recordsFill, startOf, trailerAt, same, marked, countRead, distanceRead, sitesRead, itemsRead, partRead, inRange, trailerFits, valid, fileNumber, noHistory, historyRead}
+use Rattle.history_file.specs.Reading.{recordRead, sizeRead, recordValid, recordsRead, recordsFill, startOf, trailerAt, same, marked, countRead, distanceRead, sitesRead, itemsRead, partRead, within, trailerFits, valid, fileNumber, noHistory, historyRead}
 use Rattle.history_file.specs.Promises.{partAnswered, Step, noStep, stepOf, recordNumber, stepNumbered}
 use Rattle.history_file.proofs.Units.{rest-part}
 use Rattle.history_file.proofs.Validity.{valid-room, size-some}
@@ -49,8 +49,8 @@ module _ (b : List ℕ) (size : length b ≡ 4) where
 
 -- ---- the trailer's fields
 module _ (b : List ℕ) (long : trailerSize ≤ length b) (s t : ℕ) (ss : s ≡ sitesRead b) (ts : t ≡ itemsRead b) where
-  trailer-is : trailerFits b ≡ (inRange 1 8 s && (inRange 1 64 t && zeros (part b (trailerAt b + 14) 2)))
-  trailer-is = sym (ap₂ (λ (x y : ℕ). inRange 1 8 x && (inRange 1 64 y && zeros (part b (trailerAt b + 14) 2))) ss ts)
+  trailer-is : trailerFits b ≡ (within 1 8 s && (within 1 64 t && allZero (part b (trailerAt b + 14) 2)))
+  trailer-is = sym (ap₂ (λ (x y : ℕ). within 1 8 x && (within 1 64 y && allZero (part b (trailerAt b + 14) 2))) ss ts)
 
   pub no-sites : s < 1 → false ≡ trailerFits b
   no-sites h = sym (trailer-is ∙ rw (lt-leb 1 s h))
@@ -67,11 +67,11 @@ module _ (b : List ℕ) (long : trailerSize ≤ length b) (s t : ℕ) (ss : s �
         pub many-items : 64 < t → false ≡ trailerFits b
         many-items l = sym (trailer-is ∙ rw (le-leb 1 s h, le-leb s 8 g, le-leb 1 t k, lt-leb t 64 l))
 
-        pub trailer-zeros : t ≤ 64 → (r : Bool) → r ≡ zeros (part b (length b - 2) (length b - (length b - 2))) → r ≡ trailerFits b
+        pub trailer-zeros : t ≤ 64 → (r : Bool) → r ≡ allZero (part b (length b - 2) (length b - (length b - 2))) → r ≡ trailerFits b
         trailer-zeros l r e =
             let n : length b - (length b - 2) ≡ 2 = omega arith in
             let a : length b - 2 ≡ trailerAt b + 14 = omega arith in
-            e ∙ ap₂ (λ (x y : ℕ). zeros (part b x y)) a n ∙ sym (trailer-is ∙ rw (le-leb 1 s h, le-leb s 8 g, le-leb 1 t k, le-leb t 64 l))
+            e ∙ ap₂ (λ (x y : ℕ). allZero (part b x y)) a n ∙ sym (trailer-is ∙ rw (le-leb 1 s h, le-leb s 8 g, le-leb 1 t k, le-leb t 64 l))
 
 -- ---- the part
 pub part-is : (b : List ℕ) (d : ℕ) → d ≡ distanceRead b → trailerSize ≤ d → d ≤ length b → part b (length b - d) (length b - trailerSize - (length b - d)) ≡ partRead b

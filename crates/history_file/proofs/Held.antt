@@ -18,13 +18,13 @@ use Rattle.lists.proofs.Lists.{map-take, spell, spelled}
 use Rattle.lists.proofs.Every.{and-true}
 use Rattle.timestamp.specs.declared.Tuple.{Tuple}
 use Rattle.timestamp.specs.Timestamp.{Pair, Stamp, pairOf, stampOf, noPair, room}
-use Rattle.site.specs.Operations.{Op}
+use Rattle.site.specs.Operations.{Op, noOp}
 use Rattle.limits.specs.Limits.{opsMost}
 use Rattle.records.specs.Records.{recordFits}
 use Rattle.history_file.specs.declared.Found.{Found}
 use Rattle.history_file.specs.Bytes.{unitSize, numberAt}
-use Rattle.history_file.specs.Reading.{opRead, tupleCount, opCount, opUnits, sizeRead, countsFit, inRange, padsZero, recordRead, recordValid}
-use Rattle.history_file.specs.Promises.{noOp, placesFrom, Gives, Step, noStep, stepOf}
+use Rattle.history_file.specs.Reading.{opRead, tupleCount, opCount, opUnits, sizeRead, countsFit, within, padsZero, recordRead, recordValid}
+use Rattle.history_file.specs.Promises.{placesFrom, Gives, Step, noStep, stepOf}
 use Rattle.history_file.proofs.Units.{pairsOf, pairs-length, pair-at, rest-part}
 use Rattle.history_file.proofs.Validity.{sized, step-valid, step-invalid, valid-room}
 
@@ -125,7 +125,7 @@ unfolding recordValid
 valid-counts sites items b e =
     let v = and-true (leb (sizeRead b) (length b)) (countsFit (tupleCount b) (opCount b) && (padsZero b && recordFits sites items (recordRead b))) e .1 in
     let c = and-true (countsFit (tupleCount b) (opCount b)) (padsZero b && recordFits sites items (recordRead b)) v .0 in
-    let d = and-true (inRange 1 room (tupleCount b)) (inRange 1 opsMost (opCount b)) c in (
+    let d = and-true (within 1 room (tupleCount b)) (within 1 opsMost (opCount b)) c in (
       leb-true (tupleCount b) room (and-true (leb 1 (tupleCount b)) (leb (tupleCount b) room) (d .0) .1),
       leb-true (opCount b) opsMost (and-true (leb 1 (opCount b)) (leb (opCount b) opsMost) (d .1) .1),
     )

@@ -16,9 +16,9 @@ use Rattle.words.proofs.Parts.{part-length, part-getD}
 use Rattle.words.proofs.Chunks.{chunks-length}
 use Rattle.lists.proofs.Every.{and-true, every-at}
 use Rattle.records.specs.Records.{recordFits}
-use Rattle.history_file.specs.Bytes.{isByte, byte, little, unitSize, unit, joined, numberAt, zeros, padded}
+use Rattle.history_file.specs.Bytes.{isByte, byte, little, unitSize, unit, joined, numberAt, allZero, padded}
 use Rattle.history_file.specs.File.{pairBytes, opBytes, recordBytes, mark, trailer, trailerSize, fileOf}
-use Rattle.history_file.specs.Reading.{pairRead, opRead, tupleCount, opCount, tupleUnits, opUnits, opsFrom, recordRead, sizeRead, countsFit, padsZero, recordValid, recordsRead, recordsFill, trailerAt, same, countRead, distanceRead, sitesRead, itemsRead, inRange, partRead, fileRead, fileNumber, historyRead}
+use Rattle.history_file.specs.Reading.{pairRead, opRead, tupleCount, opCount, tupleUnits, opUnits, opsFrom, recordRead, sizeRead, countsFit, padsZero, recordValid, recordsRead, recordsFill, trailerAt, same, countRead, distanceRead, sitesRead, itemsRead, within, partRead, fileRead, fileNumber, historyRead}
 use Rattle.history_file.proofs.Validity.{valid-room}
 use Rattle.history_file.proofs.Files.{Accepted, accepted, accepts, accepted-trailer, accepted-fill, history-read, records-length}
 
@@ -242,7 +242,7 @@ module _ (b : List ℕ) (a : Accepted b) (e : Bytes b) where
       let t = trailerAt b in
       let long = a .long in
       let fits = accepted-trailer b a in
-      let z = and-true (inRange 1 64 (itemsRead b)) (zeros (part b (t + 14) 2)) (and-true (inRange 1 8 (sitesRead b)) (inRange 1 64 (itemsRead b) && zeros (part b (t + 14) 2)) fits .1) .1 in
+      let z = and-true (within 1 64 (itemsRead b)) (allZero (part b (t + 14) 2)) (and-true (within 1 8 (sitesRead b)) (within 1 64 (itemsRead b) && allZero (part b (t + 14) 2)) fits .1) .1 in
       let size : length (part b (t + 14) 2) ≡ 2 = part-length b (t + 14) 2 (omega arith) in
       let zero-at : (j : ℕ) → j < 2 → getD b (t + 14 + j) 0 ≡ 0
       = λ j h. sym (part-getD b (t + 14) 2 j h) ∙ eqb-true (getD (part b (t + 14) 2) j 0) 0 (every-at (λ (x : ℕ). eqb x 0) (part b (t + 14) 2) j 0 z (omega arith)) in

@@ -17,7 +17,7 @@ use Rattle.timestamp.specs.Timestamp.{Pair, room}
 use Rattle.site.specs.Operations.{Op}
 use Rattle.limits.specs.Limits.{opsMost}
 use Rattle.records.specs.Records.{Record, recordFits}
-use Rattle.history_file.specs.Bytes.{byte, unitSize, unit, joined, numberAt, padded, zeros}
+use Rattle.history_file.specs.Bytes.{byte, unitSize, unit, joined, numberAt, padded, allZero}
 use Rattle.history_file.specs.File.{History, pairBytes, opBytes, recordBytes, mark, trailer, trailerSize, body, fileOf}
 use Rattle.history_file.specs.Reading.{pairRead, opRead, tupleCount, opCount, tupleUnits, opUnits, opsFrom, recordRead, sizeRead, recordValid, recordsRead, recordsFill, trailerAt, same, marked, countRead, distanceRead, sitesRead, itemsRead, partRead, valid, fileNumber, historyRead}
 use Rattle.history_file.proofs.Written.{unit-length, pair-size, op-size, pairs-size, record-size}
@@ -271,9 +271,9 @@ module _ (h : History) (f : HistoryFits h) (before : List ℕ) where
   unfolding trailer
   items-there = end-getD 13 ∙ small (h .items) (omega (arith, f .few-items))
 
-  zeros-there : zeros (part whole (trailerAt whole + 14) 2) ≡ true
+  zeros-there : allZero (part whole (trailerAt whole + 14) 2) ≡ true
   unfolding trailer
-  zeros-there = ap (λ (l : List ℕ). zeros (take 2 l)) (sym (drop-drop 14 (trailerAt whole) whole) ∙ ap (drop 14) end-drop)
+  zeros-there = ap (λ (l : List ℕ). allZero (take 2 l)) (sym (drop-drop 14 (trailerAt whole) whole) ∙ ap (drop 14) end-drop)
 
   part-there : partRead whole ≡ body h
   unfolding partRead fileOf

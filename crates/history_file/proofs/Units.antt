@@ -16,7 +16,7 @@ use Rattle.lists.proofs.Every.{every-false, every-next, every-done}
 use Rattle.timestamp.specs.Timestamp.{Pair, noPair, lastPair}
 use Rattle.timestamp.proofs.Value.{last-at}
 use Rattle.records.specs.Records.{opFits}
-use Rattle.history_file.specs.Bytes.{unitSize, byte, unit, numberAt, padded, zeros}
+use Rattle.history_file.specs.Bytes.{unitSize, byte, unit, numberAt, padded, allZero}
 use Rattle.history_file.specs.Reading.{pairRead, opRead, countsFit}
 
 -- ---- the counts of a record
@@ -63,11 +63,11 @@ module _ (b : List ℕ) (n from i : ℕ) (low : from ≤ 4) (e : every (padded f
   pub pads-done : n ≤ i → true ≡ every (padded from) (chunks unitSize n b)
   pads-done h = sym (units-done (padded from) n b i e h)
 
-  module _ (h : i < n) (r : Bool) (is : r ≡ zeros (part b (i * unitSize + from) (i * unitSize + 4 - (i * unitSize + from)))) where
+  module _ (h : i < n) (r : Bool) (is : r ≡ allZero (part b (i * unitSize + from) (i * unitSize + 4 - (i * unitSize + from)))) where
     pad-is : padded from (part b (i * unitSize) unitSize) ≡ r
     pad-is =
         let k : i * unitSize + 4 - (i * unitSize + from) ≡ 4 - from = omega arith in
-        ap zeros (part-part b (i * unitSize) unitSize from (4 - from) (omega arith)) ∙ sym (is ∙ ap (λ (m : ℕ). zeros (part b (i * unitSize + from) m)) k)
+        ap allZero (part-part b (i * unitSize) unitSize from (4 - from) (omega arith)) ∙ sym (is ∙ ap (λ (m : ℕ). allZero (part b (i * unitSize + from) m)) k)
 
     pub pad-fails : r ≡ false → false ≡ every (padded from) (chunks unitSize n b)
     pad-fails f = sym (unit-fails (padded from) n b i e h (pad-is ∙ f))

@@ -36,9 +36,9 @@ unfoldable pub numberAt : List ℕ → ℕ → ℕ
 numberAt b at = getD b at 0 + 256 * (getD b (at + 1) 0 + 256 * (getD b (at + 2) 0 + 256 * getD b (at + 3) 0))
 
 -- every byte is 00
-abbrev pub zeros : List ℕ → Bool
-zeros b = every (λ x. eqb x 0) b
+abbrev pub allZero : List ℕ → Bool
+allZero b = every (λ x. eqb x 0) b
 
 -- of eight bytes, those from number k up to the number in four bytes are 00
 abbrev pub padded : ℕ → List ℕ → Bool
-padded k u = zeros (part u k (4 - k))
+padded k u = allZero (part u k (4 - k))

@@ -4,11 +4,10 @@ use mathlib.Core.Bool.{cond}
 use mathlib.Core.List.{List, [], _∷_, _++_}
 use mathlib.Core.Option.{Option, none, some}
 use Prim.Native.Nat.{ℕ, zero, suc, _+_}
-use lib.IntN.{pos}
 use lib.ListN.{length, getD, drop}
 use lib.Dec.{eqb, ltb, leb}
 use Rattle.timestamp.specs.Timestamp.{stampOf}
-use Rattle.site.specs.Operations.{Op}
+use Rattle.site.specs.Operations.{Op, noOp}
 use Rattle.limits.specs.Limits.{opsMost}
 use Rattle.lists.specs.Numbers.{firstNumber, numberIf}
 use Rattle.records.specs.Records.{Record}
@@ -37,10 +36,6 @@ unfoldable pub partAnswered : List ℕ → List ℕ
 partAnswered b = cond (eqb (fileNumber b) 0) (partRead b) []
 
 -- ---- read one record
--- what stands where there is no operation
-abbrev pub noOp : Op
-noOp = record { kind = 0; item = 0; value = pos 0 }
-
 -- a field of n operations from number i on, that of no operation past the last
 abbrev pub placesFrom : {A : Type 0} → (Op → A) → List Op → ℕ → ℕ → List A
 placesFrom f os i zero = []

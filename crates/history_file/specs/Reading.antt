@@ -13,7 +13,7 @@ use Rattle.site.specs.Operations.{Op}
 use Rattle.limits.specs.Limits.{opsMost, sitesMost, itemsMost, recordsMost}
 use Rattle.lists.specs.Numbers.{firstNumber, numberIf, outside}
 use Rattle.records.specs.Records.{Record, recordFits}
-use Rattle.history_file.specs.Bytes.{unitSize, numberAt, padded, zeros}
+use Rattle.history_file.specs.Bytes.{unitSize, numberAt, padded, allZero}
 use Rattle.history_file.specs.File.{History, mark, trailerSize}
 
 -- ---- a record at the front of some bytes
@@ -51,12 +51,12 @@ recordRead b =
 unfoldable pub sizeRead : List ℕ → ℕ
 sizeRead b = opsFrom b + unitSize * opCount b
 
-abbrev pub inRange : ℕ → ℕ → ℕ → Bool
-inRange low high k = leb low k && leb k high
+abbrev pub within : ℕ → ℕ → ℕ → Bool
+within low high k = leb low k && leb k high
 
 -- 1 to 8 tuples and 1 to 8 operations
 abbrev pub countsFit : ℕ → ℕ → Bool
-countsFit tuples ops = inRange 1 room tuples && inRange 1 opsMost ops
+countsFit tuples ops = within 1 room tuples && within 1 opsMost ops
 
 -- every 00 byte is zero: one of the head, three of each tuple, two of each operation
 abbrev pub padsZero : List ℕ → Bool
@@ -118,7 +118,7 @@ fileRead b = drop (length b - distanceRead b) b
 
 -- the trailer's sites and items in range, its 00 bytes zero
 abbrev pub trailerFits : List ℕ → Bool
-trailerFits b = inRange 1 sitesMost (sitesRead b) && (inRange 1 itemsMost (itemsRead b) && zeros (part b (trailerAt b + 14) 2))
+trailerFits b = within 1 sitesMost (sitesRead b) && (within 1 itemsMost (itemsRead b) && allZero (part b (trailerAt b + 14) 2))
 
 -- and at most 256 records, which fill the part
 unfoldable pub valid : List ℕ → Bool

@@ -2,7 +2,7 @@
 ghost use mathlib.Core.Path.{_≡_};
 ghost use Prim.Native.Nat.{_+_, _*_, _≤_};
 ghost use lib.ListN.{length, getD};
-ghost use Rattle.history_file.specs.Bytes.{byte, unit, unitSize, numberAt, zeros as zerosOf};
+ghost use Rattle.history_file.specs.Bytes.{byte, unit, unitSize, numberAt, allZero as zerosOf};
 
 // A byte as a number.
 pub fn wide(x: u8) -> u32

@@ -13,7 +13,8 @@ ghost use Rattle.timestamp.specs.Timestamp.{stampOf, pairOf, noPair, room};
 ghost use Rattle.limits.specs.Limits.{opsMost};
 ghost use Rattle.history_file.specs.Bytes.{unitSize};
 ghost use Rattle.history_file.specs.Reading.{pairRead, opRead, tupleCount, opCount, sizeRead, recordRead};
-ghost use Rattle.history_file.specs.Promises.{placesFrom, noOp, noStep, stepOf, Gives};
+ghost use Rattle.site.specs.Operations.{noOp};
+ghost use Rattle.history_file.specs.Promises.{placesFrom, noStep, stepOf, Gives};
 
 // Tuple i of n, and zeros past the last.
 fn tuple_at(b: &[u8], n: usize, i: usize) -> Tuple

@@ -21,7 +21,7 @@ use Rattle.protocol.specs.Steps.{noSuchSite, countAtMost, someLineFull, due, se
 use Rattle.protocol.specs.Calls.{Outcome, commit, accepted, perform}
 use Rattle.network_layout.specs.InWords.{networkIn, numberIn, SiteStep, RecordStep, SentStep}
 use Rattle.network_layout.specs.Promises.{Performed}
-use Rattle.network_commit.specs.Done.{Made}
+use Rattle.network_commit.specs.Done.{CommitDone}
 use Rattle.network_layout.proofs.Performs.{lines-count, few-sites, shaped-range, shaped-well, meaning-some, number-none, performs-refused, performs-accepted}
 use Rattle.network_sending.proofs.SendLaws.{full-by-mask, sent-by-mask}
 use Rattle.protocol.proofs.Keeps.{keeps-commit}
@@ -174,7 +174,7 @@ module _ (w : List ℕ) (i : ℕ) (ks is : List ℕ) (vs : List ℤ) where
       subst₂ (λ (x : Stamp) (y : List ℤ). Performed (commit i ks is vs) w w r 0 x y) (sym f) (sym g)
       (performs-refused (commit i ks is vs) (λ m. commitNumber m i ks is vs) commit-outcome (λ m. refl) refl w r e h)
 
-  pub commit-performed : numberIn w (λ n. commitNumber n i ks is vs) ≡ 0 → (v : List ℕ) (r : ℕ) (t : Stamp) (xs : List ℤ) (os : List Op) → os ≡ opsOf ks is vs → Made w v i os r t xs → Performed (commit i ks is vs) w v r 0 t xs
+  pub commit-performed : numberIn w (λ n. commitNumber n i ks is vs) ≡ 0 → (v : List ℕ) (r : ℕ) (t : Stamp) (xs : List ℤ) (os : List Op) → os ≡ opsOf ks is vs → CommitDone w v i os r t xs → Performed (commit i ks is vs) w v r 0 t xs
   unfolding perform commit-outcome
   commit-performed z v r t xs os e m =
       let n = networkIn w in

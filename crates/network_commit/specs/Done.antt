@@ -10,7 +10,7 @@ use Rattle.protocol.specs.Steps.{recordOf, commitNetwork}
 use Rattle.network_layout.specs.InWords.{networkIn, inRange}
 
 -- what a commit of the operations `os` at site i that no cause refuses answers and leaves
-pub record Made (entry exit : List ℕ) (i : ℕ) (os : List Op) (number : ℕ) (stamp : Stamp) (values : List ℤ) : Type 0 where
+pub record CommitDone (entry exit : List ℕ) (i : ℕ) (os : List Op) (number : ℕ) (stamp : Stamp) (values : List ℤ) : Type 0 where
   pub number-is : number ≡ 0
   pub stamp-is : stamp ≡ recordOf (networkIn entry) i os .stamp
   pub values-are : values ≡ valuesRead (recordOf (networkIn entry) i os .ops)

@@ -19,7 +19,7 @@ ghost use Rattle.protocol.specs.Steps.{noSuchSite, commitCauses, wrongLists, co
 ghost use Rattle.protocol.specs.Calls.{commit as commitCall};
 ghost use Rattle.network_layout.specs.InWords.{networkIn, inRange, shaped, numberIn};
 ghost use Rattle.network_layout.specs.Promises.{Performed, Blank, Filled};
-ghost use Rattle.network_commit.specs.Done.{Made};
+ghost use Rattle.network_commit.specs.Done.{CommitDone};
 
 // A commit at a site: operations as three lists of their fields. It answers its number, the timestamp and the values read.
 pub fn commit(
@@ -75,7 +75,7 @@ fn commit_number(state: &[u32], site: u32, kinds: &[u8], items: &[u32], values: 
 // A commit of n operations that no cause refuses: the site, the record, then the messages.
 fn commit_done(state: &mut [u32], site: u32, ops: &[u32], n: usize) -> Committed
     requires { ⌜ (length (now state) ≡ stateSize) × (shaped (now state) ≡ true) × (noSuchSite (networkIn (now state)) site ≡ false) × (1 ≤ n) × (n ≤ opsMost) × (firstNumber (commitCauses (networkIn (now state)) site (opsIn n (now ops))) ≡ 0) ⌝ }
-    ensures { λ r. ⌜ Made (now (state .entry)) (now (state .exit)) site (opsIn n (now (ops .entry))) (r .number) (stampOf (r .stamp)) (take (r .count) (r .values)) ⌝ }
+    ensures { λ r. ⌜ CommitDone (now (state .entry)) (now (state .exit)) site (opsIn n (now (ops .entry))) (r .number) (stampOf (r .stamp)) (take (r .count) (r .values)) ⌝ }
     ensures { λ r. ⌜ Filled (pos 0) opsMost (r .count) (r .values) ⌝ }
 {
     let i = words::wide(site);

@@ -19,7 +19,7 @@ use Rattle.lists.specs.Numbers.{numberIf}
 use Rattle.protocol.specs.Steps.{noSuchSite, wrongLists, commitCauses, commitNumber, opsOf}
 use Rattle.protocol.specs.Calls.{Outcome, commit, refused, perform}
 use Rattle.network_layout.specs.InWords.{meaning}
-use Rattle.network_operations.specs.Gathered.{kindsOf, itemsOf, valuesOf, operationsCall, gatheredMost, Gathers}
+use Rattle.network_operations.specs.Gathered.{kindFields, itemFields, valueFields, operationsCall, gatheredMost, Gathers}
 use Rattle.network_layout.specs.Promises.{Performed}
 use Rattle.lists.proofs.Numbers.{first-holds}
 use Rattle.network_commit.proofs.CommitLaws.{lists-many, commit-lists}
@@ -78,7 +78,7 @@ performs-long : (s : Option Network) (i : ℕ) (os : List Operation) → 8 < len
 unfolding perform long-outcome
 performs-long none i os h = refl
 performs-long (some n) i os h =
-    let e = long-refused n i (kindsOf os) (itemsOf os) (valuesOf os) (omega (arith, h, length-map os (λ (o : Operation). o .kind))) in
+    let e = long-refused n i (kindFields os) (itemFields os) (valueFields os) (omega (arith, h, length-map os (λ (o : Operation). o .kind))) in
     rw (e, ne-eqb (long-number n i) 0 (not-none (noSuchSite n i)))
   where
     not-none : (b : Bool) → _≡_ {A = ℕ} (cond b 7 8) 0 → ⊥

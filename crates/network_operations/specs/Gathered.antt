@@ -8,18 +8,18 @@ use Rattle.network_layout.specs.declared.Operation.{Operation}
 use Rattle.network_operations.specs.declared.Gathered.{Gathered}
 use Rattle.protocol.specs.Calls.{Call, commit}
 
-abbrev pub kindsOf : List Operation → List ℕ
-kindsOf os = map (λ (o : Operation). o .kind) os
+abbrev pub kindFields : List Operation → List ℕ
+kindFields os = map (λ (o : Operation). o .kind) os
 
-abbrev pub itemsOf : List Operation → List ℕ
-itemsOf os = map (λ (o : Operation). o .item) os
+abbrev pub itemFields : List Operation → List ℕ
+itemFields os = map (λ (o : Operation). o .item) os
 
-abbrev pub valuesOf : List Operation → List ℤ
-valuesOf os = map (λ (o : Operation). o .value) os
+abbrev pub valueFields : List Operation → List ℤ
+valueFields os = map (λ (o : Operation). o .value) os
 
 -- the commit of the lists of their fields
 abbrev pub operationsCall : ℕ → List Operation → Call
-operationsCall site os = commit site (kindsOf os) (itemsOf os) (valuesOf os)
+operationsCall site os = commit site (kindFields os) (itemFields os) (valueFields os)
 
 -- how many are gathered at most: one more than a commit takes
 abbrev pub gatheredMost : ℕ
@@ -28,6 +28,6 @@ gatheredMost = 9
 -- `g` has the fields of the operations `os`, in its first places
 pub record Gathers (os : List Operation) (g : Gathered) : Type 0 where
   pub count-is : g .count ≡ length os
-  pub kinds-are : take (g .count) (g .kinds) ≡ kindsOf os
-  pub items-are : take (g .count) (g .items) ≡ itemsOf os
-  pub values-are : take (g .count) (g .values) ≡ valuesOf os
+  pub kinds-are : take (g .count) (g .kinds) ≡ kindFields os
+  pub items-are : take (g .count) (g .items) ≡ itemFields os
+  pub values-are : take (g .count) (g .values) ≡ valueFields os

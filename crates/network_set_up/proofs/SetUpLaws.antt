@@ -189,31 +189,31 @@ pub no-sites : (w : List ℕ) → (map siteIn (chunks siteSize 0 w) ≡ startSit
 unfolding chunks
 no-sites w = (refl, refl)
 
--- ---- words that are all zeros
-abbrev pub zeros : ℕ → List ℕ
-zeros n = replicate n 0
+-- ---- words that are all zeroWords
+abbrev pub zeroWords : ℕ → List ℕ
+zeroWords n = replicate n 0
 
-zeros-length : (n : ℕ) → length (zeros n) ≡ n
+zeros-length : (n : ℕ) → length (zeroWords n) ≡ n
 zeros-length n = length-replicate n 0
 
-drop-replicate : (a n : ℕ) → drop a (zeros n) ≡ zeros (n - a)
-drop-replicate zero n = let z : n ≡ n - 0 = omega arith in ap zeros z
-drop-replicate (suc a) zero = let z : 0 ≡ 0 - suc a = omega arith in ap zeros z
-drop-replicate (suc a) (suc n) = let z : n - a ≡ suc n - suc a = omega arith in drop-replicate a n ∙ ap zeros z
+drop-replicate : (a n : ℕ) → drop a (zeroWords n) ≡ zeroWords (n - a)
+drop-replicate zero n = let z : n ≡ n - 0 = omega arith in ap zeroWords z
+drop-replicate (suc a) zero = let z : 0 ≡ 0 - suc a = omega arith in ap zeroWords z
+drop-replicate (suc a) (suc n) = let z : n - a ≡ suc n - suc a = omega arith in drop-replicate a n ∙ ap zeroWords z
 
-take-replicate : (a n : ℕ) → a ≤ n → take a (zeros n) ≡ zeros a
+take-replicate : (a n : ℕ) → a ≤ n → take a (zeroWords n) ≡ zeroWords a
 take-replicate zero n h = refl
 take-replicate (suc a) zero h = absurd (omega arith)
 take-replicate (suc a) (suc n) h = ap (λ (l : List ℕ). 0 ∷ l) (take-replicate a n (omega arith))
 
-chunks-replicate : (m k n : ℕ) → k * m ≤ n → chunks m k (zeros n) ≡ replicate k (zeros m)
+chunks-replicate : (m k n : ℕ) → k * m ≤ n → chunks m k (zeroWords n) ≡ replicate k (zeroWords m)
 unfolding chunks
 chunks-replicate m zero n h = refl
 chunks-replicate m (suc k) n h =
     let g : k * m + m ≤ n = simp suc-mul at h in
     ap₂ {C = List (List ℕ)} (λ (x : List ℕ) (y : List (List ℕ)). x ∷ y) (take-replicate m n (omega arith)) (ap (chunks m k) (drop-replicate m n) ∙ chunks-replicate m k (n - m) (omega arith))
 
-chunks-zeros : (m k n a : ℕ) → a + k * m ≤ n → chunks m k (part (zeros n) a (k * m)) ≡ replicate k (zeros m)
+chunks-zeros : (m k n a : ℕ) → a + k * m ≤ n → chunks m k (part (zeroWords n) a (k * m)) ≡ replicate k (zeroWords m)
 chunks-zeros m k n a h =
     ap (chunks m k) (ap (take (k * m)) (drop-replicate a n) ∙ take-replicate (k * m) (n - a) (omega arith)) ∙ chunks-replicate m k (k * m) (omega arith)
 
@@ -225,11 +225,11 @@ every-replicate : {A : Type 0} (p : A → Bool) (k : ℕ) (x : A) → p x ≡ tr
 every-replicate p zero x e = refl
 every-replicate p (suc k) x e = rw e (every-replicate p k x e)
 
-empty-meant : lineIn (zeros lineSize) ≡ noLine
+empty-meant : lineIn (zeroWords lineSize) ≡ noLine
 unfolding lineIn
 empty-meant = refl
 
-empty-ranged : lineRange (zeros lineSize) ≡ true
+empty-ranged : lineRange (zeroWords lineSize) ≡ true
 unfolding lineRange
 empty-ranged = refl
 
@@ -240,13 +240,13 @@ no-records w = (refl, refl)
 
 module _ (n sites items : ℕ) (placed : List ℕ) (size : n ≡ stateSize) (items-size : length placed ≡ itemsSize) where
   abbrev pub counted : List ℕ
-  counted = set (set (zeros n) 0 sites) 1 items
+  counted = set (set (zeroWords n) 0 sites) 1 items
 
   abbrev pub with-items : List ℕ
   with-items = put counted itemsAt itemsSize placed
 
   counted-size : length counted ≡ stateSize
-  counted-size = length-set (set (zeros n) 0 sites) 1 items ∙ length-set (zeros n) 0 sites ∙ zeros-length n ∙ size
+  counted-size = length-set (set (zeroWords n) 0 sites) 1 items ∙ length-set (zeroWords n) 0 sites ∙ zeros-length n ∙ size
 
   items-inside : itemsAt + itemsSize ≤ length counted
   items-inside = omega (arith, counted-size)
@@ -272,29 +272,29 @@ module _ (n sites items : ℕ) (placed : List ℕ) (size : n ≡ stateSize) (ite
           made = 0;
           placed = placed;
           housed = housed;
-          lined = part (zeros n) linesAt linesSize;
+          lined = part (zeroWords n) linesAt linesSize;
           kept = part begun historyAt historySize;
         }
     unfolding partsOf
     begun-parts =
-        let one = set (zeros n) 0 sites in
-        let one-size : length one ≡ n = length-set (zeros n) 0 sites ∙ zeros-length n in
+        let one = set (zeroWords n) 0 sites in
+        let one-size : length one ≡ n = length-set (zeroWords n) 0 sites ∙ zeros-length n in
         λ j.
         record {
-          sites = (count-kept 0 (omega arith) ∙ getD-set-other one 1 0 items 0 (λ z. omega arith) ∙ getD-set-same (zeros n) 0 sites 0 (omega (arith, zeros-length n))) j;
+          sites = (count-kept 0 (omega arith) ∙ getD-set-other one 1 0 items 0 (λ z. omega arith) ∙ getD-set-same (zeroWords n) 0 sites 0 (omega (arith, zeros-length n))) j;
           items = (count-kept 1 (omega arith) ∙ getD-set-same one 1 items 0 (omega arith)) j;
-          made = (count-kept 2 (omega arith) ∙ getD-set-other one 1 2 items 0 (λ z. omega arith) ∙ getD-set-other (zeros n) 0 2 sites 0 (λ z. omega arith) ∙ getD-replicate n 2 0 0 (omega arith)) j;
+          made = (count-kept 2 (omega arith) ∙ getD-set-other one 1 2 items 0 (λ z. omega arith) ∙ getD-set-other (zeroWords n) 0 2 sites 0 (λ z. omega arith) ∙ getD-replicate n 2 0 0 (omega arith)) j;
           placed = (put-below with-items sitesAt sitesSize housed sites-inside sites-size itemsAt itemsSize (omega arith) ∙ put-here counted itemsAt itemsSize placed items-inside items-size) j;
           housed = put-here with-items sitesAt sitesSize housed sites-inside sites-size j;
           lined =
               (put-above with-items sitesAt sitesSize housed sites-inside sites-size linesAt linesSize (omega arith)
               ∙ put-above counted itemsAt itemsSize placed items-inside items-size linesAt linesSize (omega arith)
-              ∙ ap (take linesSize) (drop-set-lt linesAt one 1 items (omega arith) ∙ drop-set-lt linesAt (zeros n) 0 sites (omega arith)))
+              ∙ ap (take linesSize) (drop-set-lt linesAt one 1 items (omega arith) ∙ drop-set-lt linesAt (zeroWords n) 0 sites (omega arith)))
               j;
           kept = part begun historyAt historySize;
         }
 
-    line-chunks : chunks lineSize linesMost (part (zeros n) linesAt linesSize) ≡ replicate linesMost (zeros lineSize)
+    line-chunks : chunks lineSize linesMost (part (zeroWords n) linesAt linesSize) ≡ replicate linesMost (zeroWords lineSize)
     line-chunks = chunks-zeros lineSize linesMost n linesAt (omega arith)
 
     pub begun-network : map siteIn (chunks siteSize sites housed) ≡ startSites 0 sites
@@ -307,7 +307,7 @@ module _ (n sites items : ℕ) (placed : List ℕ) (size : n ≡ stateSize) (ite
         record {
           sites = e j;
           items = itemsIn items placed;
-          lines = (ap (map lineIn) line-chunks ∙ map-replicate lineIn linesMost (zeros lineSize) ∙ ap (replicate linesMost) empty-meant) j;
+          lines = (ap (map lineIn) line-chunks ∙ map-replicate lineIn linesMost (zeroWords lineSize) ∙ ap (replicate linesMost) empty-meant) j;
           history = no-records (part begun historyAt historySize) .0 j;
         })
 
@@ -322,12 +322,12 @@ module _ (n sites items : ℕ) (placed : List ℕ) (size : n ≡ stateSize) (ite
           few-items = i .1;
           few-records = omega arith;
           site-ranges = e;
-          line-ranges = ap (every lineRange) line-chunks ∙ every-replicate lineRange linesMost (zeros lineSize) empty-ranged;
+          line-ranges = ap (every lineRange) line-chunks ∙ every-replicate lineRange linesMost (zeroWords lineSize) empty-ranged;
           record-ranges = no-records (part begun historyAt historySize) .1;
         }))
 
 -- as the code lays them: all words cleared, f; the counts and the items' words, l; the sites' words, s
-module _ (w f l s : List ℕ) (sites items : ℕ) (placed : List ℕ) (size : length w ≡ stateSize) (items-size : length placed ≡ itemsSize) (cleared : f ≡ zeros (length w))
+module _ (w f l s : List ℕ) (sites items : ℕ) (placed : List ℕ) (size : length w ≡ stateSize) (items-size : length placed ≡ itemsSize) (cleared : f ≡ zeroWords (length w))
     (laid-items : l ≡ laid (set (set f 0 sites) 1 items) itemsAt placed) (as-long : length s ≡ length (part l sitesAt sitesSize)) where
   laid-words : l ≡ with-items (length w) sites items placed size items-size
   laid-words =

@@ -26,7 +26,8 @@ use Rattle.network_layout.specs.Layout.{linesAt, stateSize}
 use Rattle.protocol.specs.Network.{linesMost, Network, noStamp, noRecord, messageOps, lineNumber}
 use Rattle.lists.specs.Numbers.{numberIf}
 use Rattle.protocol.specs.Steps.{noSuchSite}
-use Rattle.protocol.specs.Waiting.{writesItem, onLine, isWaiting, waitingNumber, occurrences, EachOnce}
+use Rattle.site.specs.Operations.{writesItem}
+use Rattle.protocol.specs.Waiting.{onLine, isWaiting, waitingNumber, occurrences, EachOnce}
 use Rattle.network_waiting.specs.Collected.{named, Collected}
 use Rattle.protocol.specs.Calls.{waiting, accepted, perform}
 use Rattle.network_layout.specs.InWords.{networkIn, inRange, numberIn}

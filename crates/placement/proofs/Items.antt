@@ -39,14 +39,14 @@ module _ (w : List ℕ) (k : ℕ) where
 abbrev pub copied : ℕ → Item → Bool
 copied c x = bit (x .mask) c
 
-abbrev pub joined : ℕ → ℕ → Item → Bool
-joined p c x = eqb (x .primary) p && copied c x
+abbrev pub givesLine : ℕ → ℕ → Item → Bool
+givesLine p c x = eqb (x .primary) p && copied c x
 
 module _ (x : Item) (p c : ℕ) where
-  pub not-joined : (x .primary ≡ p → ⊥) → false ≡ joined p c x
+  pub not-joined : (x .primary ≡ p → ⊥) → false ≡ givesLine p c x
   not-joined h = sym (ap (λ (b : Bool). b && copied c x) (ne-eqb (x .primary) p h))
 
-  pub joined-by : x .primary ≡ p → copied c x ≡ joined p c x
+  pub joined-by : x .primary ≡ p → copied c x ≡ givesLine p c x
   joined-by h = sym (ap (λ (b : Bool). b && copied c x) (eq-eqb (x .primary) p h))
 
 -- ---- the number of one item, test by test

@@ -13,7 +13,7 @@ use Rattle.lists.proofs.Some.{some-index}
 use Rattle.lists.proofs.Every.{and-true}
 use Rattle.placement.specs.Masks.{bit, maskOf}
 use Rattle.placement.specs.Placement.{Item, namesMissing, namesBelow, itemNumber, itemsNumber, noItem, isLine}
-use Rattle.placement.proofs.Items.{joined, copied}
+use Rattle.placement.proofs.Items.{givesLine, copied}
 
 -- ---- the bits of a mask
 -- a bit set: its weight is in the mask
@@ -116,7 +116,7 @@ items-number-zero sites (x ∷ xs) (suc i) e h = items-number-zero sites xs i (n
 pub line-upward : (sites : ℕ) (xs : List Item) (p c : ℕ) → itemsNumber sites xs ≡ 0 → isLine xs p c ≡ true → (p < c) × (c < sites)
 unfolding isLine
 line-upward sites xs p c z e =
-    let s = some-index (joined p c) xs noItem e in
+    let s = some-index (givesLine p c) xs noItem e in
     let x = getD xs (s .0) noItem in
     let t = and-true (eqb (x .primary) p) (copied c x) (s .2) in
     let sound = items-number-zero sites xs (s .0) z (s .1) in

@@ -11,7 +11,7 @@ use Rattle.timestamp.specs.Order.{order, notLater}
 use Rattle.site.specs.Operations.{Op, reads, recorded, written, Work, work, worked}
 use Rattle.records.specs.Records.{Record}
 use Rattle.lists.specs.Lists.{keep, upTo}
-use Rattle.protocol.specs.Run.{Turn, numbered, comesFirst, insert, sorted, inTurn, after, seen, run, zeros, find, shown, valueAt}
+use Rattle.protocol.specs.Run.{Turn, numbered, comesFirst, insert, sorted, inTurn, after, seen, run, startTable, find, shown, valueAt}
 use Rattle.protocol.proofs.Works.{read-no-write}
 
 -- the same work on every table
@@ -147,14 +147,14 @@ run-alike table (x ∷ xs) (y ∷ ys) m =
     (run-alike (worked table (x .commit .ops) .table) xs ys (m .1) ∙ ap (λ (t : List ℤ). run t ys) (table-alike table x y (m .0)))
 
 module _ (h cs : List Record) (m : AllAlike h cs) where
-  pub alike-shown : shown zeros h ≡ shown zeros cs
+  pub alike-shown : shown startTable h ≡ shown startTable cs
   unfolding shown
-  alike-shown = ap₂ (λ (ts : List Turn) (n : ℕ). map (find ts) (upTo 0 n)) (run-alike zeros (inTurn h) (inTurn cs) (turns-alike h cs m)) (matched-length Alike h cs m)
+  alike-shown = ap₂ (λ (ts : List Turn) (n : ℕ). map (find ts) (upTo 0 n)) (run-alike startTable (inTurn h) (inTurn cs) (turns-alike h cs m)) (matched-length Alike h cs m)
 
-  pub alike-value : (t : Stamp) (x : ℕ) → valueAt zeros h t x ≡ valueAt zeros cs t x
+  pub alike-value : (t : Stamp) (x : ℕ) → valueAt startTable h t x ≡ valueAt startTable cs t x
   unfolding valueAt
   alike-value t x =
       let passes : Turn → Bool = λ c. notLater (order (c .commit .stamp) t) in
       ap (λ (l : List ℤ). getD l x (pos 0))
-      (after-alike zeros (keep passes (inTurn h)) (keep passes (inTurn cs))
+      (after-alike startTable (keep passes (inTurn h)) (keep passes (inTurn cs))
       (matched-keep AlikeTurns passes (λ c d e i. notLater (order (e .1 .stamp-same i) t)) (inTurn h) (inTurn cs) (turns-alike h cs m)))

@@ -22,7 +22,7 @@ use Rattle.protocol.specs.Agreement.{holds}
 use Rattle.protocol.proofs.Values.{touches, lastValue, agree}
 use Rattle.protocol.proofs.Times.{Before, UpTo, upto-self, upto-trans, upto-then, cut-upto}
 use Rattle.protocol.proofs.Added.{added-old, added-size, added-each, added-rise}
-use Rattle.protocol.proofs.Invariant.{stampAt, heardAt, tableAt, messagesAt, sentAt, made, Named, Sizes, Invariant, line-up, stamp-made, record-below, record-site, message-fits, reaches, due-child}
+use Rattle.protocol.proofs.Invariant.{stampAt, heardAt, tableAt, messagesAt, sentAt, nthRecord, Named, Sizes, Invariant, line-up, stamp-made, record-below, record-site, message-fits, reaches, due-child}
 
 abbrev pub changed : Network → List Site → List Line → List Record → Network
 changed n ss ls h = record { sites = ss; items = n .items; lines = ls; history = h }
@@ -120,33 +120,33 @@ module _ (n : Network) (inv : Invariant n) (ss : List Site) (ls : List Line) (h 
         go (inl e) = subst (λ (ms : List Message). Named ms k) (sym e) f
         go (inr s) = subst (λ (ms : List Message). Named ms k) (sym (s .extends)) (named-more (messagesAt n p j) (s .message) k f)
 
-  -- ---- the commits that were made before
+  -- ---- the commits that were nthRecord before
   module _ (k : ℕ) (old : k < length (n .history)) where
-    pub calm-past : UpTo (made n k .stamp) (stampAt next (made n k .site))
-    calm-past = upto-trans (made n k .stamp) (stampAt n (made n k .site)) (stampAt next (made n k .site)) (inv .past k old) (c .grows (made n k .site) (record-site n inv k old))
+    pub calm-past : UpTo (nthRecord n k .stamp) (stampAt next (nthRecord n k .site))
+    calm-past = upto-trans (nthRecord n k .stamp) (stampAt n (nthRecord n k .site)) (stampAt next (nthRecord n k .site)) (inv .past k old) (c .grows (nthRecord n k .site) (record-site n inv k old))
 
-    pub calm-owed : (j : ℕ) → due (n .items) (made n k .ops) j ≡ true → Before (heardAt next j) (made n k .stamp) → Named (messagesAt next (made n k .site) j) k
+    pub calm-owed : (j : ℕ) → due (n .items) (nthRecord n k .ops) j ≡ true → Before (heardAt next j) (nthRecord n k .stamp) → Named (messagesAt next (nthRecord n k .site) j) k
     calm-owed j d b =
-        let line = due-child (n .items) (made n k .site) (made n k .ops) (inv .allowed k old) j d in
-        calm-named (made n k .site) j line k (inv .owed k j old d (subst (λ (t : Stamp). Before t (made n k .stamp)) (c .calm (made n k .site) j line) b))
+        let line = due-child (n .items) (nthRecord n k .site) (nthRecord n k .ops) (inv .allowed k old) j d in
+        calm-named (nthRecord n k .site) j line k (inv .owed k j old d (subst (λ (t : Stamp). Before t (nthRecord n k .stamp)) (c .calm (nthRecord n k .site) j line) b))
 
     -- a holder of what it writes has it as before
-    pub settled : (j x : ℕ) → j < length (n .sites) → touches x (made n k .ops) ≡ true → holds (n .items) j x ≡ true
-        → notLater (order (made n k .stamp) (stampAt next j)) ≡ notLater (order (made n k .stamp) (stampAt n j))
+    pub settled : (j x : ℕ) → j < length (n .sites) → touches x (nthRecord n k .ops) ≡ true → holds (n .items) j x ≡ true
+        → notLater (order (nthRecord n k .stamp) (stampAt next j)) ≡ notLater (order (nthRecord n k .stamp) (stampAt n j))
     settled j x site t e = go (reaches n inv k j x old t e)
       where
-        go : (j ≡ made n k .site) ⊎ ((isLine (n .items) (made n k .site) j ≡ true) × (copies (n .items) j x ≡ true)) → notLater (order (made n k .stamp) (stampAt next j)) ≡ notLater (order (made n k .stamp) (stampAt n j))
+        go : (j ≡ nthRecord n k .site) ⊎ ((isLine (n .items) (nthRecord n k .site) j ≡ true) × (copies (n .items) j x ≡ true)) → notLater (order (nthRecord n k .stamp) (stampAt next j)) ≡ notLater (order (nthRecord n k .stamp) (stampAt n j))
         go (inl s) =
-            ap (λ (i : ℕ). notLater (order (made n k .stamp) (stampAt next i))) s
+            ap (λ (i : ℕ). notLater (order (nthRecord n k .stamp) (stampAt next i))) s
             ∙ calm-past
             ∙ sym (inv .past k old)
-            ∙ ap (λ (i : ℕ). notLater (order (made n k .stamp) (stampAt n i))) (sym s)
+            ∙ ap (λ (i : ℕ). notLater (order (nthRecord n k .stamp) (stampAt n i))) (sym s)
         go (inr (line, _)) =
             let below = record-below n inv k j old line in
             let new : madeBy byNumber j (stampAt next j) ≡ true = shape-parts next (c .shape) .stamps j (omega (arith, c .many)) in
-            cut-upto j (stampAt next j) (made n k .stamp) new below
-            ∙ ap (λ (t : Stamp). notLater (order (made n k .stamp) t)) (c .calm (made n k .site) j line)
-            ∙ sym (cut-upto j (stampAt n j) (made n k .stamp) (stamp-made n inv j site) below)
+            cut-upto j (stampAt next j) (nthRecord n k .stamp) new below
+            ∙ ap (λ (t : Stamp). notLater (order (nthRecord n k .stamp) t)) (c .calm (nthRecord n k .site) j line)
+            ∙ sym (cut-upto j (stampAt n j) (nthRecord n k .stamp) (stamp-made n inv j site) below)
 
   -- what a holder has of the old commits is as before
   pub settled-value : (j x : ℕ) → j < length (n .sites) → holds (n .items) j x ≡ true

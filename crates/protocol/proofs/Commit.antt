@@ -13,7 +13,7 @@ use Rattle.lists.proofs.Every.{and-true}
 use Rattle.timestamp.specs.Timestamp.{Stamp}
 use Rattle.timestamp.specs.Order.{order, byNumber, notLater, isEarlier}
 use Rattle.timestamp.specs.Made.{madeBy}
-use Rattle.site.specs.Operations.{Op, reads}
+use Rattle.site.specs.Operations.{Op, reads, noOp}
 use Rattle.site.specs.Site.{Site, committed}
 use Rattle.placement.specs.Placement.{Item, owns, copies, isLine}
 use Rattle.lists.specs.Numbers.{firstNumber, numberIf}
@@ -24,13 +24,13 @@ use Rattle.protocol.specs.Network.{Network, noRecord, siteAt, messageSta
 use Rattle.protocol.specs.Steps.{noSuchSite, countAtMost, someLineFull, opNumber, due, opsOf, wrongLists, commitNumber, commitNetwork, recordOf}
 use Rattle.lists.specs.Lists.{keep}
 use Rattle.lists.proofs.Numbers.{none-holds, none-first}
-use Rattle.protocol.proofs.Keeps.{noOp, OpShape, op-at, raised-made, keeps-commit}
+use Rattle.protocol.proofs.Keeps.{OpShape, op-at, raised-made, keeps-commit}
 use Rattle.protocol.specs.Agreement.{holds}
 use Rattle.protocol.proofs.Values.{touches, wrote, lastFrom, lastValue, from-more, keep-more, none-kept, agree}
 use Rattle.protocol.proofs.Works.{worked-length, getD-worked, worked-size, worked-kinds, worked-reads, wrote-worked}
 use Rattle.protocol.proofs.Times.{Before, UpTo, upto-self, upto-before, upto-then, before-test, later-fails, test-fails, made-under, cut-upto, cut-before, cut-test}
 use Rattle.protocol.proofs.Added.{added-size, added-old, added-new, added-each, added-rise}
-use Rattle.protocol.proofs.Invariant.{stampAt, heardAt, tableAt, messagesAt, made, Named, Invariant, holder, touch-item, touch-owns, due-child, shaped, line-up, stamp-made, record-below, record-site, reaches}
+use Rattle.protocol.proofs.Invariant.{stampAt, heardAt, tableAt, messagesAt, nthRecord, Named, Invariant, holder, touch-item, touch-owns, due-child, shaped, line-up, stamp-made, record-below, record-site, reaches}
 use Rattle.protocol.proofs.Calm.{changed, Calm, calm-past, calm-queue, calm-ahead, calm-behind, calm-heard, calm-owed, settled-value}
 use Rattle.protocol.proofs.Quiet.{moved, moved-each, moved-here, moved-many, mailed, mail-here, risen-before, risen-without, raise-calm}
 
@@ -114,19 +114,19 @@ module _ (n : Network) (inv : Invariant n) (i : ℕ) (os : List Op) (site : i < 
   counts x v p e = ap (λ (b : Bool). lastFrom x v (cond b (r ∷ []) [])) e
 
   -- ---- its own reads: what is not later than its site is before it
-  own-read : (x k : ℕ) → k < length (n .history) → touches x (made n k .ops) ≡ true → holds (n .items) i x ≡ true
-      → isEarlier (order (made n k .stamp) (r .stamp)) ≡ notLater (order (made n k .stamp) (stampAt n i))
+  own-read : (x k : ℕ) → k < length (n .history) → touches x (nthRecord n k .ops) ≡ true → holds (n .items) i x ≡ true
+      → isEarlier (order (nthRecord n k .stamp) (r .stamp)) ≡ notLater (order (nthRecord n k .stamp) (stampAt n i))
   own-read x k l t e = go (reaches n inv k i x l t e)
     where
-      go : (i ≡ made n k .site) ⊎ ((isLine (n .items) (made n k .site) i ≡ true) × (copies (n .items) i x ≡ true)) → isEarlier (order (made n k .stamp) (r .stamp)) ≡ notLater (order (made n k .stamp) (stampAt n i))
+      go : (i ≡ nthRecord n k .site) ⊎ ((isLine (n .items) (nthRecord n k .site) i ≡ true) × (copies (n .items) i x ≡ true)) → isEarlier (order (nthRecord n k .stamp) (r .stamp)) ≡ notLater (order (nthRecord n k .stamp) (stampAt n i))
       go (inl s) =
-          let past : UpTo (made n k .stamp) (stampAt n i) = subst (λ (j : ℕ). UpTo (made n k .stamp) (stampAt n j)) (sym s) (inv .past k l) in
-          before-test (made n k .stamp) (r .stamp) (upto-then (made n k .stamp) (stampAt n i) (r .stamp) past rises) ∙ sym past
+          let past : UpTo (nthRecord n k .stamp) (stampAt n i) = subst (λ (j : ℕ). UpTo (nthRecord n k .stamp) (stampAt n j)) (sym s) (inv .past k l) in
+          before-test (nthRecord n k .stamp) (r .stamp) (upto-then (nthRecord n k .stamp) (stampAt n i) (r .stamp) past rises) ∙ sym past
       go (inr (line, _)) =
           let below = record-below n inv k i l line in
-          cut-test i (r .stamp) (made n k .stamp) r-made below
-          ∙ ap (λ (t : Stamp). notLater (order (made n k .stamp) t)) (risen-without n inv i site few)
-          ∙ sym (cut-upto i (stampAt n i) (made n k .stamp) (stamp-made n inv i site) below)
+          cut-test i (r .stamp) (nthRecord n k .stamp) r-made below
+          ∙ ap (λ (t : Stamp). notLater (order (nthRecord n k .stamp) t)) (risen-without n inv i site few)
+          ∙ sym (cut-upto i (stampAt n i) (nthRecord n k .stamp) (stamp-made n inv i site) below)
 
   abbrev ReadsWell : Record → Type 0
   ReadsWell c = (a : ℕ) → a < length (c .ops) → reads (getD (c .ops) a noOp) ≡ true
@@ -143,9 +143,9 @@ module _ (n : Network) (inv : Invariant n) (i : ℕ) (os : List Op) (site : i < 
       ∙ sym (without-it x (lastValue x (keep p (n .history))) p (λ t. test-fails (r .stamp) (r .stamp) (upto-self (r .stamp))))
       ∙ sym (with-it x p)
 
-  old-read : (k : ℕ) → k < length (n .history) → ReadsWell (made n k)
+  old-read : (k : ℕ) → k < length (n .history) → ReadsWell (nthRecord n k)
   old-read k l a b e =
-      let c = made n k in
+      let c = nthRecord n k in
       let s = inv .allowed k l a b in
       let x = getD (c .ops) a noOp .item in
       let p : Record → Bool = λ q. isEarlier (order (q .stamp) (c .stamp)) in
@@ -199,7 +199,7 @@ module _ (n : Network) (inv : Invariant n) (i : ℕ) (os : List Op) (site : i < 
           past = added-each h r noRecord (λ k x. UpTo (x .stamp) (stampAt next (x .site))) (calm-past n inv ss ls later c)
               (subst (λ (s : Site). UpTo (r .stamp) (s .stamp)) (sym (moved-here n inv i new site)) (upto-self (r .stamp)));
           rise = added-rise h r noRecord (λ x y. x .site ≡ y .site → Before (x .stamp) (y .stamp)) (inv .rise)
-              (λ a l e. upto-then (made n a .stamp) (stampAt n (made n a .site)) (r .stamp) (inv .past a l) (subst (λ (j : ℕ). Before (stampAt n j) (r .stamp)) (sym e) rises));
+              (λ a l e. upto-then (nthRecord n a .stamp) (stampAt n (nthRecord n a .site)) (r .stamp) (inv .past a l) (subst (λ (j : ℕ). Before (stampAt n j) (r .stamp)) (sym e) rises));
           queue = calm-queue n inv ss ls later c;
           ahead = calm-ahead n inv ss ls later c;
           behind = calm-behind n inv ss ls later c;

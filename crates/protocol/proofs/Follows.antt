@@ -20,7 +20,7 @@ use Rattle.protocol.specs.Steps.{startSites, setUpNumber, setUpNetwork, 
 use Rattle.protocol.specs.Waiting.{waitingNumber}
 use Rattle.protocol.specs.Calls.{Call, setUp, commit, dummy, epoch, deliver, schedule, waiting, Outcome, refused, accepted, judged, perform}
 use Rattle.protocol.proofs.Chosen.{received-stamp}
-use Rattle.protocol.specs.Book.{Book, stampIn, withStamp, startStamps, noted}
+use Rattle.protocol.specs.Book.{Book, bookStamp, withStamp, startStamps, noted}
 use Rattle.protocol.specs.Agreement.{Known, nothingKnown, witnessed, learned, learnedAll, Always}
 use Rattle.protocol.proofs.Alike.{Alike, AllAlike, worked-alike, all-alike-add}
 use Rattle.protocol.proofs.Invariant.{stampAt, tableAt, Invariant, shaped}
@@ -33,8 +33,8 @@ abbrev pub stampsOf : List Site → List Stamp
 stampsOf ss = map (λ (s : Site). s .stamp) ss
 
 -- the values that each commit's reads were recorded with
-abbrev pub valuesOf : List Record → List (List ℤ)
-valuesOf h = map (λ (r : Record). valuesRead (r .ops)) h
+abbrev pub readsOf : List Record → List (List ℤ)
+readsOf h = map (λ (r : Record). valuesRead (r .ops)) h
 
 pub record Follows (k : Known) : Type 0 where
   pub network : Network
@@ -43,19 +43,19 @@ pub record Follows (k : Known) : Type 0 where
   pub items-are : k .items ≡ network .items
   pub stamps-are : stampsOf (network .sites) ≡ k .book .stamps
   pub commits-alike : AllAlike (network .history) (k .book .commits)
-  pub values-are : k .values ≡ valuesOf (network .history)
+  pub values-are : k .values ≡ readsOf (network .history)
   pub answers-are : k .answered ≡ k .booked
 
 -- ---- a site's timestamp in the network and in the book
 module _ (n : Network) (b : Book) (same : stampsOf (n .sites) ≡ b .stamps) where
-  book-stamp : (i : ℕ) → stampAt n i ≡ stampIn b i
+  book-stamp : (i : ℕ) → stampAt n i ≡ bookStamp b i
   book-stamp i = sym (List·getD-map (λ (s : Site). s .stamp) (n .sites) i noSite) ∙ ap (λ (ts : List Stamp). getD ts i noStamp) same
 
   -- replaced in both
   book-moved : (i : ℕ) (new : Site) (t : Stamp) → new .stamp ≡ t → stampsOf (set (n .sites) i new) ≡ withStamp b i t .stamps
   book-moved i new t e = map-set (λ (s : Site). s .stamp) (n .sites) i new ∙ ap₂ (λ (ts : List Stamp) (u : Stamp). set ts i u) same e
 
-  book-has : (i : ℕ) (t : Stamp) → i < length (n .sites) → stampIn (withStamp b i t) i ≡ t
+  book-has : (i : ℕ) (t : Stamp) → i < length (n .sites) → bookStamp (withStamp b i t) i ≡ t
   book-has i t l = getD-set-same (b .stamps) i t noStamp (omega (arith, ap length same, length-map (n .sites) (λ (s : Site). s .stamp)))
 
 -- ---- an outcome by the call's number
@@ -127,7 +127,7 @@ module _ (k : Known) (f : Follows k) where
       let os = opsOf ks is vs in
       let r = recordOf n i os in
       let c = commit-causes n i ks is vs z in
-      let t = raised (stampIn b i) in
+      let t = raised (bookStamp b i) in
       let same : r .stamp ≡ t = risen n (f .inv) i (c .0) (c .1) ∙ ap raised (book-stamp n b (f .stamps-are) i) in
       let alike : Alike r (record { site = i; stamp = t; ops = os }) = record { site-same = refl; stamp-same = same; ops-alike = worked-alike (tableAt n i) (tableAt n i) os } in
       record {
@@ -138,7 +138,7 @@ module _ (k : Known) (f : Follows k) where
         stamps-are = book-moved n b (f .stamps-are) i (committed os (siteAt n i)) t same;
         commits-alike = all-alike-add (n .history) (b .commits) r (record { site = i; stamp = t; ops = os }) (f .commits-alike) alike;
         values-are = ap (λ (vs : List (List ℤ)). vs ++ (valuesRead (r .ops) ∷ [])) (f .values-are) ∙ sym (map-append (λ (x : Record). valuesRead (x .ops)) (n .history) (r ∷ []));
-        answers-are = one-more (r .stamp) (stampIn (withStamp b i t) i) (same ∙ sym (book-has n b (f .stamps-are) i t (c .0)));
+        answers-are = one-more (r .stamp) (bookStamp (withStamp b i t) i) (same ∙ sym (book-has n b (f .stamps-are) i t (c .0)));
       }
 
   dummy-follows : (i : ℕ) → dummyNumber n i ≡ 0 → Follows (witnessed k (dummy i) (accepted 0 (siteAt (dummyNetwork n i) i .stamp) [] (dummyNetwork n i)))
@@ -146,7 +146,7 @@ module _ (k : Known) (f : Follows k) where
   dummy-follows i z =
       let new = dummied (siteAt n i) in
       let c = dummy-causes n i z in
-      let t = raised (stampIn b i) in
+      let t = raised (bookStamp b i) in
       let same : new .stamp ≡ t = risen n (f .inv) i (c .0) (c .1) ∙ ap raised (book-stamp n b (f .stamps-are) i) in
       record {
         network = dummyNetwork n i;
@@ -156,7 +156,7 @@ module _ (k : Known) (f : Follows k) where
         stamps-are = book-moved n b (f .stamps-are) i new t same;
         commits-alike = f .commits-alike;
         values-are = f .values-are;
-        answers-are = one-more (siteAt (dummyNetwork n i) i .stamp) (stampIn (withStamp b i t) i)
+        answers-are = one-more (siteAt (dummyNetwork n i) i .stamp) (bookStamp (withStamp b i t) i)
             (ap (λ (s : Site). s .stamp) (moved-here n (f .inv) i new (c .0)) ∙ same ∙ sym (book-has n b (f .stamps-are) i t (c .0)));
       }
 
@@ -168,7 +168,7 @@ module _ (k : Known) (f : Follows k) where
         state-is = refl;
         inv = epoch-keeps n (f .inv) i e z;
         items-are = f .items-are;
-        stamps-are = book-moved n b (f .stamps-are) i (atEpoch e (siteAt n i)) (withEpoch (stampIn b i) e) (ap (λ (t : Stamp). withEpoch t e) (book-stamp n b (f .stamps-are) i));
+        stamps-are = book-moved n b (f .stamps-are) i (atEpoch e (siteAt n i)) (withEpoch (bookStamp b i) e) (ap (λ (t : Stamp). withEpoch t e) (book-stamp n b (f .stamps-are) i));
         commits-alike = f .commits-alike;
         values-are = f .values-are;
         answers-are = f .answers-are;
@@ -187,7 +187,7 @@ module _ (k : Known) (f : Follows k) where
         items-are = f .items-are ∙ sym items;
         stamps-are = stamps ∙ f .stamps-are;
         commits-alike = subst (λ (h : List Record). AllAlike h (k .book .commits)) (sym history) (f .commits-alike);
-        values-are = f .values-are ∙ ap valuesOf (sym history);
+        values-are = f .values-are ∙ ap readsOf (sym history);
         answers-are = f .answers-are;
       }
 
@@ -205,14 +205,14 @@ module _ (k : Known) (f : Follows k) where
   schedule-follows j z =
       let t = headStamp n (chosen n j) j in
       let new = received (writesFor n j (head n (chosen n j) j)) t (siteAt n j) in
-      let same : new .stamp ≡ appended t j (ownCount (stampIn b j))
+      let same : new .stamp ≡ appended t j (ownCount (bookStamp b j))
       = received-stamp n j (f .inv .sizes .sites) (shaped n (f .inv)) z ∙ ap (λ (s : Stamp). appended t j (ownCount s)) (book-stamp n b (f .stamps-are) j) in
       record {
         network = scheduleNetwork n j;
         state-is = refl;
         inv = schedule-keeps n (f .inv) j z;
         items-are = f .items-are;
-        stamps-are = book-moved n b (f .stamps-are) j new (appended t j (ownCount (stampIn b j))) same;
+        stamps-are = book-moved n b (f .stamps-are) j new (appended t j (ownCount (bookStamp b j))) same;
         commits-alike = f .commits-alike;
         values-are = f .values-are;
         answers-are = f .answers-are;

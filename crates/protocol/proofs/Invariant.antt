@@ -14,7 +14,7 @@ use Rattle.timestamp.specs.Timestamp.{Stamp}
 use Rattle.timestamp.specs.Order.{order, byNumber, notLater, isEarlier, Below}
 use Rattle.timestamp.specs.Made.{madeBy}
 use Rattle.timestamp.proofs.Made.{without}
-use Rattle.site.specs.Operations.{Op, reads, writes}
+use Rattle.site.specs.Operations.{Op, reads, writes, noOp, writesItem}
 use Rattle.site.specs.InWords.{tableSize}
 use Rattle.placement.specs.Masks.{bit}
 use Rattle.placement.specs.Placement.{Item, noItem, owns, copies, isLine, hasParents}
@@ -27,10 +27,10 @@ use Rattle.protocol.specs.Network.{linesMost, Network, siteAt, lineAt, l
 use Rattle.protocol.specs.Steps.{due}
 use Rattle.lists.specs.Lists.{keep}
 use Rattle.protocol.proofs.WellShaped.{Shape, shape-parts}
-use Rattle.protocol.proofs.Keeps.{noOp, OpShape}
+use Rattle.protocol.proofs.Keeps.{OpShape}
 use Rattle.protocol.proofs.Chosen.{message-made}
 use Rattle.protocol.specs.Agreement.{holds}
-use Rattle.protocol.proofs.Values.{writesTo, touches, lastValue, recordAt}
+use Rattle.protocol.proofs.Values.{touches, lastValue, recordAt}
 use Rattle.protocol.proofs.Times.{Before, UpTo, made-under}
 
 -- ---- a network's timestamps, tables and messages
@@ -53,8 +53,8 @@ messageAt n p j a = getD (messagesAt n p j) a (commit 0)
 abbrev pub sentAt : Network → ℕ → ℕ → ℕ → Stamp
 sentAt n p j a = messageStamp (n .history) (messageAt n p j a)
 
-abbrev pub made : Network → ℕ → Record
-made n k = recordAt (n .history) k
+abbrev pub nthRecord : Network → ℕ → Record
+nthRecord n k = recordAt (n .history) k
 
 -- a message of the list names commit k
 abbrev pub Named : List Message → ℕ → Type 0
@@ -71,24 +71,24 @@ pub record Invariant (n : Network) : Type 0 where
   pub sizes : Sizes n
   pub shape : wellShaped n ≡ true
   -- a commit is not later than its site; the commits of one site rise
-  pub past : (k : ℕ) → k < length (n .history) → UpTo (made n k .stamp) (stampAt n (made n k .site))
-  pub rise : (k m : ℕ) → k < m → m < length (n .history) → made n k .site ≡ made n m .site → Before (made n k .stamp) (made n m .stamp)
+  pub past : (k : ℕ) → k < length (n .history) → UpTo (nthRecord n k .stamp) (stampAt n (nthRecord n k .site))
+  pub rise : (k m : ℕ) → k < m → m < length (n .history) → nthRecord n k .site ≡ nthRecord n m .site → Before (nthRecord n k .stamp) (nthRecord n m .stamp)
   -- the messages of a line rise; each is later than what the child has heard, and not later than the parent
   pub queue : (p j : ℕ) → isLine (n .items) p j ≡ true → (a b : ℕ) → a < b → b < length (messagesAt n p j) → Before (sentAt n p j a) (sentAt n p j b)
   pub ahead : (p j : ℕ) → isLine (n .items) p j ≡ true → (a : ℕ) → a < length (messagesAt n p j) → Before (heardAt n j) (sentAt n p j a)
   pub behind : (p j : ℕ) → isLine (n .items) p j ≡ true → (a : ℕ) → a < length (messagesAt n p j) → UpTo (sentAt n p j a) (stampAt n p)
   -- a commit that a child has a copy of and has not heard of is on the line
-  pub owed : (k j : ℕ) → k < length (n .history) → due (n .items) (made n k .ops) j ≡ true → Before (heardAt n j) (made n k .stamp) → Named (messagesAt n (made n k .site) j) k
+  pub owed : (k j : ℕ) → k < length (n .history) → due (n .items) (nthRecord n k .ops) j ≡ true → Before (heardAt n j) (nthRecord n k .stamp) → Named (messagesAt n (nthRecord n k .site) j) k
   -- what a child has heard is not later than any parent
   pub heard : (p j : ℕ) → isLine (n .items) p j ≡ true → UpTo (heardAt n j) (stampAt n p)
   -- a table holds the last values of the commits not later than its site
   pub copy : (j x : ℕ) → j < length (n .sites) → x < length (n .items) → holds (n .items) j x ≡ true
       → getD (tableAt n j) x (pos 0) ≡ lastValue x (keep (λ (r : Record). notLater (order (r .stamp) (stampAt n j))) (n .history))
   -- a read has the last value of the commits before its own
-  pub read : (k : ℕ) → k < length (n .history) → (a : ℕ) → a < length (made n k .ops) → reads (getD (made n k .ops) a noOp) ≡ true
-      → getD (made n k .ops) a noOp .value ≡ lastValue (getD (made n k .ops) a noOp .item) (keep (λ (r : Record). isEarlier (order (r .stamp) (made n k .stamp))) (n .history))
+  pub read : (k : ℕ) → k < length (n .history) → (a : ℕ) → a < length (nthRecord n k .ops) → reads (getD (nthRecord n k .ops) a noOp) ≡ true
+      → getD (nthRecord n k .ops) a noOp .value ≡ lastValue (getD (nthRecord n k .ops) a noOp .item) (keep (λ (r : Record). isEarlier (order (r .stamp) (nthRecord n k .stamp))) (n .history))
   -- a commit writes what its site owns, and reads what it owns or copies
-  pub allowed : (k : ℕ) → k < length (n .history) → (a : ℕ) → a < length (made n k .ops) → OpShape (n .items) (made n k .site) (getD (made n k .ops) a noOp)
+  pub allowed : (k : ℕ) → k < length (n .history) → (a : ℕ) → a < length (nthRecord n k .ops) → OpShape (n .items) (nthRecord n k .site) (getD (nthRecord n k .ops) a noOp)
 
 -- ---- the placement
 owner-is : (xs : List Item) (i x : ℕ) → owns xs i x ≡ true → getD xs x noItem .primary ≡ i
@@ -122,7 +122,7 @@ holder xs i j x l o h = go (owns xs j x) refl h
 -- the operation that writes the item
 pub writing : (x : ℕ) (os : List Op) → touches x os ≡ true → (a : ℕ) × (a < length os) × (writes (getD os a noOp) ≡ true) × (getD os a noOp .item ≡ x)
 writing x os e =
-    let f = some-index (writesTo x) os noOp e in
+    let f = some-index (writesItem x) os noOp e in
     let o = getD os (f .0) noOp in
     let w = and-true (writes o) (eqb (o .item) x) (f .2) in
     (f .0, f .1, w .0, eqb-true (o .item) x (w .1))
@@ -160,10 +160,10 @@ module _ (n : Network) (inv : Invariant n) where
   pub stamp-made : (j : ℕ) → j < length (n .sites) → madeBy byNumber j (stampAt n j) ≡ true
   stamp-made = shaped .stamps
 
-  pub record-made : (k : ℕ) → k < length (n .history) → madeBy byNumber (made n k .site) (made n k .stamp) ≡ true
+  pub record-made : (k : ℕ) → k < length (n .history) → madeBy byNumber (nthRecord n k .site) (nthRecord n k .stamp) ≡ true
   record-made k l = shaped .records k l .made
 
-  pub record-site : (k : ℕ) → k < length (n .history) → made n k .site < length (n .sites)
+  pub record-site : (k : ℕ) → k < length (n .history) → nthRecord n k .site < length (n .sites)
   record-site k l = shaped .records k l .at
 
   pub line-number : (p j : ℕ) → isLine (n .items) p j ≡ true → lineNumber p j < length (n .lines)
@@ -180,14 +180,14 @@ module _ (n : Network) (inv : Invariant n) where
   sent-made p j e a l = message-made n shaped p (messageAt n p j a) (message-fits p j e a l)
 
   -- a commit of a parent stands below its child
-  pub record-below : (k j : ℕ) → k < length (n .history) → isLine (n .items) (made n k .site) j ≡ true → Below byNumber j (made n k .stamp .tuples)
-  record-below k j l e = made-under (made n k .site) j (made n k .stamp) (record-made k l) (line-up (made n k .site) j e .0)
+  pub record-below : (k j : ℕ) → k < length (n .history) → isLine (n .items) (nthRecord n k .site) j ≡ true → Below byNumber j (nthRecord n k .stamp .tuples)
+  record-below k j l e = made-under (nthRecord n k .site) j (nthRecord n k .stamp) (record-made k l) (line-up (nthRecord n k .site) j e .0)
 
   pub sent-below : (p j : ℕ) → isLine (n .items) p j ≡ true → (a : ℕ) → a < length (messagesAt n p j) → Below byNumber j (sentAt n p j a .tuples)
   sent-below p j e a l = made-under p j (sentAt n p j a) (sent-made p j e a l) (line-up p j e .0)
 
   -- who holds an item that commit k writes is the commit's site or its child
-  pub reaches : (k j x : ℕ) → k < length (n .history) → touches x (made n k .ops) ≡ true → holds (n .items) j x ≡ true → (j ≡ made n k .site) ⊎ ((isLine (n .items) (made n k .site) j ≡ true) × (copies (n .items) j x ≡ true))
+  pub reaches : (k j x : ℕ) → k < length (n .history) → touches x (nthRecord n k .ops) ≡ true → holds (n .items) j x ≡ true → (j ≡ nthRecord n k .site) ⊎ ((isLine (n .items) (nthRecord n k .site) j ≡ true) × (copies (n .items) j x ≡ true))
   reaches k j x l t h =
       let fits = inv .allowed k l in
-      holder (n .items) (made n k .site) j x (touch-item (n .items) (made n k .site) (made n k .ops) fits x t) (touch-owns (n .items) (made n k .site) (made n k .ops) fits x t) h
+      holder (n .items) (nthRecord n k .site) j x (touch-item (n .items) (nthRecord n k .site) (nthRecord n k .ops) fits x t) (touch-owns (n .items) (nthRecord n k .site) (nthRecord n k .ops) fits x t) h

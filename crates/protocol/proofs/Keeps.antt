@@ -4,7 +4,7 @@ use mathlib.Core.Bool.{Bool, true, false, cond, not, _&&_, _||_, or-true, false�
 use mathlib.Core.List.{List, [], _∷_, _++_, map}
 use Prim.Native.Nat.{ℕ, zero, suc, _+_, _/_, _%_, _≤_, _<_}
 use native.Mathlib.Omega.{arith}
-use lib.IntN.{ℤ, pos}
+use lib.IntN.{ℤ}
 use lib.ListN.{length, getD, set, length-set, length-replicate, getD-replicate, length-append, List·getD-append}
 use lib.Seq.{getD-append-seam}
 use lib.Dec.{eqb, ltb, leb}
@@ -16,7 +16,7 @@ use Rattle.timestamp.specs.Order.{byNumber}
 use Rattle.timestamp.specs.Made.{madeBy}
 use Rattle.timestamp.proofs.Made.{made-start, made-raised}
 use Rattle.timestamp.proofs.Value.{raise-room}
-use Rattle.site.specs.Operations.{Op, reads, writes, readValue, recorded}
+use Rattle.site.specs.Operations.{Op, noOp, reads, writes, readValue, recorded}
 use Rattle.site.specs.Site.{Site, committed, dummied, atEpoch}
 use Rattle.limits.specs.Limits.{opsMost, sitesMost, itemsMost, recordsMost}
 use Rattle.site.proofs.Laws.{work-ops}
@@ -204,10 +204,6 @@ none-at : {A : Type 0} (f : A → ℕ) (xs : List A) (k : ℕ) (d : A) → first
 none-at f [] k d e h = absurd (omega arith)
 none-at f (x ∷ xs) zero d e h = none-first (f x) (map f xs) e .0
 none-at f (x ∷ xs) (suc k) d e h = none-at f xs k d (none-first (f x) (map f xs) e .1) (omega arith)
-
--- what stands where there is no operation
-abbrev pub noOp : Op
-noOp = record { kind = 0; item = 0; value = pos 0 }
 
 -- what an operation that is not refused at site i is like
 pub record OpShape (xs : List Item) (i : ℕ) (o : Op) : Type 0 where

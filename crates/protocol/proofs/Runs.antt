@@ -13,13 +13,12 @@ use Rattle.timestamp.specs.Timestamp.{Stamp}
 use Rattle.timestamp.specs.Order.{byNumber, order, orderBy, notLater, isEarlier, IsEarlier}
 use Rattle.timestamp.proofs.Comparisons.{turned, later-turned, not-later-cases}
 use Rattle.timestamp.proofs.OrderLaws.{by-number-laws}
-use Rattle.site.specs.Operations.{Op, reads, recorded, worked}
+use Rattle.site.specs.Operations.{Op, reads, recorded, worked, noOp}
 use Rattle.site.specs.InWords.{tableSize}
 use Rattle.site.proofs.Laws.{work-ops}
 use Rattle.records.specs.Records.{Record}
 use Rattle.lists.specs.Lists.{keep, upTo}
-use Rattle.protocol.proofs.Keeps.{noOp}
-use Rattle.protocol.specs.Run.{Turn, numbered, inTurn, after, run, zeros, find, shown, valueAt}
+use Rattle.protocol.specs.Run.{Turn, numbered, inTurn, after, run, startTable, find, shown, valueAt}
 use Rattle.protocol.proofs.Values.{touches, wrote, lastFrom, lastValue, recordAt, untouched}
 use Rattle.protocol.proofs.Works.{worked-length, getD-worked, recorded-other}
 use Rattle.protocol.proofs.Sorting.{Chain, NotAfter, has, each-implied, map-keep, keep-turn, keep-none, chain-keep, keep-sorted, sorted-same, chain-sorted, chain-number, commits-numbered, each-found, has-turn, find-turn}
@@ -70,9 +69,9 @@ module _ (x : ℕ) where
         ∙ keep-turn passes writes (numbered 0 h)
 
     -- the run's value after the commits that pass a test is that of those commits in the order made
-    run-last : x < tableSize → getD (after zeros (keep passes (inTurn h))) x (pos 0) ≡ lastValue x (keep q h)
+    run-last : x < tableSize → getD (after startTable (keep passes (inTurn h))) x (pos 0) ≡ lastValue x (keep q h)
     run-last l =
-        after-value zeros (keep passes (inTurn h)) x (omega (arith, length-replicate tableSize (pos 0)))
+        after-value startTable (keep passes (inTurn h)) x (omega (arith, length-replicate tableSize (pos 0)))
         ∙ ap (λ (v : ℤ). lastFrom x v (commits (keep passes (inTurn h)))) (getD-replicate tableSize x (pos 0) (pos 0) l)
         ∙ last-turns (pos 0) (keep passes (inTurn h))
         ∙ ap (λ (cs : List Turn). lastFrom x (pos 0) (commits cs)) writers-turn
@@ -81,7 +80,7 @@ module _ (x : ℕ) where
 
 pub run-value : (h : List Record) (x : ℕ) → x < tableSize
     → ((k m : ℕ) → k < m → m < length h → touches x (recordAt h k .ops) ≡ true → touches x (recordAt h m .ops) ≡ true → IsEarlier byNumber (recordAt h k .stamp) (recordAt h m .stamp))
-    → (t : Stamp) → valueAt zeros h t x ≡ lastValue x (keep (λ (r : Record). notLater (order (r .stamp) t)) h)
+    → (t : Stamp) → valueAt startTable h t x ≡ lastValue x (keep (λ (r : Record). notLater (order (r .stamp) t)) h)
 unfolding valueAt
 run-value h x l rise t = run-last x h rise (λ r. notLater (order (r .stamp) t)) l
 
@@ -153,9 +152,9 @@ pub run-shows : (h : List Record)
     → ((k a : ℕ) → k < length h → a < length (recordAt h k .ops) → reads (getD (recordAt h k .ops) a noOp) ≡ true
     → (getD (recordAt h k .ops) a noOp .item < tableSize)
     × (getD (recordAt h k .ops) a noOp .value ≡ lastValue (getD (recordAt h k .ops) a noOp .item) (keep (λ (r : Record). isEarlier (order (r .stamp) (recordAt h k .stamp))) h)))
-    → h ≡ shown zeros h
+    → h ≡ shown startTable h
 unfolding shown
-run-shows h apart rise right = by-number (find (run zeros (inTurn h))) 0 h each
+run-shows h apart rise right = by-number (find (run startTable (inTurn h))) 0 h each
   where
     strict : Chain Before (inTurn h)
     strict =
@@ -167,15 +166,15 @@ run-shows h apart rise right = by-number (find (run zeros (inTurn h))) 0 h each
         (chain-number (λ r s. (notLater (order (r .stamp) (s .stamp)) ≡ true → IsEarlier byNumber (r .stamp) (s .stamp)) × (notLater (order (r .stamp) (s .stamp)) ≡ false → IsEarlier byNumber (s .stamp) (r .stamp))) 0 h
         (λ k m a b. placed (recordAt h k) (recordAt h m) (apart k m a b)))
 
-    each : (k : ℕ) → k < length h → recordAt h k ≡ find (run zeros (inTurn h)) (0 + k)
+    each : (k : ℕ) → k < length h → recordAt h k ≡ find (run startTable (inTurn h)) (0 + k)
     each k l =
         let r = recordAt h k in
-        let table : List ℤ = after zeros (keep (earlierThan r) (inTurn h)) in
+        let table : List ℤ = after startTable (keep (earlierThan r) (inTurn h)) in
         let same : k ≡ 0 + k = omega arith in
         let kept : r .ops ≡ worked table (r .ops) .ops
         = ops-kept table (r .ops) (λ a b e. right k a l b e .1 ∙ sym (run-last (getD (r .ops) a noOp .item) h (rise (getD (r .ops) a noOp .item)) (λ s. isEarlier (order (s .stamp) (r .stamp))) (right k a l b e .0)))
         ∙ sym (work-ops table table (r .ops)) in
         (λ i. record { site = r .site; stamp = r .stamp; ops = kept i })
-        ∙ ap (λ (s : Record). seenRecord (after zeros (keep (earlierThan s) (inTurn h))) s) (sym (find-turn h k))
-        ∙ sym (run-sees zeros (inTurn h) k strict (has-turn h k l))
-        ∙ ap (find (run zeros (inTurn h))) same
+        ∙ ap (λ (s : Record). seenRecord (after startTable (keep (earlierThan s) (inTurn h))) s) (sym (find-turn h k))
+        ∙ sym (run-sees startTable (inTurn h) k strict (has-turn h k l))
+        ∙ ap (find (run startTable (inTurn h))) same

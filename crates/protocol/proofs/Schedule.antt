@@ -16,7 +16,7 @@ use Rattle.timestamp.specs.Order.{order, byNumber, notLater, isEarlier}
 use Rattle.timestamp.specs.Made.{madeBy}
 use Rattle.timestamp.proofs.Made.{without}
 use Rattle.timestamp.proofs.OrderLaws.{append-later}
-use Rattle.site.specs.Operations.{Op, writes}
+use Rattle.site.specs.Operations.{Op, writes, writesItem}
 use Rattle.site.specs.Site.{Site, received}
 use Rattle.placement.specs.Placement.{Item, copies, isLine}
 use Rattle.limits.specs.Limits.{sitesMost}
@@ -27,10 +27,10 @@ use Rattle.protocol.specs.Steps.{due, head, headStamp, earlierOf, earlie
 use Rattle.lists.specs.Lists.{keep}
 use Rattle.protocol.proofs.Chosen.{earliest-site, chosen-line, chosen-up, head-made, parent-held, received-stamp, received-made, keeps-schedule}
 use Rattle.protocol.specs.Agreement.{holds}
-use Rattle.protocol.proofs.Values.{writesTo, touches, wrote, lastValue, agree, joined}
+use Rattle.protocol.proofs.Values.{touches, wrote, lastValue, agree, joined-commit}
 use Rattle.protocol.proofs.Works.{worked-length, getD-worked}
 use Rattle.protocol.proofs.Times.{Before, UpTo, upto-self, upto-before, upto-trans, before-trans, before-upto, upto-then, upto-other, never-before, later-fails, fails-later, test-before, test-upto, made-apart, without-appended, cut-upto, cut-before}
-use Rattle.protocol.proofs.Invariant.{stampAt, heardAt, tableAt, messagesAt, messageAt, sentAt, made, Named, Invariant, one-owner, touch-owns, touch-due, due-child, shaped, line-up, line-number, stamp-made, record-site, record-below, sent-made, sent-below, message-fits, reaches}
+use Rattle.protocol.proofs.Invariant.{stampAt, heardAt, tableAt, messagesAt, messageAt, sentAt, nthRecord, Named, Invariant, one-owner, touch-owns, touch-due, due-child, shaped, line-up, line-number, stamp-made, record-site, record-below, sent-made, sent-below, message-fits, reaches}
 use Rattle.protocol.proofs.Calm.{changed, EachSent, RisesSent}
 use Rattle.protocol.proofs.Quiet.{moved, moved-many, moved-here, moved-sizes, moved-grows}
 
@@ -72,22 +72,22 @@ module _ (xs : List Item) (j x : ℕ) where
 
   pub wrote-taken : (v : ℤ) (os : List Op) → (touches x os ≡ true → copies xs j x ≡ true) → wrote x v (keep taking os) ≡ wrote x v os
   wrote-taken v [] f = refl
-  wrote-taken v (o ∷ os) f = go (taking o) refl ∙ wrote-taken (cond (writesTo x o) (o .value) v) os (λ t. f (rest (writesTo x o) t))
+  wrote-taken v (o ∷ os) f = go (taking o) refl ∙ wrote-taken (cond (writesItem x o) (o .value) v) os (λ t. f (rest (writesItem x o) t))
     where
       rest : (b : Bool) → touches x os ≡ true → (b || touches x os) ≡ true
       rest true t = refl
       rest false t = t
 
-      dropped : (b : Bool) → writesTo x o ≡ b → taking o ≡ false → wrote x v (keep taking os) ≡ wrote x (cond b (o .value) v) (keep taking os)
+      dropped : (b : Bool) → writesItem x o ≡ b → taking o ≡ false → wrote x v (keep taking os) ≡ wrote x (cond b (o .value) v) (keep taking os)
       dropped false w e = refl
       dropped true w e =
           let both = and-true (writes o) (eqb (o .item) x) w in
           let here : copies xs j (o .item) ≡ true = ap (copies xs j) (eqb-true (o .item) x (both .1)) ∙ f (ap (λ (b : Bool). b || touches x os) w) in
           absurd (true≢false (sym (ap₂ _&&_ (both .0) here) ∙ e))
 
-      go : (b : Bool) → taking o ≡ b → wrote x v (cond b (o ∷ keep taking os) (keep taking os)) ≡ wrote x (cond (writesTo x o) (o .value) v) (keep taking os)
+      go : (b : Bool) → taking o ≡ b → wrote x v (cond b (o ∷ keep taking os) (keep taking os)) ≡ wrote x (cond (writesItem x o) (o .value) v) (keep taking os)
       go true e = refl
-      go false e = dropped (writesTo x o) refl e
+      go false e = dropped (writesItem x o) refl e
 
 -- ---- the messages after the first
 getD-rest : (ms : List Message) (a : ℕ) → getD (drop 1 ms) a (commit 0) ≡ getD ms (suc a) (commit 0)
@@ -268,7 +268,7 @@ module _ (n : Network) (inv : Invariant n) (j : ℕ) (z : scheduleNumber n j ≡
   -- ---- a commit that j has not heard of yet stays on its line
   module _ (k : ℕ) (old : k < length (n .history)) where
     abbrev r : Record
-    r = made n k
+    r = nthRecord n k
 
     -- not the message taken, which is not later than itself
     left-named : (q : ℕ) → r .site ≡ q → Before y (r .stamp) → Named (messagesAt n q j) k → Named (messagesAt next q j) k
@@ -338,45 +338,45 @@ module _ (n : Network) (inv : Invariant n) (j : ℕ) (z : scheduleNumber n j ≡
 
   -- the message names commit k
   module _ (x k : ℕ) (e : holds (n .items) j x ≡ true) (f : m ≡ commit k) where
-    fits : (ltb k (length (n .history)) ≡ true) × (eqb (made n k .site) p ≡ true)
+    fits : (ltb k (length (n .history)) ≡ true) × (eqb (nthRecord n k .site) p ≡ true)
     fits =
-        and-true (ltb k (length (n .history))) (eqb (made n k .site) p)
+        and-true (ltb k (length (n .history))) (eqb (nthRecord n k .site) p)
         (ap (messageFits (n .history) p) (sym f) ∙ message-fits n inv p j line 0 (first p line))
 
     old : k < length (n .history)
     old = ltb-true k (length (n .history)) (fits .0)
 
-    from : made n k .site ≡ p
-    from = eqb-true (made n k .site) p (fits .1)
+    from : nthRecord n k .site ≡ p
+    from = eqb-true (nthRecord n k .site) p (fits .1)
 
-    same : y ≡ made n k .stamp
+    same : y ≡ nthRecord n k .stamp
     same = ap (messageStamp (n .history)) f
 
     -- a later commit that writes what it writes is of the same site, and later than the message
-    after-it : touches x (made n k .ops) ≡ true → (i : ℕ) → k < i → i < length (n .history) → touches x (made n i .ops) ≡ true → after (made n i) ≡ false
+    after-it : touches x (nthRecord n k .ops) ≡ true → (i : ℕ) → k < i → i < length (n .history) → touches x (nthRecord n i .ops) ≡ true → after (nthRecord n i) ≡ false
     after-it t i l b u =
-        let owner : made n k .site ≡ made n i .site
-        = one-owner (n .items) (made n k .site) (made n i .site) x (touch-owns (n .items) (made n k .site) (made n k .ops) (inv .allowed k old) x t)
-        (touch-owns (n .items) (made n i .site) (made n i .ops) (inv .allowed i b) x u) in
-        let way : isLine (n .items) (made n i .site) j ≡ true = ap (λ (q : ℕ). isLine (n .items) q j) (sym owner ∙ from) ∙ line in
-        let later : Before (without (new .stamp)) (made n i .stamp) = subst (λ (t : Stamp). Before t (made n i .stamp)) (sym (hears ∙ same)) (inv .rise k i l b owner) in
-        later-fails (made n i .stamp) (new .stamp) (cut-before j (new .stamp) (made n i .stamp) stamp-new (record-below n inv i j b way) later)
+        let owner : nthRecord n k .site ≡ nthRecord n i .site
+        = one-owner (n .items) (nthRecord n k .site) (nthRecord n i .site) x (touch-owns (n .items) (nthRecord n k .site) (nthRecord n k .ops) (inv .allowed k old) x t)
+        (touch-owns (n .items) (nthRecord n i .site) (nthRecord n i .ops) (inv .allowed i b) x u) in
+        let way : isLine (n .items) (nthRecord n i .site) j ≡ true = ap (λ (q : ℕ). isLine (n .items) q j) (sym owner ∙ from) ∙ line in
+        let later : Before (without (new .stamp)) (nthRecord n i .stamp) = subst (λ (t : Stamp). Before t (nthRecord n i .stamp)) (sym (hears ∙ same)) (inv .rise k i l b owner) in
+        later-fails (nthRecord n i .stamp) (new .stamp) (cut-before j (new .stamp) (nthRecord n i .stamp) stamp-new (record-below n inv i j b way) later)
 
-    copied : touches x (made n k .ops) ≡ true → copies (n .items) j x ≡ true
+    copied : touches x (nthRecord n k .ops) ≡ true → copies (n .items) j x ≡ true
     copied t = go (reaches n inv k j x old t e)
       where
-        go : (j ≡ made n k .site) ⊎ ((isLine (n .items) (made n k .site) j ≡ true) × (copies (n .items) j x ≡ true)) → copies (n .items) j x ≡ true
+        go : (j ≡ nthRecord n k .site) ⊎ ((isLine (n .items) (nthRecord n k .site) j ≡ true) × (copies (n .items) j x ≡ true)) → copies (n .items) j x ≡ true
         go (inl s) = absurd (omega (arith, up .0, from))
         go (inr (_, c)) = c
 
     named-value : lastValue x (keep after (n .history)) ≡ wrote x (lastValue x (keep before (n .history))) (writesFor n j m)
     named-value =
-        joined x after before (pos 0) (n .history) k old
+        joined-commit x after before (pos 0) (n .history) k old
         (λ i l other t. unheard i l x t e (λ g. other (ap nameOf (sym g ∙ f))))
         (subst (λ (t : Stamp). UpTo t (new .stamp)) same (upto-before y (new .stamp) y-before))
-        (later-fails (made n k .stamp) (stampAt n j) (subst (Before (stampAt n j)) same site-before))
+        (later-fails (nthRecord n k .stamp) (stampAt n j) (subst (Before (stampAt n j)) same site-before))
         after-it
-        ∙ sym (wrote-taken (n .items) j x (lastValue x (keep before (n .history))) (made n k .ops) copied)
+        ∙ sym (wrote-taken (n .items) j x (lastValue x (keep before (n .history))) (nthRecord n k .ops) copied)
         ∙ ap (λ (a : Message). wrote x (lastValue x (keep before (n .history))) (writesFor n j a)) (sym f)
 
   taken-value : (x : ℕ) → holds (n .items) j x ≡ true → lastValue x (keep after (n .history)) ≡ wrote x (lastValue x (keep before (n .history))) (writesFor n j m)
@@ -408,7 +408,7 @@ module _ (n : Network) (inv : Invariant n) (j : ℕ) (z : scheduleNumber n j ≡
       record {
         sizes = moved-sizes n inv j new ls (n .history) (length-set (n .lines) (lineNumber p j) (taken (lineAt n p j))) (worked-length (tableAt n j) (writesFor n j m) ∙ inv .sizes .tables j (up .1));
         shape = w;
-        past = λ k l. upto-trans (made n k .stamp) (stampAt n (made n k .site)) (stampAt next (made n k .site)) (inv .past k l) (grows (made n k .site) (record-site n inv k l));
+        past = λ k l. upto-trans (nthRecord n k .stamp) (stampAt n (nthRecord n k .site)) (stampAt next (nthRecord n k .site)) (inv .past k l) (grows (nthRecord n k .site) (record-site n inv k l));
         rise = inv .rise;
         queue = λ q c from. rises-left (lineNumber q c) (inv .queue q c from);
         ahead = next-ahead;

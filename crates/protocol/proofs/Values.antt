@@ -1,29 +1,25 @@
 -- The value that commits, in the order made, leave of one item.
 use mathlib.Core.Path.{_≡_, refl, ap, sym, _∙_}
-use mathlib.Core.Bool.{Bool, true, false, cond, _&&_}
+use mathlib.Core.Bool.{Bool, true, false, cond}
 use mathlib.Core.List.{List, [], _∷_, _++_}
 use Prim.Native.Nat.{ℕ, zero, suc, _<_}
 use native.Mathlib.Omega.{arith}
 use lib.IntN.{ℤ, pos}
 use lib.ListN.{length, getD}
-use lib.Dec.{eqb}
-use Rattle.site.specs.Operations.{Op, writes}
+use Rattle.site.specs.Operations.{Op, writesItem}
 use Rattle.lists.specs.Lists.{any, keep}
 use Rattle.records.specs.Records.{Record}
 use Rattle.protocol.specs.Network.{noRecord}
 use Rattle.lists.proofs.Numbers.{or-false}
 
-abbrev pub writesTo : ℕ → Op → Bool
-writesTo x o = writes o && eqb (o .item) x
-
 -- some operation writes the item
 abbrev pub touches : ℕ → List Op → Bool
-touches x os = any (writesTo x) os
+touches x os = any (writesItem x) os
 
 -- the item's value after operations, from the value before
 abbrev pub wrote : ℕ → ℤ → List Op → ℤ
 wrote x v [] = v
-wrote x v (o ∷ os) = wrote x (cond (writesTo x o) (o .value) v) os
+wrote x v (o ∷ os) = wrote x (cond (writesItem x o) (o .value) v) os
 
 -- its value after commits
 abbrev pub lastFrom : ℕ → ℤ → List Record → ℤ
@@ -41,7 +37,7 @@ recordAt h k = getD h k noRecord
 pub untouched : (x : ℕ) (v : ℤ) (os : List Op) → touches x os ≡ false → wrote x v os ≡ v
 untouched x v [] e = refl
 untouched x v (o ∷ os) e =
-    let p = or-false (writesTo x o) (touches x os) e in
+    let p = or-false (writesItem x o) (touches x os) e in
     ap (λ (b : Bool). wrote x (cond b (o .value) v) os) (p .0) ∙ untouched x v os (p .1)
 
 pub from-more : (x : ℕ) (v : ℤ) (rs ss : List Record) → lastFrom x v (rs ++ ss) ≡ lastFrom x (lastFrom x v rs) ss
@@ -100,18 +96,18 @@ none-kept x p v h f = agree x p (λ r. false) v h f ∙ ap (lastFrom x v) (nothi
 
 -- ---- the second test leaves out commit k alone, and no later one that writes what it writes passes the first: its writes come last
 module _ (x : ℕ) (p q : Record → Bool) where
-  pub joined : (v : ℤ) (h : List Record) (k : ℕ) → k < length h
+  pub joined-commit : (v : ℤ) (h : List Record) (k : ℕ) → k < length h
       → ((i : ℕ) → i < length h → (i ≡ k → ⊥) → Tells x p q (recordAt h i))
       → p (recordAt h k) ≡ true → q (recordAt h k) ≡ false
       → (touches x (recordAt h k .ops) ≡ true → (i : ℕ) → k < i → i < length h → touches x (recordAt h i .ops) ≡ true → p (recordAt h i) ≡ false)
       → lastFrom x v (keep p h) ≡ wrote x (lastFrom x v (keep q h)) (recordAt h k .ops)
-  joined v [] k l f passes fails late = absurd (omega arith)
-  joined v (r ∷ rs) (suc k) l f passes fails late =
+  joined-commit v [] k l f passes fails late = absurd (omega arith)
+  joined-commit v (r ∷ rs) (suc k) l f passes fails late =
       keep-first x v p r rs
       ∙ ap (λ (w : ℤ). lastFrom x w (keep p rs)) (tells-value x p q v r (f zero (omega arith) (λ e. omega arith)))
-      ∙ joined (cond (q r) (wrote x v (r .ops)) v) rs k (omega arith) (λ i m ne. f (suc i) (omega arith) (λ e. ne (omega arith))) passes fails (λ t i a b. late t (suc i) (omega arith) (omega arith))
+      ∙ joined-commit (cond (q r) (wrote x v (r .ops)) v) rs k (omega arith) (λ i m ne. f (suc i) (omega arith) (λ e. ne (omega arith))) passes fails (λ t i a b. late t (suc i) (omega arith) (omega arith))
       ∙ sym (ap (λ (w : ℤ). wrote x w (recordAt rs k .ops)) (keep-first x v q r rs))
-  joined v (r ∷ rs) zero l f passes fails late =
+  joined-commit v (r ∷ rs) zero l f passes fails late =
       keep-first x v p r rs
       ∙ ap (λ (b : Bool). lastFrom x (cond b (wrote x v (r .ops)) v) (keep p rs)) passes
       ∙ go (touches x (r .ops)) refl

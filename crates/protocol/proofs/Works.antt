@@ -9,9 +9,8 @@ use lib.ListN.{length, getD, set, length-set}
 use lib.Seq.{getD-set-same, getD-set-other}
 use lib.Dec.{eqb}
 use borrow.Author.Tests.{eqb-true, eqb-false, ne-eqb}
-use Rattle.site.specs.Operations.{Op, reads, writes, readValue, recorded, written, work, worked}
-use Rattle.protocol.proofs.Keeps.{noOp}
-use Rattle.protocol.proofs.Values.{writesTo, wrote}
+use Rattle.site.specs.Operations.{Op, reads, writes, readValue, recorded, written, work, worked, noOp, writesItem}
+use Rattle.protocol.proofs.Values.{wrote}
 
 -- ---- the table: one operation, then all of them
 written-length : (table : List ℤ) (o : Op) → length (written table o) ≡ length table
@@ -21,7 +20,7 @@ written-length table o = go (writes o)
     go true = length-set table (o .item) (o .value)
     go false = refl
 
-getD-written : (table : List ℤ) (o : Op) (x : ℕ) → x < length table → getD (written table o) x (pos 0) ≡ cond (writesTo x o) (o .value) (getD table x (pos 0))
+getD-written : (table : List ℤ) (o : Op) (x : ℕ) → x < length table → getD (written table o) x (pos 0) ≡ cond (writesItem x o) (o .value) (getD table x (pos 0))
 getD-written table o x h = go (writes o) (eqb (o .item) x) refl
   where
     go : (b c : Bool) → eqb (o .item) x ≡ c
@@ -83,10 +82,10 @@ module _ (before table : List ℤ) (o : Op) where
   recorded-other e = rw e
 
   -- a read writes nothing, whatever its value; so a write is kept whole
-  recorded-write : (x : ℕ) (v : ℤ) → cond (writesTo x (recorded before table o)) (recorded before table o .value) v ≡ cond (writesTo x o) (o .value) v
+  recorded-write : (x : ℕ) (v : ℤ) → cond (writesItem x (recorded before table o)) (recorded before table o .value) v ≡ cond (writesItem x o) (o .value) v
   recorded-write x v = go (reads o) refl
     where
-      go : (b : Bool) → reads o ≡ b → cond (writesTo x (recorded before table o)) (recorded before table o .value) v ≡ cond (writesTo x o) (o .value) v
+      go : (b : Bool) → reads o ≡ b → cond (writesItem x (recorded before table o)) (recorded before table o .value) v ≡ cond (writesItem x o) (o .value) v
       go true e = rw (e, read-no-write o e)
       go false e = rw e
 
@@ -115,5 +114,5 @@ module _ (before : List ℤ) where
   unfolding work
   wrote-worked table [] x v = refl
   wrote-worked table (o ∷ os) x v =
-      wrote-worked (written table o) os x (cond (writesTo x (recorded before table o)) (recorded before table o .value) v)
+      wrote-worked (written table o) os x (cond (writesItem x (recorded before table o)) (recorded before table o .value) v)
       ∙ ap (λ (u : ℤ). wrote x u os) (recorded-write before table o x v)

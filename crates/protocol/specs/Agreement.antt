@@ -14,8 +14,8 @@ use Rattle.records.specs.Records.{Record}
 use Rattle.protocol.specs.Network.{Network, noRecord, siteAt}
 use Rattle.protocol.specs.Steps.{itemsOf}
 use Rattle.protocol.specs.Calls.{Call, setUp, commit, dummy, epoch, deliver, schedule, waiting, Outcome, perform}
-use Rattle.protocol.specs.Book.{Book, noBook, stampIn, kept}
-use Rattle.protocol.specs.Run.{zeros, shown, valueAt}
+use Rattle.protocol.specs.Book.{Book, noBook, bookStamp, notedIf}
+use Rattle.protocol.specs.Run.{startTable, shown, valueAt}
 
 -- what is known after some calls: the state; from the calls and their answers alone the book, the items of the last accepted
 -- set-up, the values that each commit since it answered, and for each accepted commit and dummy the timestamp that it answered
@@ -68,14 +68,14 @@ stampsBy (waiting i) at all = all
 abbrev pub witnessed : Known → Call → Outcome → Known
 witnessed k c o =
     let ok = isAccepted o in
-    let book = kept c ok (o .stamp) (k .book) in
+    let book = notedIf c ok (o .stamp) (k .book) in
     record {
       state = o .after;
       book = book;
       items = cond ok (placedBy c (k .items)) (k .items);
       values = cond ok (valuesBy c (o .values) (k .values)) (k .values);
       answered = cond ok (stampsBy c (λ i. o .stamp) (k .answered)) (k .answered);
-      booked = cond ok (stampsBy c (stampIn book) (k .booked)) (k .booked);
+      booked = cond ok (stampsBy c (bookStamp book) (k .booked)) (k .booked);
     }
 
 abbrev pub learned : Known → Call → Known
@@ -94,9 +94,9 @@ pub record Agreement (k : Known) : Type 0 where
   pub network : Network
   pub state-is : k .state ≡ some network
   -- every value that a commit answered for a read is the value the run has there
-  pub values-agree : k .values ≡ map (λ (r : Record). valuesRead (r .ops)) (shown zeros (k .book .commits))
+  pub values-agree : k .values ≡ map (λ (r : Record). valuesRead (r .ops)) (shown startTable (k .book .commits))
   -- the history is the book's commits in the order made, each read with that value
-  pub history-agrees : network .history ≡ shown zeros (k .book .commits)
+  pub history-agrees : network .history ≡ shown startTable (k .book .commits)
   -- every accepted commit and dummy answered the timestamp that the book had for its site right after it
   pub answers-agree : k .answered ≡ k .booked
   -- each site's own timestamp is the book's
@@ -105,7 +105,7 @@ pub record Agreement (k : Known) : Type 0 where
   pub tables-reach : (i x : ℕ) → i < length (k .book .stamps) → x < length (k .items) → x < length (siteAt network i .table)
   -- every item at each site that owns or copies it holds the run's value after exactly the commits not later than that site's timestamp
   pub copies-agree : (i x : ℕ) → i < length (k .book .stamps) → x < length (k .items) → holds (k .items) i x ≡ true
-      → getD (siteAt network i .table) x (pos 0) ≡ valueAt zeros (k .book .commits) (siteAt network i .stamp) x
+      → getD (siteAt network i .table) x (pos 0) ≡ valueAt startTable (k .book .commits) (siteAt network i .stamp) x
 
 -- for every state whatever, every set-up accepted on it, and every list of calls after it
 abbrev pub Always : (Known → Type 0) → Type 0

@@ -17,8 +17,8 @@ pub record Book : Type 0 where
 abbrev pub noBook : Book
 noBook = record { stamps = []; commits = [] }
 
-abbrev pub stampIn : Book → ℕ → Stamp
-stampIn b i = getD (b .stamps) i noStamp
+abbrev pub bookStamp : Book → ℕ → Stamp
+bookStamp b i = getD (b .stamps) i noStamp
 
 abbrev pub withStamp : Book → ℕ → Stamp → Book
 withStamp b i t = record { stamps = set (b .stamps) i t; commits = b .commits }
@@ -35,14 +35,14 @@ startStamps i (suc n) = record { epoch = 0; tuples = record { site = i; count = 
 unfoldable pub noted : Call → Stamp → Book → Book
 noted (setUp sites items ps ms) answered b = record { stamps = startStamps 0 sites; commits = [] }
 noted (commit i ks is vs) answered b =
-    let t = raised (stampIn b i) in
+    let t = raised (bookStamp b i) in
     withCommit (withStamp b i t) (record { site = i; stamp = t; ops = opsOf ks is vs })
-noted (dummy i) answered b = withStamp b i (raised (stampIn b i))
-noted (epoch i e) answered b = withStamp b i (withEpoch (stampIn b i) e)
+noted (dummy i) answered b = withStamp b i (raised (bookStamp b i))
+noted (epoch i e) answered b = withStamp b i (withEpoch (bookStamp b i) e)
 noted (deliver p c) answered b = b
 noted (waiting i) answered b = b
-noted (schedule j) answered b = withStamp b j (appended answered j (ownCount (stampIn b j)))
+noted (schedule j) answered b = withStamp b j (appended answered j (ownCount (bookStamp b j)))
 
 -- a call, whether it was accepted, and the timestamp it answered
-abbrev pub kept : Call → Bool → Stamp → Book → Book
-kept c accepted answered b = cond accepted (noted c answered b) b
+abbrev pub notedIf : Call → Bool → Stamp → Book → Book
+notedIf c accepted answered b = cond accepted (noted c answered b) b

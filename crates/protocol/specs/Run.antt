@@ -53,8 +53,8 @@ run table [] = []
 run table (c ∷ cs) = seen table c ∷ run (worked table (c .commit .ops) .table) cs
 
 -- every item starts at 0
-abbrev pub zeros : List ℤ
-zeros = replicate tableSize (pos 0)
+abbrev pub startTable : List ℤ
+startTable = replicate tableSize (pos 0)
 
 -- ---- what the run shows
 -- the commit of that number

@@ -4,7 +4,7 @@ use mathlib.Core.Bool.{Bool, cond, _&&_}
 use mathlib.Core.List.{List, [], _∷_}
 use Prim.Native.Nat.{ℕ, _+_}
 use lib.Dec.{eqb}
-use Rattle.site.specs.Operations.{Op, writes}
+use Rattle.site.specs.Operations.{writesItem}
 use Rattle.lists.specs.Numbers.{firstNumber, numberIf}
 use Rattle.lists.specs.Lists.{any, someBelow}
 use Rattle.placement.specs.Placement.{copies}
@@ -12,10 +12,6 @@ use Rattle.limits.specs.Limits.{sitesMost}
 use Rattle.lines.specs.Lines.{Message}
 use Rattle.protocol.specs.Network.{Network, lineAt, messageOps}
 use Rattle.protocol.specs.Steps.{noSuchSite}
-
--- the operation writes item k
-abbrev pub writesItem : ℕ → Op → Bool
-writesItem k o = writes o && eqb (o .item) k
 
 -- a message on the line from p to site i writes item k
 abbrev pub onLine : Network → ℕ → ℕ → ℕ → Bool

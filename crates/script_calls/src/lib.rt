@@ -23,11 +23,11 @@ pub fn set_up(text: &[u8], state: &mut [u32; WORDS], out: &mut [u8; ANSWER]) -> 
     if count < 2 {
         return script_printing::question(out);
     }
-    place(&list[..count], state, out)
+    set_up_numbers(&list[..count], state, out)
 }
 
 // A set-up of the numbers of its line.
-fn place(list: &[u32], state: &mut [u32; WORDS], out: &mut [u8; ANSWER]) -> usize
+fn set_up_numbers(list: &[u32], state: &mut [u32; WORDS], out: &mut [u8; ANSWER]) -> usize
     requires { ⌜ (2 ≤ length (now list)) × (length (now list) ≤ 256) ⌝ }
     ensures { λ r. ⌜ Replied (setUpOf (now (list .entry))) (now (state .entry)) (now (state .exit)) (now (out .entry)) (now (out .exit)) r ⌝ }
 {

@@ -15,8 +15,8 @@ use Rattle.decimal.specs.Decimal.{natural, signed}
 use Rattle.site.specs.Operations.{Op}
 use Rattle.placement.specs.Placement.{Item}
 use Rattle.protocol.specs.Steps.{opsOf, itemsOf}
-use Rattle.script_notation.specs.Fields.{place}
-use Rattle.script_notation.specs.Parse.{joined, reading, writing, assigned, operation, placed, operationsIn, itemsIn}
+use Rattle.script_notation.specs.Fields.{position}
+use Rattle.script_notation.specs.Parse.{consBoth, reading, writing, assigned, operation, placed, firstOperations, firstItems}
 use Rattle.script_notation.proofs.Walks.{ahead, ahead-more, take-more, take-next, take-least}
 
 -- ---- an operation by its letter
@@ -25,11 +25,11 @@ write-none none = refl
 write-none (some i) = refl
 
 -- without a = there is no value
-pub assigned-none : (l : List ℕ) → length l ≤ place 61 l → none ≡ assigned l
+pub assigned-none : (l : List ℕ) → length l ≤ position 61 l → none ≡ assigned l
 unfolding signed
 assigned-none l h =
-    write-none (natural (take (place 61 l) l))
-    ∙ ap (λ (z : List ℕ). writing (natural (take (place 61 l) l)) (signed z)) (sym (drop-of-length-le l {i = suc (place 61 l)} (omega arith)))
+    write-none (natural (take (position 61 l) l))
+    ∙ ap (λ (z : List ℕ). writing (natural (take (position 61 l) l)) (signed z)) (sym (drop-of-length-le l {i = suc (position 61 l)} (omega arith)))
 
 pub op-empty : (l : List ℕ) → length l ≡ 0 → none ≡ operation l
 unfolding operation
@@ -53,7 +53,7 @@ op-other (x ∷ xs) n m k = rw (ne-eqb x 114 m, ne-eqb x 119 k)
 
 -- an operation has two bytes at least
 pub op-long : (l : List ℕ) (o : Op) → some o ≡ operation l → 2 ≤ length l
-unfolding operation natural place
+unfolding operation natural position
 op-long [] o e = let z : _≡_ {A = ℕ} 0 1 = cc in absurd (omega arith)
 op-long (x ∷ []) o e = go (eqb x 114) (eqb x 119) e
   where
@@ -75,7 +75,7 @@ ops-snoc (l ∷ ks) (j ∷ is) (w ∷ vs) k i v e f =
     ap {B = List Op} (λ os. record { kind = l; item = j; value = w } ∷ os) (ops-snoc ks is vs k i v (omega arith) (omega arith))
 
 module _ (ks is : List ℕ) (vs : List ℤ) (n : ℕ) (hk : n < length ks) (hi : n < length is) (hv : n < length vs) (k i : ℕ) (v : ℤ) where
-  pub ops-more : operationsIn (n + 1) (set ks n k) (set is n i) (set vs n v) ≡ operationsIn n ks is vs ++ (record { kind = k; item = i; value = v } ∷ [])
+  pub ops-more : firstOperations (n + 1) (set ks n k) (set is n i) (set vs n v) ≡ firstOperations n ks is vs ++ (record { kind = k; item = i; value = v } ∷ [])
   ops-more =
       ap (λ (l : List ℕ). opsOf l (take (n + 1) (set is n i)) (take (n + 1) (set vs n v))) (take-more ks n k hk)
       ∙ ap (λ (l : List ℕ). opsOf (take n ks ++ (k ∷ [])) l (take (n + 1) (set vs n v))) (take-more is n i hi)
@@ -86,7 +86,7 @@ module _ (ks is : List ℕ) (vs : List ℤ) (n : ℕ) (hk : n < length ks) (hi :
 
 -- the first n operations and the next
 module _ (ks is : List ℕ) (vs : List ℤ) (n : ℕ) (hk : n < length ks) (hi : n < length is) (hv : n < length vs) (v : ℤ) (e : v ≡ getD vs n (pos 0)) where
-  pub ops-next : operationsIn (n + 1) ks is vs ≡ operationsIn n ks is vs ++ (record { kind = getD ks n 0; item = getD is n 0; value = v } ∷ [])
+  pub ops-next : firstOperations (n + 1) ks is vs ≡ firstOperations n ks is vs ++ (record { kind = getD ks n 0; item = getD is n 0; value = v } ∷ [])
   ops-next =
       ap (λ (l : List ℕ). opsOf l (take (n + 1) is) (take (n + 1) vs)) (take-next ks n 0 (getD ks n 0) hk refl)
       ∙ ap (λ (l : List ℕ). opsOf (take n ks ++ (getD ks n 0 ∷ [])) l (take (n + 1) vs)) (take-next is n 0 (getD is n 0) hi refl)
@@ -96,7 +96,7 @@ module _ (ks is : List ℕ) (vs : List ℤ) (n : ℕ) (hk : n < length ks) (hi :
       (length-take-le n vs (omega arith) ∙ sym (length-take-le n ks (omega arith)))
 
 -- the first n, of lists of so many
-pub ops-least : (ks is : List ℕ) (vs : List ℤ) (i n m : ℕ) → i ≡ min n m → length ks ≡ m → length is ≡ m → length vs ≡ m → operationsIn i ks is vs ≡ operationsIn n ks is vs
+pub ops-least : (ks is : List ℕ) (vs : List ℤ) (i n m : ℕ) → i ≡ min n m → length ks ≡ m → length is ≡ m → length vs ≡ m → firstOperations i ks is vs ≡ firstOperations n ks is vs
 ops-least ks is vs i n m e hk hi hv =
     ap (λ (l : List ℕ). opsOf l (take i is) (take i vs)) (take-least ks i n m e hk)
     ∙ ap (λ (l : List ℕ). opsOf (take n ks) l (take i vs)) (take-least is i n m e hi)
@@ -129,7 +129,7 @@ items-snoc [] (n ∷ ms) p m e = absurd (omega arith)
 items-snoc (q ∷ ps) [] p m e = absurd (omega arith)
 items-snoc (q ∷ ps) (n ∷ ms) p m e = ap {B = List Item} (λ is. record { primary = q; mask = n } ∷ is) (items-snoc ps ms p m (omega arith))
 
-pub items-more : (ps ms : List ℕ) (n : ℕ) → n < length ps → n < length ms → (p m : ℕ) → itemsIn (n + 1) (set ps n p) (set ms n m) ≡ itemsIn n ps ms ++ (record { primary = p; mask = m } ∷ [])
+pub items-more : (ps ms : List ℕ) (n : ℕ) → n < length ps → n < length ms → (p m : ℕ) → firstItems (n + 1) (set ps n p) (set ms n m) ≡ firstItems n ps ms ++ (record { primary = p; mask = m } ∷ [])
 items-more ps ms n hp hm p m =
     ap (λ (l : List ℕ). itemsOf l (take (n + 1) (set ms n m))) (take-more ps n p hp)
     ∙ ap (λ (l : List ℕ). itemsOf (take n ps ++ (p ∷ [])) l) (take-more ms n m hm)
@@ -146,7 +146,7 @@ masks-of [] (m ∷ ms) e = absurd (omega arith)
 masks-of (p ∷ ps) [] e = absurd (omega arith)
 masks-of (p ∷ ps) (m ∷ ms) e = ap {B = List ℕ} (λ l. m ∷ l) (masks-of ps ms (omega arith))
 
--- ---- items two by two, up to a place
+-- ---- items two by two, up to a position
 module _ (l : List ℕ) (at : ℕ) (ys : List Item) (o : Option (List Item)) (e : o ≡ ahead ys (placed (drop at l))) where
   pub items-end : length l ≤ at → o ≡ some ys
   unfolding placed
@@ -173,5 +173,5 @@ module _ (l : List ℕ) (at : ℕ) (ys : List Item) (o : Option (List Item)) (e 
       items-next m =
           e
           ∙ ap (λ (x : List ℕ). ahead ys (placed x)) two-on
-          ∙ ap (λ (b : Bool). ahead ys (joined (cond b (some (record { primary = getD l at 0; mask = getD l (at + 1) 0 })) none) (placed (drop (at + 1 + 1) l)))) (le-leb (getD l (at + 1) 0) 255 m)
+          ∙ ap (λ (b : Bool). ahead ys (consBoth (cond b (some (record { primary = getD l at 0; mask = getD l (at + 1) 0 })) none) (placed (drop (at + 1 + 1) l)))) (le-leb (getD l (at + 1) 0) 255 m)
           ∙ ahead-more ys (record { primary = getD l at 0; mask = getD l (at + 1) 0 }) (placed (drop (at + 1 + 1) l))

@@ -17,8 +17,8 @@ use Rattle.placement.specs.Placement.{Item}
 use Rattle.protocol.specs.Calls.{Call, setUp, commit, Outcome, perform}
 use Rattle.network_layout.specs.InWords.{meaning}
 use Rattle.network_layout.specs.Promises.{Performed}
-use Rattle.script_notation.specs.Fields.{space, place, fields, fieldsFrom}
-use Rattle.script_notation.specs.Parse.{on, one, two, setUpWith, setUpOf, commitWith, commitOf, called, byLetter, longest, parse, all, operation, placed, listed, exact, operationsIn, itemsIn}
+use Rattle.script_notation.specs.Fields.{space, position, fields, fieldsFrom}
+use Rattle.script_notation.specs.Parse.{on, one, two, setUpWith, setUpOf, commitWith, commitOf, called, byLetter, longest, parse, all, operation, placed, listed, exact, firstOperations, firstItems}
 use Rattle.script_notation.specs.Print.{print, fieldsOf, answerMost, Put}
 use Rattle.script_notation.specs.Answers.{replied, Replied}
 use Rattle.script_notation.proofs.Places.{field-next, fields-end}
@@ -128,16 +128,16 @@ set-up-of [] h = absurd (omega arith)
 set-up-of (a ∷ []) h = absurd (omega arith)
 set-up-of (a ∷ (b ∷ l)) h = refl
 
-pub set-up-with : (sites items n : ℕ) (ps ms : List ℕ) → length (take n ms) ≡ length (take n ps) → some (setUp sites items (take n ps) (take n ms)) ≡ some (setUpWith sites items (itemsIn n ps ms))
+pub set-up-with : (sites items n : ℕ) (ps ms : List ℕ) → length (take n ms) ≡ length (take n ps) → some (setUp sites items (take n ps) (take n ms)) ≡ some (setUpWith sites items (firstItems n ps ms))
 set-up-with sites items n ps ms e =
     ap (λ (l : List ℕ). some (setUp sites items l (take n ms))) (sym (primaries-of (take n ps) (take n ms) e))
-    ∙ ap (λ (l : List ℕ). some (setUp sites items (map (λ (i : Item). i .primary) (itemsIn n ps ms)) l)) (sym (masks-of (take n ps) (take n ms) e))
+    ∙ ap (λ (l : List ℕ). some (setUp sites items (map (λ (i : Item). i .primary) (firstItems n ps ms)) l)) (sym (masks-of (take n ps) (take n ms) e))
 
 -- ---- commit
 pub commit-with : (site n : ℕ) (ks is : List ℕ) (vs : List ℤ) → length (take n is) ≡ length (take n ks) → length (take n vs) ≡ length (take n ks)
-    → some (commit site (take n ks) (take n is) (take n vs)) ≡ some (commitWith site (operationsIn n ks is vs))
+    → some (commit site (take n ks) (take n is) (take n vs)) ≡ some (commitWith site (firstOperations n ks is vs))
 commit-with site n ks is vs e f =
-    let os = operationsIn n ks is vs in
+    let os = firstOperations n ks is vs in
     ap (λ (l : List ℕ). some (commit site l (take n is) (take n vs))) (sym (kinds-of (take n ks) (take n is) (take n vs) e f))
     ∙ ap (λ (l : List ℕ). some (commit site (map (λ (o : Op). o .kind) os) l (take n vs))) (sym (items-of (take n ks) (take n is) (take n vs) e f))
     ∙ ap (λ (l : List ℤ). some (commit site (map (λ (o : Op). o .kind) os) (map (λ (o : Op). o .item) os) l)) (sym (values-of (take n ks) (take n is) (take n vs) e f))
@@ -149,7 +149,7 @@ module _ (text : List ℕ) where
   pub no-site : length text < 2 → none ≡ commitOf (fieldsFrom text 2)
   no-site h = ap commitOf (sym (fields-end text 2 h))
 
-  module _ (h : 2 ≤ length text) (end : ℕ) (e : end ≡ 2 + place space (drop 2 text)) where
+  module _ (h : 2 ≤ length text) (end : ℕ) (e : end ≡ 2 + position space (drop 2 text)) where
     pub site-first : on (natural (take (end - 2) (drop 2 text))) (committing (fieldsFrom text (end + 1))) ≡ commitOf (fieldsFrom text 2)
     site-first = ap commitOf (sym (field-next text 2 end e h))
 
@@ -172,7 +172,7 @@ module _ (text : List ℕ) where
   unfolding parse
   too-long h = rw (lt-leb (length text) longest h)
 
-  module _ (h : length text ≤ longest) (end : ℕ) (e : end ≡ 0 + place space text) where
+  module _ (h : length text ≤ longest) (end : ℕ) (e : end ≡ 0 + position space text) where
     opened : byLetter (take end text ∷ fieldsFrom text (end + 1)) ≡ parse text
     unfolding parse
     opened =

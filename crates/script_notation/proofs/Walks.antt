@@ -10,9 +10,9 @@ use lib.ListN.{length, getD, take, drop, set, length-drop}
 use lib.Seq.{length-take-le, take-suc, take-suc-set}
 use Rattle.lists.proofs.Lists.{take-min}
 use borrow.Author.Tests.{not-true, not-false}
-use Rattle.script_notation.specs.Fields.{space, place, fieldsFrom}
+use Rattle.script_notation.specs.Fields.{space, position, fieldsFrom}
 use Rattle.script_notation.proofs.Places.{field-within, field-next, fields-end}
-use Rattle.script_notation.specs.Parse.{on, joined, all}
+use Rattle.script_notation.specs.Parse.{on, consBoth, all}
 
 module _ {B : Type 0} where
   -- what is done, in front of what is still to come
@@ -23,18 +23,18 @@ module _ {B : Type 0} where
   ahead-none none = refl
   ahead-none (some zs) = refl
 
-  pub ahead-more : (ys : List B) (y : B) (o : Option (List B)) → ahead ys (joined (some y) o) ≡ ahead (ys ++ (y ∷ [])) o
+  pub ahead-more : (ys : List B) (y : B) (o : Option (List B)) → ahead ys (consBoth (some y) o) ≡ ahead (ys ++ (y ∷ [])) o
   ahead-more ys y none = refl
   ahead-more ys y (some zs) = ap (λ (l : List B). some l) (sym (append-assoc ys (y ∷ []) zs))
 
 module _ {A B : Type 0} (f : A → Option B) where
   pub all-next : (ys : List B) (x : A) (xs : List A) (y : B) → some y ≡ f x → ahead ys (all f (x ∷ xs)) ≡ ahead (ys ++ (y ∷ [])) (all f xs)
   unfolding all
-  all-next ys x xs y e = ap (λ (o : Option B). ahead ys (joined o (all f xs))) (sym e) ∙ ahead-more ys y (all f xs)
+  all-next ys x xs y e = ap (λ (o : Option B). ahead ys (consBoth o (all f xs))) (sym e) ∙ ahead-more ys y (all f xs)
 
   pub all-out : (ys : List B) (x : A) (xs : List A) → none ≡ f x → ahead ys (all f (x ∷ xs)) ≡ none
   unfolding all
-  all-out ys x xs e = ap (λ (o : Option B). ahead ys (joined o (all f xs))) (sym e)
+  all-out ys x xs e = ap (λ (o : Option B). ahead ys (consBoth o (all f xs))) (sym e)
 
   pub all-end : (ys : List B) → ahead ys (all f []) ≡ some ys
   unfolding all
@@ -51,9 +51,9 @@ module _ {A : Type 0} (ok : Bool) (y : A) where
   pub is-false : ok ≡ false → none ≡ cond ok (some y) none
   is-false h = rw h
 
--- ---- a walk over the fields of a line, up to a place
+-- ---- a walk over the fields of a line, up to a position
 module _ {B : Type 0} (f : List ℕ → Option B) (text : List ℕ) (at : ℕ) (ys : List B) (o : Option (List B)) (e : o ≡ ahead ys (all f (fieldsFrom text at))) where
-  module _ (h : at ≤ length text) (end : ℕ) (g : end ≡ at + place space (drop at text)) where
+  module _ (h : at ≤ length text) (end : ℕ) (g : end ≡ at + position space (drop at text)) where
     opened : o ≡ ahead ys (all f (take (end - at) (drop at text) ∷ fieldsFrom text (end + 1)))
     opened = e ∙ ap (λ (fs : List (List ℕ)). ahead ys (all f fs)) (field-next text at end g h)
 

@@ -28,12 +28,12 @@ answers s [] = []
 answers s (l ∷ ls) = answer s l .bytes ∷ answers (answer s l .after) ls
 
 -- ---- what the contracts say
-abbrev pub isAccepted : Option Network → Option Call → Bool
-isAccepted s none = false
-isAccepted s (some call) = eqb (perform s call .number) 0
+abbrev pub callAccepted : Option Network → Option Call → Bool
+callAccepted s none = false
+callAccepted s (some call) = eqb (perform s call .number) 0
 
 -- the answer's bytes are at the front of the buffer, the rest of it as it was; the words mean the state after it, and are as they were where nothing was accepted
 pub record Replied (call : Option Call) (entry exit out₀ out : List ℕ) (size : ℕ) : Type 0 where
   pub printed : Put answerMost out₀ out 0 size (replied (meaning entry) call .bytes)
   pub after-is : meaning exit ≡ replied (meaning entry) call .after
-  pub kept : isAccepted (meaning entry) call ≡ false → exit ≡ entry
+  pub kept : callAccepted (meaning entry) call ≡ false → exit ≡ entry

@@ -11,15 +11,15 @@ use Rattle.timestamp.specs.Examples.{Comparison, comparisons}
 use Rattle.script_notation.specs.Answers.{answers}
 
 -- a line and its answer, as bytes
-pub record Line : Type 0 where
+pub record ScriptLine : Type 0 where
   pub input : List ℕ
   pub output : List ℕ
 
 pub record Table : Type 0 where
-  pub lines : List Line
+  pub lines : List ScriptLine
   pub pairs : List Comparison
 
-abbrev pub tenLines : List Line
+abbrev pub tenLines : List ScriptLine
 tenLines =
     record { input = 112 ∷ 32 ∷ 51 ∷ 32 ∷ 50 ∷ 32 ∷ 48 ∷ 32 ∷ 54 ∷ 32 ∷ 49 ∷ 32 ∷ 52 ∷ []; output = 48 ∷ [] }  -- p 3 2 0 6 1 4 | 0
     ∷ record { input = 99 ∷ 32 ∷ 48 ∷ 32 ∷ 119 ∷ 48 ∷ 61 ∷ 53 ∷ []; output = 48 ∷ 32 ∷ 48 ∷ 32 ∷ 48 ∷ 46 ∷ 49 ∷ [] }  -- c 0 w0=5 | 0 0 0.1
@@ -38,5 +38,5 @@ table = record { lines = tenLines; pairs = comparisons }
 
 -- every line is answered as the table has it, and of every pair the first timestamp is the earlier one
 pub record Holds (t : Table) : Type 0 where
-  pub lines-hold : answers none (map (λ (l : Line). l .input) (t .lines)) ≡ map (λ (l : Line). l .output) (t .lines)
+  pub lines-hold : answers none (map (λ (l : ScriptLine). l .input) (t .lines)) ≡ map (λ (l : ScriptLine). l .output) (t .lines)
   pub pairs-hold : map (λ (c : Comparison). order (c .first) (c .second)) (t .pairs) ≡ replicate (length (t .pairs)) Earlier

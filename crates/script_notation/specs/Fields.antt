@@ -9,10 +9,10 @@ use lib.Dec.{eqb, leb}
 abbrev pub space : ℕ
 space = 32
 
--- the place of the first byte b, or the length where there is none
-unfoldable pub place : ℕ → List ℕ → ℕ
-place b [] = 0
-place b (x ∷ xs) = cond (eqb x b) 0 (suc (place b xs))
+-- the position of the first byte b, or the length where there is none
+unfoldable pub position : ℕ → List ℕ → ℕ
+position b [] = 0
+position b (x ∷ xs) = cond (eqb x b) 0 (suc (position b xs))
 
 -- a byte more in front of the first field
 abbrev pub inFront : ℕ → List (List ℕ) → List (List ℕ)
@@ -24,6 +24,6 @@ unfoldable pub fields : List ℕ → List (List ℕ)
 fields [] = [] ∷ []
 fields (x ∷ xs) = cond (eqb x space) ([] ∷ fields xs) (inFront x (fields xs))
 
--- the fields of a line from a place on; none where the place is behind the line's end
+-- the fields of a line from a position on; none where the position is behind the line's end
 abbrev pub fieldsFrom : List ℕ → ℕ → List (List ℕ)
 fieldsFrom text from = cond (leb from (length text)) (fields (drop from text)) []

@@ -11,22 +11,22 @@ use Rattle.site.specs.Operations.{Op}
 use Rattle.placement.specs.Placement.{Item}
 use Rattle.protocol.specs.Calls.{Call, setUp, commit, dummy, epoch, deliver, schedule}
 use Rattle.protocol.specs.Steps.{opsOf, itemsOf}
-use Rattle.script_notation.specs.Fields.{place, fields}
+use Rattle.script_notation.specs.Fields.{position, fields}
 
 -- what a function makes of a thing, if there is one
 abbrev pub on : {A B : Type 0} → Option A → (A → Option B) → Option B
 on none f = none
 on (some x) f = f x
 
-abbrev pub joined : {A : Type 0} → Option A → Option (List A) → Option (List A)
-joined none ys = none
-joined (some y) none = none
-joined (some y) (some ys) = some (y ∷ ys)
+abbrev pub consBoth : {A : Type 0} → Option A → Option (List A) → Option (List A)
+consBoth none ys = none
+consBoth (some y) none = none
+consBoth (some y) (some ys) = some (y ∷ ys)
 
 -- what each element stands for; nothing where one stands for nothing
 unfoldable pub all : {A B : Type 0} → (A → Option B) → List A → Option (List B)
 all f [] = some []
-all f (x ∷ xs) = joined (f x) (all f xs)
+all f (x ∷ xs) = consBoth (f x) (all f xs)
 
 -- ---- operations: r and an item, or w, an item, = and a value
 abbrev pub reading : Option ℕ → Option Op
@@ -40,7 +40,7 @@ writing (some i) (some v) = some (record { kind = 1; item = i; value = v })
 
 -- a write is cut at its first =
 abbrev pub assigned : List ℕ → Option Op
-assigned l = writing (natural (take (place 61 l) l)) (signed (drop (suc (place 61 l)) l))
+assigned l = writing (natural (take (position 61 l) l)) (signed (drop (suc (position 61 l)) l))
 
 unfoldable pub operation : List ℕ → Option Op
 operation [] = none
@@ -53,7 +53,7 @@ itemOf p m = cond (leb m 255) (some (record { primary = p; mask = m })) none
 unfoldable pub placed : List ℕ → Option (List Item)
 placed [] = some []
 placed (p ∷ []) = none
-placed (p ∷ (m ∷ xs)) = joined (itemOf p m) (placed xs)
+placed (p ∷ (m ∷ xs)) = consBoth (itemOf p m) (placed xs)
 
 -- ---- calls
 abbrev pub one : (ℕ → Call) → List ℕ → Option Call
@@ -114,8 +114,8 @@ exact k o = on o (λ xs. cond (eqb (length xs) k) (some xs) none)
 abbrev pub listed : {A : Type 0} → Bool → List A → Option (List A)
 listed ok xs = cond ok (some xs) none
 
-abbrev pub operationsIn : ℕ → List ℕ → List ℕ → List ℤ → List Op
-operationsIn n ks is vs = opsOf (take n ks) (take n is) (take n vs)
+abbrev pub firstOperations : ℕ → List ℕ → List ℕ → List ℤ → List Op
+firstOperations n ks is vs = opsOf (take n ks) (take n is) (take n vs)
 
-abbrev pub itemsIn : ℕ → List ℕ → List ℕ → List Item
-itemsIn n ps ms = itemsOf (take n ps) (take n ms)
+abbrev pub firstItems : ℕ → List ℕ → List ℕ → List Item
+firstItems n ps ms = itemsOf (take n ps) (take n ms)

@@ -6,8 +6,8 @@ ghost use mathlib.Core.Bool.{false};
 ghost use Prim.Native.Nat.{_+_, _≤_};
 ghost use lib.ListN.{length, take, drop};
 ghost use Rattle.decimal.specs.Decimal.{natural, numberOf, integerOf};
-ghost use Rattle.script_notation.specs.Fields.{place, fieldsFrom};
-ghost use Rattle.script_notation.specs.Parse.{all, longest, listed, exact, reading as readingOf, writing as writingOf, assigned as assignedIn, operation as operationIn, operationsIn, placed, itemsIn};
+ghost use Rattle.script_notation.specs.Fields.{position, fieldsFrom};
+ghost use Rattle.script_notation.specs.Parse.{all, longest, listed, exact, reading as readingOf, writing as writingOf, assigned as assignedIn, operation as operationIn, firstOperations, placed, firstItems};
 ghost use mathlib.Core.Option.{none};
 ghost use Rattle.script_parsing.specs.Parsed.{operationOf};
 
@@ -17,9 +17,9 @@ pub struct Listed {
     pub count: usize,
 }
 
-// Where a byte first stands from a place on, or the end.
+// Where a byte first stands from a position on, or the end.
 pub fn find(text: &[u8], from: usize, byte: u8) -> usize
-    ensures { λ r. ⌜ r ≡ from + place byte (drop from (now (text .entry))) ⌝ }
+    ensures { λ r. ⌜ r ≡ from + position byte (drop from (now (text .entry))) ⌝ }
 {
     let mut i = from;
     while i < text.len() {
@@ -31,7 +31,7 @@ pub fn find(text: &[u8], from: usize, byte: u8) -> usize
     i
 }
 
-// The fields from a place on as numbers, from the front of a list.
+// The fields from a position on as numbers, from the front of a list.
 pub fn numbers(text: &[u8], from: usize, list: &mut [u32]) -> Listed
     requires { ⌜ (length (now text) ≤ longest) × (2 ≤ from) × (length (now list) ≡ 256) ⌝ }
     ensures { λ r. ⌜ (listed (r .ok) (take (r .count) (now (list .exit))) ≡ all natural (fieldsFrom (now (text .entry)) from)) × (r .count ≤ 256) ⌝ }
@@ -81,7 +81,7 @@ pub struct Parsed {
     pub value: i32,
 }
 
-// The operations in the fields from a place on, from the front of the lists.
+// The operations in the fields from a position on, from the front of the lists.
 pub fn operations(
     text: &[u8],
     from: usize,
@@ -90,7 +90,7 @@ pub fn operations(
     values: &mut [i32],
 ) -> Listed
     requires { ⌜ (length (now text) ≤ longest) × (4 ≤ from) × (length (now kinds) ≡ 170) × (length (now items) ≡ 170) × (length (now values) ≡ 170) ⌝ }
-    ensures { λ r. ⌜ (listed (r .ok) (operationsIn (r .count) (now (kinds .exit)) (now (items .exit)) (now (values .exit))) ≡ all operationIn (fieldsFrom (now (text .entry)) from)) × (r .count ≤ 170) ⌝ }
+    ensures { λ r. ⌜ (listed (r .ok) (firstOperations (r .count) (now (kinds .exit)) (now (items .exit)) (now (values .exit))) ≡ all operationIn (fieldsFrom (now (text .entry)) from)) × (r .count ≤ 170) ⌝ }
 {
     let mut at = from;
     let mut count = 0usize;
@@ -185,7 +185,7 @@ fn no_operation() -> Parsed
 // The items that numbers stand for two by two, from the front of the lists.
 pub fn items(list: &[u32], primaries: &mut [u32], masks: &mut [u8]) -> Listed
     requires { ⌜ (length (now list) ≤ 256) × (length (now primaries) ≡ 128) × (length (now masks) ≡ 128) ⌝ }
-    ensures { λ r. ⌜ (listed (r .ok) (itemsIn (r .count) (now (primaries .exit)) (now (masks .exit))) ≡ placed (now (list .entry))) × (r .count ≤ 128) ⌝ }
+    ensures { λ r. ⌜ (listed (r .ok) (firstItems (r .count) (now (primaries .exit)) (now (masks .exit))) ≡ placed (now (list .entry))) × (r .count ≤ 128) ⌝ }
 {
     let mut count = 0usize;
     let mut at = 0usize;

@@ -11,7 +11,7 @@ ghost use Prim.Native.Nat.{_+_, _≤_, _<_, min};
 ghost use lib.ListN.{length, take};
 ghost use Rattle.timestamp.specs.Timestamp.{stampOf, pairOf};
 ghost use Rattle.script_notation.specs.Fields.{space};
-ghost use Rattle.script_notation.specs.Parse.{operationsIn};
+ghost use Rattle.script_notation.specs.Parse.{firstOperations};
 ghost use Rattle.script_notation.specs.Print.{letter as letterOf, opText, opsText, recordText, recordMost, Put, tupleText, tuplesText, stampText, valuesText, print, fieldsOf, answerMost};
 ghost use mathlib.Core.Bool.{cond};
 ghost use lib.Dec.{eqb};
@@ -28,7 +28,7 @@ pub fn entry(
     values: &[i32; 8],
     out: &mut [u8; ANSWER],
 ) -> usize
-    ensures { λ r. ⌜ Put recordMost (now (out .entry)) (now (out .exit)) 0 r (recordText (record { site = site; stamp = stampOf t; ops = operationsIn count (now (kinds .entry)) (now (items .entry)) (now (values .entry)) })) ⌝ }
+    ensures { λ r. ⌜ Put recordMost (now (out .entry)) (now (out .exit)) 0 r (recordText (record { site = site; stamp = stampOf t; ops = firstOperations count (now (kinds .entry)) (now (items .entry)) (now (values .entry)) })) ⌝ }
 {
     let end = number(out, site);
     let behind = stamp(out, end, t);
@@ -44,7 +44,7 @@ fn operations(
     values: &[i32],
 ) -> usize
     requires { ⌜ (at + 192 ≤ length (now out)) × (length (now kinds) ≡ 8) × (length (now items) ≡ 8) × (length (now values) ≡ 8) ⌝ }
-    ensures { λ r. ⌜ Put 192 (now (out .entry)) (now (out .exit)) at r (opsText (operationsIn count (now (kinds .entry)) (now (items .entry)) (now (values .entry)))) ⌝ }
+    ensures { λ r. ⌜ Put 192 (now (out .entry)) (now (out .exit)) at r (opsText (firstOperations count (now (kinds .entry)) (now (items .entry)) (now (values .entry)))) ⌝ }
 {
     let n = shorter(count);
     let mut end = at;

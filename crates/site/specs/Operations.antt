@@ -1,5 +1,5 @@
 -- The operations of a commit: what each reads, and what they do to a table.
-use mathlib.Core.Bool.{Bool, cond}
+use mathlib.Core.Bool.{Bool, cond, _&&_}
 use mathlib.Core.List.{List, [], _∷_}
 use Prim.Native.Nat.{ℕ}
 use lib.IntN.{ℤ, pos}
@@ -12,11 +12,19 @@ pub record Op : Type 0 where
   pub item : ℕ
   pub value : ℤ
 
+-- what stands where there is no operation
+abbrev pub noOp : Op
+noOp = record { kind = 0; item = 0; value = pos 0 }
+
 abbrev pub reads : Op → Bool
 reads o = eqb (o .kind) 0
 
 abbrev pub writes : Op → Bool
 writes o = eqb (o .kind) 1
+
+-- the operation writes item k
+abbrev pub writesItem : ℕ → Op → Bool
+writesItem k o = writes o && eqb (o .item) k
 
 -- the value that a read gives: that of the table before the commit
 abbrev pub readValue : List ℤ → List ℤ → Op → ℤ

@@ -1,4 +1,4 @@
--- `decimal::spell` prints the last digit behind what it prints of the others. The measure is the number.
+-- `spell` prints the last digit behind what it prints of the others. The measure is the number.
 use native.Mathlib.Omega.{arith}
 use mathlib.Core.Path.{sym, ap, _∙_}
 use mathlib.Core.List.{[], _∷_}

@@ -1,4 +1,4 @@
--- `decimal::above_zero` takes a number of 31 bits.
+-- `above_zero` takes a number of 31 bits.
 use mathlib.Core.Path.{_∙_}
 use Rattle.decimal.proofs.Signs.{plus-none, plus-large, plus-is}
 use borrow.Author.Needs.{needs}

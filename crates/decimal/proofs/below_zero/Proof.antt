@@ -1,4 +1,4 @@
--- `decimal::below_zero` takes a number that is not 0 and at most 2 to the power 31.
+-- `below_zero` takes a number that is not 0 and at most 2 to the power 31.
 use mathlib.Core.Path.{_∙_}
 use Rattle.decimal.proofs.Signs.{minus-none, minus-zero, minus-large, minus-fits, minus-is}
 use borrow.Author.Needs.{needs}

@@ -1,4 +1,4 @@
--- `decimal::extra_zero` looks at the first byte where there are more.
+-- `extra_zero` looks at the first byte where there are more.
 use borrow.Author.Tests.{le-ltb, lt-ltb}
 use lib.ListN.{length}
 use borrow.Author.Needs.{needs}

@@ -1,4 +1,4 @@
--- `decimal::has_room` asks whether k bytes are left from a place on.
+-- `has_room` asks whether k bytes are left from a place on.
 use mathlib.Core.Path.{sym}
 use Prim.Native.Nat.{_+_}
 use native.Mathlib.Omega.{arith}

@@ -1,4 +1,4 @@
--- `decimal::magnitude` takes a number below zero away from -1.
+-- `magnitude` takes a number below zero away from -1.
 use Rattle.words.proofs.Signed.{bits-cast, bits-sub, bits-cast-2}
 use Rattle.decimal.proofs.Signs.{minus-magnitude, minus-room}
 use borrow.Author.Needs.{needs}

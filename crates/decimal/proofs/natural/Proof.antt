@@ -1,4 +1,4 @@
--- `decimal::natural` makes the tests of a number one after another.
+-- `natural` makes the tests of a number one after another.
 use mathlib.Core.Path.{sym, _∙_}
 use Rattle.decimal.proofs.Values.{natural-empty, natural-zero, natural-large, natural-is}
 use borrow.Author.Needs.{needs}

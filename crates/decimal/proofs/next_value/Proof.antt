@@ -1,4 +1,4 @@
--- `decimal::next_value` adds a digit, where the byte is one.
+-- `next_value` adds a digit, where the byte is one.
 use borrow.Author.Tests.{le-leb, lt-leb}
 use borrow.Author.Needs.{needs}
 use Rattle.decimal.proofs.next_value.Statement.{statement}

@@ -1,4 +1,4 @@
--- `decimal::put` spells a number where there is room.
+-- `put` spells a number where there is room.
 use mathlib.Core.Path.{sym, _∙_}
 use Prim.Native.Nat.{_+_}
 use native.Mathlib.Omega.{arith}

@@ -1,4 +1,4 @@
--- `decimal::put_signed` prints a minus sign before the magnitude of a number below zero.
+-- `put_signed` prints a minus sign before the magnitude of a number below zero.
 use mathlib.Core.Path.{sym, ap, _∙_}
 use mathlib.Core.List.{_∷_}
 use Prim.Native.Nat.{ℕ, _+_}

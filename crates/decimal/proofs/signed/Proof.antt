@@ -1,4 +1,4 @@
--- `decimal::signed` goes by the first byte.
+-- `signed` goes by the first byte.
 use mathlib.Core.Path.{ap, _∙_}
 use Rattle.decimal.specs.Decimal.{natural, negative, notNegative}
 use Prim.Native.Nat.{_-_}

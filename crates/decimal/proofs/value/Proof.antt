@@ -1,4 +1,4 @@
--- `decimal::value` walks the digits: what is told of the rest behind the value so far is what is told of all.
+-- `value` walks the digits: what is told of the rest behind the value so far is what is told of all.
 use mathlib.Core.Path.{_≡_, refl, sym}
 use Prim.Native.Nat.{_≤_, _-_}
 use native.Mathlib.Omega.{arith}

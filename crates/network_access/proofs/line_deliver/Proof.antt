@@ -1,4 +1,4 @@
--- `line_deliver` changes one line of the network, as `lines::deliver` changes its words.
+-- `line_deliver` changes one line of the network, as `deliver` changes its words.
 use Rattle.lines.specs.Lines.{deliveredOrSame}
 use Rattle.network_access.proofs.AccessLaws.{line-stepped}
 use borrow.Author.Needs.{needs}

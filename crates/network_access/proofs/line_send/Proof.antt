@@ -1,4 +1,4 @@
--- `line_send` changes one line of the network, as `lines::send` changes its words.
+-- `line_send` changes one line of the network, as `send` changes its words.
 use Rattle.lines.specs.Lines.{sentOrSame}
 use Rattle.lines.specs.InWords.{messageOf}
 use Rattle.network_access.proofs.AccessLaws.{line-stepped}

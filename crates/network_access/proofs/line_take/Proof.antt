@@ -1,4 +1,4 @@
--- `line_take` changes one line of the network, as `lines::take` changes its words.
+-- `line_take` changes one line of the network, as `take` changes its words.
 use Rattle.lines.specs.Lines.{takenOrSame}
 use Rattle.network_access.proofs.AccessLaws.{line-stepped}
 use borrow.Author.Needs.{needs}

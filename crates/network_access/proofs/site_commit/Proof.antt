@@ -1,4 +1,4 @@
--- `site_commit` changes one site of the network, as `site::commit` changes its words, and hands on the operations as recorded.
+-- `site_commit` changes one site of the network, as `commit` changes its words, and hands on the operations as recorded.
 use mathlib.Core.Path.{ap, _∙_}
 use Prim.Native.Nat.{min}
 use Rattle.site.specs.Operations.{worked}

@@ -1,4 +1,4 @@
--- `site_dummy` changes one site of the network, as `site::dummy` changes its words.
+-- `site_dummy` changes one site of the network, as `dummy` changes its words.
 use Rattle.site.specs.Site.{dummied}
 use Rattle.network_access.proofs.AccessLaws.{site-stepped}
 use borrow.Author.Needs.{needs}

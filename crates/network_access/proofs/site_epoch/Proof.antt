@@ -1,4 +1,4 @@
--- `site_epoch` changes one site of the network, as `site::epoch` changes its words.
+-- `site_epoch` changes one site of the network, as `epoch` changes its words.
 use Rattle.site.specs.Site.{atEpoch}
 use Rattle.network_access.proofs.AccessLaws.{site-stepped}
 use borrow.Author.Needs.{needs}

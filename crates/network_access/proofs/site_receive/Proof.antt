@@ -1,4 +1,4 @@
--- `site_receive` changes one site of the network, as `site::receive` changes its words.
+-- `site_receive` changes one site of the network, as `receive` changes its words.
 use Prim.Native.Nat.{min}
 use Rattle.timestamp.specs.Timestamp.{stampOf}
 use Rattle.site.specs.Site.{received}

@@ -6,7 +6,7 @@ use lib.ListN.{getD}
 use Rattle.lines.specs.Lines.{commit, noLine}
 use Rattle.lists.specs.Lists.{any}
 use Rattle.protocol.specs.Network.{noRecord}
-use Rattle.protocol.specs.Waiting.{writesItem}
+use Rattle.site.specs.Operations.{writesItem}
 use Rattle.network_layout.specs.InWords.{networkIn}
 use Rattle.network_layout.proofs.Performs.{records-count}
 use Rattle.network_waiting.proofs.WaitingLaws.{few-made, message-none, message-some}

@@ -1,4 +1,4 @@
--- `operations::is_write_of` asks for the kind, then for the item.
+-- `is_write_of` asks for the kind, then for the item.
 use mathlib.Core.Path.{sym, ap, _∙_}
 use mathlib.Core.Bool.{Bool, _&&_}
 use Prim.Native.Nat.{ℕ}

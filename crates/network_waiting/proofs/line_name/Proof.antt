@@ -1,4 +1,4 @@
--- `state::line_name` reads the first word of the message's place.
+-- `line_name` reads the first word of the message's place.
 use native.Mathlib.Omega.{arith}
 use Rattle.network_waiting.proofs.WaitingLaws.{message-low, message-named}
 use borrow.Author.Needs.{needs}

@@ -1,7 +1,7 @@
--- `state::record_writes` asks the words of the record's operations.
+-- `record_writes` asks the words of the record's operations.
 use mathlib.Core.Path.{ap, _∙_}
 use Rattle.lists.specs.Lists.{any}
-use Rattle.protocol.specs.Waiting.{writesItem}
+use Rattle.site.specs.Operations.{writesItem}
 use Rattle.network_access.proofs.AccessLaws.{ops-counted}
 use borrow.Author.Needs.{needs}
 use Rattle.network_waiting.proofs.record_writes.Statement.{statement}

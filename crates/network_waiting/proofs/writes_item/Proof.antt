@@ -1,4 +1,4 @@
--- `operations::writes_item` leaves at the first operation that writes the item.
+-- `writes_item` leaves at the first operation that writes the item.
 use mathlib.Core.Path.{_≡_, refl, sym, ap, _∙_}
 use mathlib.Core.List.{[]}
 use Prim.Native.Nat.{_≤_, _-_}
@@ -8,7 +8,7 @@ use Rattle.site.specs.InWords.{opIn, opsIn}
 use Rattle.site.proofs.Laws.{ops-length, ops-at}
 use Rattle.lists.specs.Lists.{any}
 use Rattle.lists.proofs.Some.{some-true, some-next, some-done}
-use Rattle.protocol.specs.Waiting.{writesItem}
+use Rattle.site.specs.Operations.{writesItem}
 use borrow.Author.Needs.{needs}
 use Rattle.network_waiting.proofs.writes_item.Statement.{statement}
 use Rattle.network_waiting.proofs.writes_item.Tie as tie

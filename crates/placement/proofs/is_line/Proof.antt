@@ -7,13 +7,13 @@ use Rattle.lists.specs.Lists.{any}
 use Rattle.placement.specs.Placement.{isLine}
 use Rattle.placement.specs.InWords.{itemsIn}
 use Rattle.limits.specs.Limits.{itemsMost}
-use Rattle.placement.proofs.Items.{joined, found, not-yet, not-found}
+use Rattle.placement.proofs.Items.{givesLine, found, not-yet, not-found}
 use borrow.Author.Needs.{needs}
 use Rattle.placement.proofs.is_line.Statement.{statement}
 use Rattle.placement.proofs.is_line.Tie as tie
 
 abbrev Inv-loop : tie.InvT-loop
-Inv-loop w items p c n k₀ k = any (joined p c) (itemsIn (min items itemsMost) w) ≡ any (joined p c) (drop k (itemsIn (min items itemsMost) w))
+Inv-loop w items p c n k₀ k = any (givesLine p c) (itemsIn (min items itemsMost) w) ≡ any (givesLine p c) (drop k (itemsIn (min items itemsMost) w))
 
 abbrev μ-loop : tie.MeasureT-loop
 μ-loop w items p c n k₀ k = n - k
@@ -32,7 +32,7 @@ unfolding isLine
 returns c =
     let h = c .before .before .before in
     let A = h .before .before .before .args in
-    sym (found (joined (A .p) (A .c)) (min (A .items) itemsMost) (A .w .now) (h .loop .k) (h .loop .inv) (omega (arith, h .before .few .ensures)) (sym (c .before .joins .ensures) ∙ c .if1 .taken))
+    sym (found (givesLine (A .p) (A .c)) (min (A .items) itemsMost) (A .w .now) (h .loop .k) (h .loop .inv) (omega (arith, h .before .few .ensures)) (sym (c .before .joins .ensures) ∙ c .if1 .taken))
 
 add-k : tie.Need-add-k Inv-loop μ-loop
 add-k c = search needs
@@ -44,14 +44,14 @@ loop-again : tie.Need-loop-again Inv-loop μ-loop
 loop-again c =
     let h = c .before .before .before in
     let A = h .before .before .before .args in
-    not-yet (joined (A .p) (A .c)) (min (A .items) itemsMost) (A .w .now) (h .loop .k) (h .loop .inv) (omega (arith, h .before .few .ensures)) (sym (c .before .joins .ensures) ∙ c .if1 .left)
+    not-yet (givesLine (A .p) (A .c)) (min (A .items) itemsMost) (A .w .now) (h .loop .k) (h .loop .inv) (omega (arith, h .before .few .ensures)) (sym (c .before .joins .ensures) ∙ c .if1 .left)
 
 returns-2 : tie.Need-returns-2 Inv-loop μ-loop
 unfolding isLine
 returns-2 c =
     let h = c .before in
     let A = h .before .before .before .args in
-    sym (not-found (joined (A .p) (A .c)) (min (A .items) itemsMost) (A .w .now) (h .loop .k) (h .loop .inv) (omega (arith, h .before .few .ensures)))
+    sym (not-found (givesLine (A .p) (A .c)) (min (A .items) itemsMost) (A .w .now) (h .loop .k) (h .loop .inv) (omega (arith, h .before .few .ensures)))
 
 pub is-line-spec : {M : Type 1} → statement M
 is-line-spec =

@@ -1,4 +1,4 @@
--- `calls::commit` takes the site, and then the operations.
+-- `commit` takes the site, and then the operations.
 use mathlib.Core.Path.{ap, _∙_}
 use mathlib.Core.Option.{Option}
 use Prim.Native.Nat.{ℕ, _+_, _-_}

@@ -1,4 +1,4 @@
--- `calls::commit_at` takes the operations from a place on.
+-- `commit_at` takes the operations from a place on.
 use mathlib.Core.Path.{_≡_, sym, _∙_}
 use mathlib.Core.List.{List}
 use mathlib.Core.Option.{some}
@@ -7,7 +7,7 @@ use lib.ListN.{length, take}
 use lib.Seq.{length-take-le}
 use Rattle.site.specs.Operations.{Op}
 use Rattle.protocol.specs.Calls.{commit}
-use Rattle.script_notation.specs.Parse.{commitWith, operationsIn}
+use Rattle.script_notation.specs.Parse.{commitWith, firstOperations}
 use Rattle.script_notation.specs.Print.{print}
 use Rattle.script_notation.proofs.Replying.{replied-none, replied-as, replied-some, on-none, on-is, commit-with}
 use borrow.Author.Needs.{needs}
@@ -33,7 +33,7 @@ returns : tie.Need-returns
 returns c =
     let q = c .before .before .before .before .before .before .before .operations in
     replied-none _ (c .before .before .before .before .before .before .before .before .before .before .before .before .args .state .now)
-    (on-none (q .result .ok) (operationsIn (q .result .count) (q .last .1 .1 .0) (q .last .1 .1 .1 .0) (q .last .1 .1 .1 .1 .0)) _ (λ (os : List Op). some (commitWith (c .before .before .before .before .before .before .before .before .before .before .before .before .args .site) os)) (q .ensures .0) (c .before .before .if1 .taken))
+    (on-none (q .result .ok) (firstOperations (q .result .count) (q .last .1 .1 .0) (q .last .1 .1 .1 .0) (q .last .1 .1 .1 .1 .0)) _ (λ (os : List Op). some (commitWith (c .before .before .before .before .before .before .before .before .before .before .before .before .args .site) os)) (q .ensures .0) (c .before .before .if1 .taken))
     (c .question .ensures)
 
 array-share-prefix-kinds : tie.Need-array-share-prefix-kinds
@@ -86,7 +86,7 @@ returns-2 c =
     let takenV : length (take k W) ≡ k = length-take-le k W (omega arith) in
     replied-as
     (commit-with (c .before .before .before .before .before .before .before .before .before .before .before .before .before .before .before .before .before .args .site) k K I W (takenI ∙ sym takenK) (takenV ∙ sym takenK)
-    ∙ on-is (q .result .ok) (operationsIn k K I W) _ (λ (os : List Op). some (commitWith (c .before .before .before .before .before .before .before .before .before .before .before .before .before .before .before .before .before .args .site) os)) (q .ensures .0) (c .before .before .before .before .before .before .before .if1 .left))
+    ∙ on-is (q .result .ok) (firstOperations k K I W) _ (λ (os : List Op). some (commitWith (c .before .before .before .before .before .before .before .before .before .before .before .before .before .before .before .before .before .args .site) os)) (q .ensures .0) (c .before .before .before .before .before .before .before .if1 .left))
     (replied-some (commit (c .before .before .before .before .before .before .before .before .before .before .before .before .before .before .before .before .before .args .site) (take k K) (take k I) (take k W)) (c .before .before .commit .ensures .0) (c .committed .ensures))
 
 pub commit-at-spec : {M : Type 1} → statement M

@@ -1,4 +1,4 @@
--- `calls::deliver` takes two numbers.
+-- `deliver` takes two numbers.
 use mathlib.Core.Path.{_≡_, refl}
 use mathlib.Core.List.{[]}
 use native.Mathlib.Omega.{arith}

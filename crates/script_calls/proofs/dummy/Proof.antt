@@ -1,4 +1,4 @@
--- `calls::dummy` takes one number.
+-- `dummy` takes one number.
 use mathlib.Core.Path.{_≡_}
 use native.Mathlib.Omega.{arith}
 use lib.ListN.{length, getD}

@@ -1,4 +1,4 @@
--- `calls::epoch` takes two numbers.
+-- `epoch` takes two numbers.
 use mathlib.Core.Path.{_≡_, refl}
 use mathlib.Core.List.{[]}
 use native.Mathlib.Omega.{arith}

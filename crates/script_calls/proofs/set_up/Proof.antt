@@ -1,4 +1,4 @@
--- `calls::set_up` takes two numbers at least.
+-- `set_up` takes two numbers at least.
 use mathlib.Core.Path.{_≡_, sym, _∙_}
 use native.Mathlib.Omega.{arith}
 use lib.ListN.{length, take}
@@ -36,21 +36,21 @@ returns-2 c =
 array-share-prefix-list : tie.Need-array-share-prefix-list
 array-share-prefix-list c = search needs
 
-slice-aggregate-place : tie.Need-slice-aggregate-place
-slice-aggregate-place c =
+slice-aggregate-set-up-numbers : tie.Need-slice-aggregate-set-up-numbers
+slice-aggregate-set-up-numbers c =
     let n = c .before .before .before .before .before .numbers in
     let size : length (n .last .1 .1 .0) ≡ 256 = n .kept .1 .1 .0 in
     sym (length-take-le (n .result .count) (n .last .1 .1 .0) (omega (arith, n .ensures .1)))
 
-place-requires : tie.Need-place-requires
-place-requires c κs =
+set-up-numbers-requires : tie.Need-set-up-numbers-requires
+set-up-numbers-requires c κs =
     let n = c .before .before .before .before .before .before .before .numbers in
     let size : length (n .last .1 .1 .0) ≡ 256 = n .kept .1 .1 .0 in
     let taken : length (take (n .result .count) (n .last .1 .1 .0)) ≡ n .result .count = length-take-le (n .result .count) (n .last .1 .1 .0) (omega (arith, n .ensures .1)) in
     (omega arith, omega (arith, n .ensures .1))
 
 returns-3 : tie.Need-returns-3
-returns-3 c = let n = c .before .before .before .before .before .before .before .before .numbers in replied-as (on-is (n .result .ok) (take (n .result .count) (n .last .1 .1 .0)) _ setUpOf (n .ensures .0) (c .before .before .before .before .before .if1 .left)) (c .place .ensures)
+returns-3 c = let n = c .before .before .before .before .before .before .before .before .numbers in replied-as (on-is (n .result .ok) (take (n .result .count) (n .last .1 .1 .0)) _ setUpOf (n .ensures .0) (c .before .before .before .before .before .if1 .left)) (c .set-up-numbers .ensures)
 
 pub set-up-spec : {M : Type 1} → statement M
 set-up-spec =
@@ -63,6 +63,6 @@ set-up-spec =
     question-requires-2
     returns-2
     array-share-prefix-list
-    slice-aggregate-place
-    place-requires
+    slice-aggregate-set-up-numbers
+    set-up-numbers-requires
     returns-3)

@@ -1,4 +1,4 @@
--- `operations::assigned` cuts a write at its =.
+-- `assigned` cuts a write at its =.
 use mathlib.Core.Path.{_≡_, sym, ap, _∙_}
 use mathlib.Core.Option.{Option}
 use Prim.Native.Nat.{ℕ, _+_, _-_, suc}
@@ -9,7 +9,7 @@ use lib.IntN.{ℤ}
 use lib.ListN.{length, take, drop, length-drop}
 use lib.Seq.{length-take-le, take-all}
 use Rattle.decimal.specs.Decimal.{natural, signed, integerOf}
-use Rattle.script_notation.specs.Fields.{place}
+use Rattle.script_notation.specs.Fields.{position}
 use Rattle.script_notation.specs.Parse.{writing}
 use Rattle.script_notation.proofs.Parsing.{assigned-none}
 use borrow.Author.Needs.{needs}
@@ -23,7 +23,7 @@ no-operation-requires : tie.Need-no-operation-requires
 no-operation-requires c κs = search needs
 
 returns : tie.Need-returns
-returns c = let T = c .before .before .before .before .args .text .now in let e : c .before .before .find .result ≡ place 61 T = c .before .before .find .ensures ∙ zero-add (place 61 T) in c .no-operation .ensures ∙ assigned-none T (omega arith)
+returns c = let T = c .before .before .before .before .args .text .now in let e : c .before .before .find .result ≡ position 61 T = c .before .before .find .ensures ∙ zero-add (position 61 T) in c .no-operation .ensures ∙ assigned-none T (omega arith)
 
 slice-aggregate-natural : tie.Need-slice-aggregate-natural
 slice-aggregate-natural c = sym (length-take-le (c .before .before .find .result) (c .before .before .before .before .args .text .now) (omega arith))
@@ -53,11 +53,11 @@ returns-2 : tie.Need-returns-2
 returns-2 c =
     let T = c .before .before .before .before .before .before .before .before .args .text .now in
     let p = c .before .before .before .before .before .before .find .result in
-    let e : p ≡ place 61 T = c .before .before .before .before .before .before .find .ensures ∙ zero-add (place 61 T) in
-    let rest : take (length T - (p + 1)) (drop (p + 1) T) ≡ drop (suc (place 61 T)) T = take-all (length T - (p + 1)) (drop (p + 1) T) (omega (arith, length-drop (p + 1) T)) ∙ ap (λ (k : ℕ). drop k T) (add-one p ∙ ap suc e) in
+    let e : p ≡ position 61 T = c .before .before .before .before .before .before .find .ensures ∙ zero-add (position 61 T) in
+    let rest : take (length T - (p + 1)) (drop (p + 1) T) ≡ drop (suc (position 61 T)) T = take-all (length T - (p + 1)) (drop (p + 1) T) (omega (arith, length-drop (p + 1) T)) ∙ ap (λ (k : ℕ). drop k T) (add-one p ∙ ap suc e) in
     c .writing .ensures
     ∙ ap (λ (o : Option ℕ). writing o (integerOf (c .before .signed .result))) (c .before .before .before .natural .ensures ∙ ap (λ (k : ℕ). natural (take k T)) e)
-    ∙ ap (λ (o : Option ℤ). writing (natural (take (place 61 T) T)) o) (c .before .signed .ensures ∙ ap signed rest)
+    ∙ ap (λ (o : Option ℤ). writing (natural (take (position 61 T) T)) o) (c .before .signed .ensures ∙ ap signed rest)
 
 pub assigned-spec : {M : Type 1} → statement M
 assigned-spec =

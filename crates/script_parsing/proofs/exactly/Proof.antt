@@ -1,4 +1,4 @@
--- `fields::exactly` asks how many numbers there are.
+-- `exactly` asks how many numbers there are.
 use mathlib.Core.Path.{_≡_, _∙_}
 use native.Mathlib.Omega.{arith}
 use lib.ListN.{length, take}

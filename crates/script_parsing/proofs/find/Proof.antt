@@ -1,15 +1,15 @@
--- `fields::find` walks to the byte: from place i on it stands where it stood from the start on.
+-- `find` walks to the byte: from position i on it stands where it stood from the start on.
 use mathlib.Core.Path.{_≡_, refl}
 use Prim.Native.Nat.{_+_, _-_}
 use lib.ListN.{length, drop}
-use Rattle.script_notation.specs.Fields.{place}
+use Rattle.script_notation.specs.Fields.{position}
 use Rattle.script_notation.proofs.Places.{found-here, found-later, found-end}
 use borrow.Author.Needs.{needs}
 use Rattle.script_parsing.proofs.find.Statement.{statement}
 use Rattle.script_parsing.proofs.find.Tie as tie
 
 abbrev Inv-loop : tie.InvT-loop
-Inv-loop text from byte i₀ i = i + place byte (drop i text) ≡ from + place byte (drop from text)
+Inv-loop text from byte i₀ i = i + position byte (drop i text) ≡ from + position byte (drop from text)
 
 abbrev μ-loop : tie.MeasureT-loop
 μ-loop text from byte i₀ i = length text - i

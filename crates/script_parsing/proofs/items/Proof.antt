@@ -1,11 +1,11 @@
--- `items::items` takes the numbers two by two: the items done, in front of those still to come, are all.
+-- `items` takes the numbers two by two: the items done, in front of those still to come, are all.
 use mathlib.Core.Path.{_≡_, refl, sym, ap, _∙_}
 use mathlib.Core.List.{List}
 use Prim.Native.Nat.{_+_, _-_, _*_, _≤_}
 use native.Mathlib.Omega.{arith}
 use lib.ListN.{length, getD, drop, length-set}
 use Rattle.placement.specs.Placement.{Item}
-use Rattle.script_notation.specs.Parse.{placed, itemsIn}
+use Rattle.script_notation.specs.Parse.{placed, firstItems}
 use Rattle.script_notation.proofs.Walks.{ahead, ahead-none, is-false}
 use Rattle.script_notation.proofs.Parsing.{items-more, items-end, items-odd, items-large, items-next}
 use borrow.Author.Needs.{needs}
@@ -13,7 +13,7 @@ use Rattle.script_parsing.proofs.items.Statement.{statement}
 use Rattle.script_parsing.proofs.items.Tie as tie
 
 abbrev Inv-loop : tie.InvT-loop
-Inv-loop list primaries₀ masks₀ count₀ at₀ primaries masks count at = (at ≡ 2 * count) × (count ≤ 128) × (length primaries ≡ 128) × (length masks ≡ 128) × (placed list ≡ ahead (itemsIn count primaries masks) (placed (drop at list)))
+Inv-loop list primaries₀ masks₀ count₀ at₀ primaries masks count at = (at ≡ 2 * count) × (count ≤ 128) × (length primaries ≡ 128) × (length masks ≡ 128) × (placed list ≡ ahead (firstItems count primaries masks) (placed (drop at list)))
 
 abbrev μ-loop : tie.MeasureT-loop
 μ-loop list primaries₀ masks₀ count₀ at₀ primaries masks count at = length list + 1 - at
@@ -34,7 +34,7 @@ same-length-2 : tie.Need-same-length-2 Inv-loop μ-loop
 same-length-2 c = search needs
 
 returns : tie.Need-returns Inv-loop μ-loop
-returns c = let l = c .before .before .before .loop in (sym (is-false (c .no-list .result .ok) _ (c .no-list .ensures .0)) ∙ sym (items-odd (c .before .before .before .before .before .before .before .args .list .now) (l .at) (itemsIn (l .count) (l .primaries) (l .masks)) _ (l .inv .4) (c .before .before .loop-test .taken) (c .before .if1 .taken)), omega (arith, c .no-list .ensures .1))
+returns c = let l = c .before .before .before .loop in (sym (is-false (c .no-list .result .ok) _ (c .no-list .ensures .0)) ∙ sym (items-odd (c .before .before .before .before .before .before .before .args .list .now) (l .at) (firstItems (l .count) (l .primaries) (l .masks)) _ (l .inv .4) (c .before .before .loop-test .taken) (c .before .if1 .taken)), omega (arith, c .no-list .ensures .1))
 
 mul-mask : tie.Need-mul-mask Inv-loop μ-loop
 mul-mask c = omega arith
@@ -52,7 +52,7 @@ same-length-4 : tie.Need-same-length-4 Inv-loop μ-loop
 same-length-4 c = search needs
 
 returns-2 : tie.Need-returns-2 Inv-loop μ-loop
-returns-2 c = let l = c .before .before .before .before .before .loop in (sym (is-false (c .no-list2 .result .ok) _ (c .no-list2 .ensures .0)) ∙ sym (items-large (c .before .before .before .before .before .before .before .before .before .args .list .now) (l .at) (itemsIn (l .count) (l .primaries) (l .masks)) _ (l .inv .4) (c .before .before .before .before .loop-test .taken) (c .before .before .before .if1 .left) (c .before .if2 .taken)), omega (arith, c .no-list2 .ensures .1))
+returns-2 c = let l = c .before .before .before .before .before .loop in (sym (is-false (c .no-list2 .result .ok) _ (c .no-list2 .ensures .0)) ∙ sym (items-large (c .before .before .before .before .before .before .before .before .before .args .list .now) (l .at) (firstItems (l .count) (l .primaries) (l .masks)) _ (l .inv .4) (c .before .before .before .before .loop-test .taken) (c .before .before .before .if1 .left) (c .before .if2 .taken)), omega (arith, c .no-list2 .ensures .1))
 
 mul-primaries : tie.Need-mul-primaries Inv-loop μ-loop
 mul-primaries c = omega arith
@@ -91,7 +91,7 @@ loop-again c =
       omega arith,
       length-set (l .primaries) (l .count) p ∙ l .inv .2,
       length-set (l .masks) (l .count) m ∙ l .inv .3,
-      items-next L (l .at) (itemsIn (l .count) (l .primaries) (l .masks)) _ (l .inv .4) (c .before .before .before .before .loop-test .taken) (c .before .before .before .if1 .left) (c .before .if2 .left)
+      items-next L (l .at) (firstItems (l .count) (l .primaries) (l .masks)) _ (l .inv .4) (c .before .before .before .before .loop-test .taken) (c .before .before .before .if1 .left) (c .before .if2 .left)
           ∙ ap (λ (ys : List Item). ahead ys (placed (drop (l .at + 1 + 1) L))) (sym (items-more (l .primaries) (l .masks) (l .count) (omega arith) (omega arith) p m)),
     )
 
@@ -102,7 +102,7 @@ same-length-6 : tie.Need-same-length-6 Inv-loop μ-loop
 same-length-6 c = search needs
 
 returns-3 : tie.Need-returns-3 Inv-loop μ-loop
-returns-3 c = let l = c .before .loop in (sym (items-end (c .before .before .before .before .before .args .list .now) (l .at) (itemsIn (l .count) (l .primaries) (l .masks)) _ (l .inv .4) (c .loop-test .left)), l .inv .1)
+returns-3 c = let l = c .before .loop in (sym (items-end (c .before .before .before .before .before .args .list .now) (l .at) (firstItems (l .count) (l .primaries) (l .masks)) _ (l .inv .4) (c .loop-test .left)), l .inv .1)
 
 pub items-spec : {M : Type 1} → statement M
 items-spec =

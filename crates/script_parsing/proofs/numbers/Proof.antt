@@ -1,4 +1,4 @@
--- `fields::numbers` parses field after field: what is done, in front of what is still to come, is all. A field that is a number has a byte at least, so the list does not end before the line.
+-- `numbers` parses field after field: what is done, in front of what is still to come, is all. A field that is a number has a byte at least, so the list does not end before the line.
 use mathlib.Core.Path.{_≡_, sym, ap, _∙_}
 use mathlib.Core.List.{List}
 use Prim.Native.Nat.{ℕ, _+_, _-_, _*_, _≤_}

@@ -1,4 +1,4 @@
--- `operations::operation` goes by the first byte.
+-- `operation` goes by the first byte.
 use mathlib.Core.Path.{_≡_, ap, _∙_}
 use Prim.Native.Nat.{_-_}
 use native.Mathlib.Omega.{arith}

@@ -1,4 +1,4 @@
--- `operations::operations` parses field after field: what is done, in front of what is still to come, is all. An operation has two bytes at least, so the lists do not end before the line.
+-- `operations` parses field after field: what is done, in front of what is still to come, is all. An operation has two bytes at least, so the lists do not end before the line.
 use mathlib.Core.Path.{_≡_, sym, ap, _∙_}
 use mathlib.Core.List.{List}
 use Prim.Native.Nat.{_+_, _-_, _*_, _≤_, _<_}
@@ -9,7 +9,7 @@ use mir.Syntax.{w32}
 use mir.ValLaws.{toZ-ofZ}
 use Rattle.site.specs.Operations.{Op}
 use Rattle.script_notation.specs.Fields.{fieldsFrom}
-use Rattle.script_notation.specs.Parse.{all, operation, operationsIn}
+use Rattle.script_notation.specs.Parse.{all, operation, firstOperations}
 use Rattle.script_notation.proofs.Places.{field-within}
 use Rattle.script_notation.proofs.Parsing.{op-long, ops-more}
 use Rattle.script_notation.proofs.Walks.{ahead, ahead-none, is-some, is-none, is-false, walk-out, walk-next, walk-end, field-size}
@@ -18,7 +18,7 @@ use Rattle.script_parsing.proofs.operations.Statement.{statement}
 use Rattle.script_parsing.proofs.operations.Tie as tie
 
 abbrev Inv-loop : tie.InvT-loop
-Inv-loop text from kinds₀ items₀ values₀ at₀ count₀ kinds items values at count = (from + 3 * count ≤ at) × (count ≤ 170) × (length kinds ≡ 170) × (length items ≡ 170) × (length values ≡ 170) × (all operation (fieldsFrom text from) ≡ ahead (operationsIn count kinds items values) (all operation (fieldsFrom text at)))
+Inv-loop text from kinds₀ items₀ values₀ at₀ count₀ kinds items values at count = (from + 3 * count ≤ at) × (count ≤ 170) × (length kinds ≡ 170) × (length items ≡ 170) × (length values ≡ 170) × (all operation (fieldsFrom text from) ≡ ahead (firstOperations count kinds items values) (all operation (fieldsFrom text at)))
 
 abbrev μ-loop : tie.MeasureT-loop
 μ-loop text from kinds₀ items₀ values₀ at₀ count₀ kinds items values at count = length text + 1 - at
@@ -54,7 +54,7 @@ same-length-3 : tie.Need-same-length-3 Inv-loop μ-loop
 same-length-3 c = omega (arith, c .before .before .before .before .before .before .before .loop .inv .4, c .before .before .before .before .before .before .before .before .before .before .before .pre)
 
 returns : tie.Need-returns Inv-loop μ-loop
-returns c = let A = c .before .before .before .before .before .before .before .before .before .before .before .args in let l = c .before .before .before .before .before .before .before .loop in let o = c .before .before .before .operation .result in (sym (is-false (c .no-list .result .ok) _ (c .no-list .ensures .0)) ∙ sym (walk-out operation (A .text .now) (l .at) (operationsIn (l .count) (l .kinds) (l .items) (l .values)) _ (l .inv .5) (c .before .before .before .before .before .before .loop-test .taken) (c .before .before .before .before .before .find .result) (c .before .before .before .before .before .find .ensures) (is-none (o .ok) (record { kind = o .kind; item = o .item; value = o .value }) (c .before .if1 .taken) ∙ c .before .before .before .operation .ensures)), omega (arith, c .no-list .ensures .1))
+returns c = let A = c .before .before .before .before .before .before .before .before .before .before .before .args in let l = c .before .before .before .before .before .before .before .loop in let o = c .before .before .before .operation .result in (sym (is-false (c .no-list .result .ok) _ (c .no-list .ensures .0)) ∙ sym (walk-out operation (A .text .now) (l .at) (firstOperations (l .count) (l .kinds) (l .items) (l .values)) _ (l .inv .5) (c .before .before .before .before .before .before .loop-test .taken) (c .before .before .before .before .before .find .result) (c .before .before .before .before .before .find .ensures) (is-none (o .ok) (record { kind = o .kind; item = o .item; value = o .value }) (c .before .if1 .taken) ∙ c .before .before .before .operation .ensures)), omega (arith, c .no-list .ensures .1))
 
 slice-write-kinds : tie.Need-slice-write-kinds Inv-loop μ-loop
 slice-write-kinds c = omega (arith, c .before .before .before .before .before .before .loop .inv .0, c .before .before .before .before .before .before .loop .inv .2, c .before .before .before .before .before .before .before .before .before .before .pre)
@@ -87,7 +87,7 @@ loop-again c =
     let l = c .before .before .before .before .before .before .before .loop in
     let o = c .before .before .before .operation .result in
     let op : Op = record { kind = o .kind; item = o .item; value = o .value } in
-    let ops = operationsIn (l .count) (l .kinds) (l .items) (l .values) in
+    let ops = firstOperations (l .count) (l .kinds) (l .items) (l .values) in
     let some-is = is-some (o .ok) op (c .before .if1 .left) ∙ c .before .before .before .operation .ensures in
     let long = op-long _ op some-is in
     let size = field-size operation T (l .at) ops _ (l .inv .5) (c .before .before .before .before .before .before .loop-test .taken) (c .before .before .before .before .before .find .result) (c .before .before .before .before .before .find .ensures) in
@@ -100,7 +100,7 @@ loop-again c =
       length-set (l .values) (l .count) _ ∙ l .inv .4,
       walk-next operation T (l .at) ops _ (l .inv .5) (c .before .before .before .before .before .before .loop-test .taken) (c .before .before .before .before .before .find .result) (c .before .before .before .before .before .find .ensures) op some-is
           ∙ ap (λ (ys : List Op). ahead ys (all operation (fieldsFrom T (c .before .before .before .before .before .find .result + 1))))
-          (sym (ap (λ (z : ℤ). operationsIn (l .count + 1) (set (l .kinds) (l .count) (o .kind)) (set (l .items) (l .count) (o .item)) (set (l .values) (l .count) z)) value
+          (sym (ap (λ (z : ℤ). firstOperations (l .count + 1) (set (l .kinds) (l .count) (o .kind)) (set (l .items) (l .count) (o .item)) (set (l .values) (l .count) z)) value
           ∙ ops-more (l .kinds) (l .items) (l .values) (l .count) (omega (arith, l .inv .2)) (omega (arith, l .inv .3)) (omega (arith, l .inv .4)) (o .kind) (o .item) (o .value))),
     )
 
@@ -114,7 +114,7 @@ same-length-6 : tie.Need-same-length-6 Inv-loop μ-loop
 same-length-6 c = omega (arith, c .before .loop .inv .4, c .before .before .before .before .before .pre)
 
 returns-2 : tie.Need-returns-2 Inv-loop μ-loop
-returns-2 c = let l = c .before .loop in (sym (walk-end operation (c .before .before .before .before .before .args .text .now) (l .at) (operationsIn (l .count) (l .kinds) (l .items) (l .values)) _ (l .inv .5) (c .loop-test .left)), l .inv .1)
+returns-2 c = let l = c .before .loop in (sym (walk-end operation (c .before .before .before .before .before .args .text .now) (l .at) (firstOperations (l .count) (l .kinds) (l .items) (l .values)) _ (l .inv .5) (c .loop-test .left)), l .inv .1)
 
 pub operations-spec : {M : Type 1} → statement M
 operations-spec =

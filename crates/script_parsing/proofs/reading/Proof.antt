@@ -1,4 +1,4 @@
--- `operations::reading` takes an item's number.
+-- `reading` takes an item's number.
 use mathlib.Core.Path.{ap, _∙_}
 use Rattle.script_notation.specs.Parse.{reading}
 use Rattle.script_notation.proofs.Walks.{is-some, is-none}

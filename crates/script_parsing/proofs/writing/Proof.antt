@@ -1,4 +1,4 @@
--- `operations::writing` takes an item's number and a value.
+-- `writing` takes an item's number and a value.
 use mathlib.Core.Path.{ap, _∙_}
 use mathlib.Core.Option.{Option, some}
 use Prim.Native.Nat.{ℕ}

@@ -1,4 +1,4 @@
--- `printing::behind_byte` prints a number behind a byte.
+-- `behind_byte` prints a number behind a byte.
 use mathlib.Core.Path.{_∙_}
 use native.Mathlib.Omega.{arith}
 use lib.ListN.{length-set}

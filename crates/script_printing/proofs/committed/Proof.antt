@@ -1,4 +1,4 @@
--- `printing::committed` prints the number and, of an accepted commit, the timestamp and the values read.
+-- `committed` prints the number and, of an accepted commit, the timestamp and the values read.
 use mathlib.Core.List.{[]}
 use native.Mathlib.Omega.{arith}
 use lib.ListN.{take}

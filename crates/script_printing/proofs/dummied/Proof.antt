@@ -1,4 +1,4 @@
--- `printing::dummied` prints the number and, of an accepted dummy, its timestamp.
+-- `dummied` prints the number and, of an accepted dummy, its timestamp.
 use mathlib.Core.List.{[]}
 use native.Mathlib.Omega.{arith}
 use Rattle.timestamp.specs.Timestamp.{stampOf}

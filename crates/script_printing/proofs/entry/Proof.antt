@@ -1,4 +1,4 @@
--- `entries::entry` prints the site, the timestamp and the operations.
+-- `entry` prints the site, the timestamp and the operations.
 use native.Mathlib.Omega.{arith}
 use Rattle.script_notation.proofs.Putting.{put-then, put-end}
 use borrow.Author.Needs.{needs}

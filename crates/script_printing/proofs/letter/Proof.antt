@@ -1,4 +1,4 @@
--- `entries::letter` goes by the kind.
+-- `letter` goes by the kind.
 use borrow.Author.Tests.{eq-eqb, ne-eqb}
 use Rattle.script_printing.proofs.letter.Statement.{statement}
 use Rattle.script_printing.proofs.letter.Tie as tie

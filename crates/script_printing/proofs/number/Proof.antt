@@ -1,4 +1,4 @@
--- `printing::number` prints a number at the front.
+-- `number` prints a number at the front.
 use native.Mathlib.Omega.{arith}
 use Rattle.decimal.proofs.Digits.{digits-short}
 use borrow.Author.Needs.{needs}

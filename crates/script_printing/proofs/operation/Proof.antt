@@ -1,4 +1,4 @@
--- `entries::operation` prints a space, the letter with the item, and the value behind an equals sign.
+-- `operation` prints a space, the letter with the item, and the value behind an equals sign.
 use mathlib.Core.Path.{_≡_, ap, _∙_}
 use mathlib.Core.List.{_∷_, _++_}
 use Prim.Native.Nat.{ℕ, _+_}

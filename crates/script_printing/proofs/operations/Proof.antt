@@ -1,4 +1,4 @@
--- `entries::operations` prints operation after operation: the first i are printed.
+-- `operations` prints operation after operation: the first i are printed.
 use mathlib.Core.Path.{_≡_, refl, ap, _∙_}
 use Prim.Native.Nat.{_+_, _-_, _*_, _≤_, min}
 use native.Mathlib.Omega.{arith}
@@ -6,7 +6,7 @@ use lib.IntN.{pos}
 use lib.ListN.{length, getD}
 use mir.Syntax.{w32}
 use mir.ValLaws.{toZ-ofZ}
-use Rattle.script_notation.specs.Parse.{operationsIn}
+use Rattle.script_notation.specs.Parse.{firstOperations}
 use Rattle.script_notation.specs.Print.{spaced, opText, opsText, Put}
 use Rattle.script_notation.proofs.Putting.{put-none, put-then, put-as, put-end, spaced-next}
 use Rattle.script_notation.proofs.Parsing.{ops-next, ops-least}
@@ -15,7 +15,7 @@ use Rattle.script_printing.proofs.operations.Statement.{statement}
 use Rattle.script_printing.proofs.operations.Tie as tie
 
 abbrev Inv-loop : tie.InvT-loop
-Inv-loop out₀ at count kinds items values n end₀ i₀ out end i = (i ≤ n) × (n ≡ min count 8) × (length out ≡ length out₀) × Put (24 * i) out₀ out at end (opsText (operationsIn i kinds items values))
+Inv-loop out₀ at count kinds items values n end₀ i₀ out end i = (i ≤ n) × (n ≡ min count 8) × (length out ≡ length out₀) × Put (24 * i) out₀ out at end (opsText (firstOperations i kinds items values))
 
 abbrev μ-loop : tie.MeasureT-loop
 μ-loop out₀ at count kinds items values n end₀ i₀ out end i = n - i
@@ -63,7 +63,7 @@ loop-again c =
       omega arith,
       l .inv .1,
       c .before .before .operation .kept .0 ∙ l .inv .2,
-      put-as (omega arith) (spaced-next opText (operationsIn (l .i) ks is vs) (operationsIn (l .i + 1) ks is vs) _ next) (put-then (omega (arith, c .before .before .before .before .before .before .before .before .before .before .before .before .before .pre .0, l .inv .1)) (l .inv .3) (c .before .before .operation .ensures)),
+      put-as (omega arith) (spaced-next opText (firstOperations (l .i) ks is vs) (firstOperations (l .i + 1) ks is vs) _ next) (put-then (omega (arith, c .before .before .before .before .before .before .before .before .before .before .before .before .before .pre .0, l .inv .1)) (l .inv .3) (c .before .before .operation .ensures)),
     )
 
 same-length : tie.Need-same-length Inv-loop μ-loop

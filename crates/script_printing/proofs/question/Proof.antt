@@ -1,4 +1,4 @@
--- `printing::question` prints one byte at the front.
+-- `question` prints one byte at the front.
 use native.Mathlib.Omega.{arith}
 use mathlib.Core.Path.{refl}
 use Rattle.script_notation.proofs.Putting.{put-as, put-byte}

@@ -1,4 +1,4 @@
--- `printing::scheduled` prints the number and, of an accepted schedule, the parent and the timestamp.
+-- `scheduled` prints the number and, of an accepted schedule, the parent and the timestamp.
 use mathlib.Core.List.{[]}
 use native.Mathlib.Omega.{arith}
 use Rattle.timestamp.specs.Timestamp.{stampOf}

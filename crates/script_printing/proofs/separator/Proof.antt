@@ -1,4 +1,4 @@
--- `printing::separator` is a space before the first tuple.
+-- `separator` is a space before the first tuple.
 use borrow.Author.Tests.{eq-eqb, ne-eqb}
 use Rattle.script_printing.proofs.separator.Statement.{statement}
 use Rattle.script_printing.proofs.separator.Tie as tie

@@ -1,4 +1,4 @@
--- `printing::stamp` prints the epoch and then the tuples.
+-- `stamp` prints the epoch and then the tuples.
 use native.Mathlib.Omega.{arith}
 use Rattle.script_notation.proofs.Putting.{put-then}
 use borrow.Author.Needs.{needs}

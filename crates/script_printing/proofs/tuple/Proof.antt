@@ -1,4 +1,4 @@
--- `printing::tuple` prints a site behind the byte and a count behind a point.
+-- `tuple` prints a site behind the byte and a count behind a point.
 use native.Mathlib.Omega.{arith}
 use Rattle.script_notation.proofs.Putting.{put-then}
 use borrow.Author.Needs.{needs}

@@ -1,4 +1,4 @@
--- `printing::tuples` prints tuple after tuple: the first i are printed.
+-- `tuples` prints tuple after tuple: the first i are printed.
 use mathlib.Core.Path.{_≡_, refl, ap, _∙_}
 use mathlib.Core.List.{_∷_, _++_}
 use Prim.Native.Nat.{ℕ, _+_, _-_, _*_, _≤_}

@@ -1,4 +1,4 @@
--- `printing::value` prints a value behind a byte.
+-- `value` prints a value behind a byte.
 use mathlib.Core.Path.{ap, _∙_}
 use native.Mathlib.Omega.{arith}
 use mir.Syntax.{w32}

@@ -1,4 +1,4 @@
--- `printing::values` prints value after value: the first i are printed.
+-- `values` prints value after value: the first i are printed.
 use mathlib.Core.Path.{_≡_, refl, ap, _∙_}
 use Prim.Native.Nat.{ℕ, _+_, _-_, _*_, _≤_, min}
 use native.Mathlib.Omega.{arith}

@@ -1,4 +1,4 @@
--- `site::commit` records the operations on the table as it was, writes it, and raises the own count.
+-- `commit` records the operations on the table as it was, writes it, and raises the own count.
 use mathlib.Core.Path.{ap, _∙_}
 use mathlib.Core.List.{List}
 use Prim.Native.Nat.{min}

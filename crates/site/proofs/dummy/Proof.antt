@@ -1,4 +1,4 @@
--- `site::dummy` reads the timestamp, raises its own count, and writes it back.
+-- `dummy` reads the timestamp, raises its own count, and writes it back.
 use mathlib.Core.Path.{refl}
 use Rattle.timestamp.specs.Timestamp.{stampOf, raisedOrSame}
 use Rattle.site.specs.Site.{dummied}

@@ -1,4 +1,4 @@
--- `site::epoch` reads the timestamp, gives it another epoch, and writes it back.
+-- `epoch` reads the timestamp, gives it another epoch, and writes it back.
 use mathlib.Core.Path.{refl}
 use Rattle.timestamp.specs.Timestamp.{Stamp, stampOf, withEpoch}
 use Rattle.site.specs.Site.{atEpoch}

@@ -1,4 +1,4 @@
--- `site::put_stamp` writes the first 18 words; the table is behind them.
+-- `put_stamp` writes the first 18 words; the table is behind them.
 use mathlib.Core.Path.{_∙_}
 use native.Mathlib.Omega.{arith}
 use Rattle.words.proofs.Parts.{part-length}

@@ -1,4 +1,4 @@
--- `site::receive` writes the table, reads the own tuple, and adds it to the message's timestamp.
+-- `receive` writes the table, reads the own tuple, and adds it to the message's timestamp.
 use mathlib.Core.Path.{ap, _∙_}
 use Prim.Native.Nat.{min}
 use native.Mathlib.Omega.{arith}

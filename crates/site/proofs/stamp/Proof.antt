@@ -1,4 +1,4 @@
--- `site::stamp` is the timestamp of the first 18 words.
+-- `stamp` is the timestamp of the first 18 words.
 use mathlib.Core.Path.{_∙_}
 use Rattle.site.proofs.Laws.{stamp-law}
 use borrow.Author.Needs.{needs}

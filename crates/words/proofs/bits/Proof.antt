@@ -1,4 +1,4 @@
--- `words::bits` gives the word of a signed value: the value itself, or its distance below the largest word.
+-- `bits` gives the word of a signed value: the value itself, or its distance below the largest word.
 use Rattle.words.proofs.Signed.{bits-cast, bits-plus, bits-sub, bits-cast-2, bits-room, bits-minus}
 use Rattle.words.proofs.bits.Statement.{statement}
 use Rattle.words.proofs.bits.Tie as tie

@@ -1,4 +1,4 @@
--- `words::copy` lays one slice over the front of another: up to i the words are the other's.
+-- `copy` lays one slice over the front of another: up to i the words are the other's.
 use mathlib.Core.Path.{_≡_, ap, _∙_}
 use mathlib.Core.List.{List, _++_}
 use Prim.Native.Nat.{ℕ, _≤_, _-_, min}

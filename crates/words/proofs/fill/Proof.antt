@@ -1,4 +1,4 @@
--- `words::fill` stores one word from the front on: up to i the words are that one.
+-- `fill` stores one word from the front on: up to i the words are that one.
 use mathlib.Core.Path.{_≡_, ap, _∙_}
 use mathlib.Core.List.{List, _++_, append-nil}
 use Prim.Native.Nat.{ℕ, _≤_, _-_}

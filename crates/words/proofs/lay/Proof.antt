@@ -1,4 +1,4 @@
--- `words::lay` copies into the part from a place on, where there is room.
+-- `lay` copies into the part from a place on, where there is room.
 use mathlib.Core.Path.{sym}
 use native.Mathlib.Omega.{arith}
 use Rattle.words.proofs.Walks.{laid-by, laid-out}

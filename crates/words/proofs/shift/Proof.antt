@@ -1,4 +1,4 @@
--- `words::shift` moves every word k places to the front: up to j the words are those k places on.
+-- `shift` moves every word k places to the front: up to j the words are those k places on.
 use mathlib.Core.Path.{_≡_, _∙_}
 use mathlib.Core.List.{_++_}
 use Prim.Native.Nat.{_≤_, _-_}

@@ -1,4 +1,4 @@
--- `words::store` sets one word, and past the end none.
+-- `store` sets one word, and past the end none.
 use mathlib.Core.Path.{sym}
 use lib.Seq.{set-out}
 use borrow.Author.Needs.{needs}

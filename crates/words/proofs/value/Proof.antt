@@ -1,4 +1,4 @@
--- `words::value` gives the signed value of a word.
+-- `value` gives the signed value of a word.
 use Rattle.words.proofs.Signed.{value-sub, value-minus}
 use borrow.Author.Needs.{needs}
 use Rattle.words.proofs.value.Statement.{statement}

@@ -1,4 +1,4 @@
--- `words::word` gives the word at a place, and 0 past the end.
+-- `word` gives the word at a place, and 0 past the end.
 use mathlib.Core.Path.{sym}
 use lib.ListN.{List·getD-eq-default}
 use borrow.Author.Needs.{needs}

@@ -1,4 +1,4 @@
--- `operations::op_word` lays one operation after those before it, its fields from the three lists.
+-- `op_word` lays one operation after those before it, its fields from the three lists.
 use native.Mathlib.Omega.{arith}
 use lib.IntN.{pos}
 use lib.ListN.{getD}

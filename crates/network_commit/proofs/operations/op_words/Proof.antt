@@ -1,4 +1,4 @@
--- `operations::op_words` lays one operation after another: the first i are those of the lists.
+-- `op_words` lays one operation after another: the first i are those of the lists.
 use mathlib.Core.Path.{_≡_, refl}
 use native.Mathlib.Omega.{arith}
 use Prim.Native.Nat.{_≤_, _-_}

@@ -1,4 +1,4 @@
--- `operations::value_read` adds the value of one operation, where it is a read, behind those before it.
+-- `value_read` adds the value of one operation, where it is a read, behind those before it.
 use mathlib.Core.Path.{refl}
 use Prim.Native.Nat.{_+_}
 use native.Mathlib.Omega.{arith}

@@ -1,4 +1,4 @@
--- `operations::values_read` adds one value after another: they are those of the reads among the first i operations.
+-- `values_read` adds one value after another: they are those of the reads among the first i operations.
 use mathlib.Core.Path.{_≡_, refl, ap, _∙_}
 use native.Mathlib.Omega.{arith}
 use Prim.Native.Nat.{ℕ, _≤_, _-_}

@@ -1,4 +1,4 @@
--- `operations::record` lays one operation after another: the first i are as the history keeps them.
+-- `record` lays one operation after another: the first i are as the history keeps them.
 use mathlib.Core.Path.{_≡_, refl}
 use mathlib.Core.List.{map}
 use Prim.Native.Nat.{_≤_, _-_, min}

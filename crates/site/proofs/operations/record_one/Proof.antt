@@ -1,4 +1,4 @@
--- `operations::record_one` lays one operation after those before it, a read with the value of the table.
+-- `record_one` lays one operation after those before it, a read with the value of the table.
 use mathlib.Core.Path.{ap, _∙_}
 use Prim.Native.Nat.{ℕ}
 use native.Mathlib.Omega.{arith}

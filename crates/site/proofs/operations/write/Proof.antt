@@ -1,4 +1,4 @@
--- `operations::write` does one operation after another: those from i on, done to the table as it is, give the table that all of them give.
+-- `write` does one operation after another: those from i on, done to the table as it is, give the table that all of them give.
 use mathlib.Core.Path.{_≡_, sym, ap, _∙_}
 use mathlib.Core.List.{List}
 use Prim.Native.Nat.{_≤_, _+_, _-_, min}

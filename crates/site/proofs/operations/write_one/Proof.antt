@@ -1,4 +1,4 @@
--- `operations::write_one` writes one operation's value to the table, where the operation writes.
+-- `write_one` writes one operation's value to the table, where the operation writes.
 use mathlib.Core.Path.{ap, _∙_}
 use Prim.Native.Nat.{ℕ}
 use lib.ListN.{set}

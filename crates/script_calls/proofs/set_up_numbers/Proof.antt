@@ -1,4 +1,4 @@
--- `calls::place` takes the items behind the first two numbers.
+-- `place` takes the items behind the first two numbers.
 use mathlib.Core.Path.{_≡_, refl, sym, ap, _∙_}
 use mathlib.Core.List.{List, []}
 use mathlib.Core.Option.{some}
@@ -9,13 +9,13 @@ use lib.Seq.{length-take-le, take-all}
 use Rattle.placement.specs.Placement.{Item}
 use Rattle.protocol.specs.Network.{noStamp}
 use Rattle.protocol.specs.Calls.{setUp}
-use Rattle.script_notation.specs.Parse.{placed, setUpWith, itemsIn}
+use Rattle.script_notation.specs.Parse.{placed, setUpWith, firstItems}
 use Rattle.script_notation.specs.Print.{fieldsOf}
 use Rattle.script_notation.proofs.Putting.{put-as, print-number}
 use Rattle.script_notation.proofs.Replying.{replied-none, replied-as, replied-some, on-none, on-is, set-up-of, set-up-with}
 use borrow.Author.Needs.{needs}
-use Rattle.script_calls.proofs.place.Statement.{statement}
-use Rattle.script_calls.proofs.place.Tie as tie
+use Rattle.script_calls.proofs.set_up_numbers.Statement.{statement}
+use Rattle.script_calls.proofs.set_up_numbers.Tie as tie
 
 sub-items : tie.Need-sub-items
 sub-items c = search needs
@@ -43,7 +43,7 @@ returns c =
     let T = c .before .before .before .before .before .before .before .before .before .before .before .args .list .now in
     let q = c .before .before .before .before .before .before .items in
     let rest : take (length T - 2) (drop 2 T) ≡ drop 2 T = take-all (length T - 2) (drop 2 T) (omega (arith, length-drop 2 T)) in
-    let xs = itemsIn (q .result .count) (q .last .1 .0) (q .last .1 .1 .0) in
+    let xs = firstItems (q .result .count) (q .last .1 .0) (q .last .1 .1 .0) in
     replied-none _ (c .before .before .before .before .before .before .before .before .before .before .before .args .state .now) (on-none (q .result .ok) xs (placed (drop 2 T)) (λ (is : List Item). some (setUpWith (getD T 0 0) (getD T 1 0) is)) (q .ensures .0 ∙ ap placed rest) (c .before .before .if1 .taken) ∙ set-up-of T (c .before .before .before .before .before .before .before .before .before .before .before .pre .0)) (c .question .ensures)
 
 shared-slice-read-set-up : tie.Need-shared-slice-read-set-up
@@ -90,12 +90,12 @@ returns-2 c =
     let b = getD T 1 0 in
     replied-as
     (set-up-with a b k P M (length-take-le k M (omega (arith, q .ensures .1)) ∙ sym (length-take-le k P (omega (arith, q .ensures .1))))
-    ∙ on-is (q .result .ok) (itemsIn k P M) (placed (drop 2 T)) (λ (is : List Item). some (setUpWith a b is)) (q .ensures .0 ∙ ap placed rest) (c .before .before .before .before .before .before .before .before .if1 .left)
+    ∙ on-is (q .result .ok) (firstItems k P M) (placed (drop 2 T)) (λ (is : List Item). some (setUpWith a b is)) (q .ensures .0 ∙ ap placed rest) (c .before .before .before .before .before .before .before .before .if1 .left)
     ∙ set-up-of T (c .before .before .before .before .before .before .before .before .before .before .before .before .before .before .before .before .before .pre .0))
     (replied-some (setUp a b (take k P) (take k M)) (c .before .before .set-up .ensures) (put-as (omega arith) (print-number (setUp a b (take k P) (take k M)) (fieldsOf (c .before .before .set-up .result) 0 noStamp []) refl) (c .number .ensures)))
 
-pub place-spec : {M : Type 1} → statement M
-place-spec =
+pub set-up-numbers-spec : {M : Type 1} → statement M
+set-up-numbers-spec =
     tie.close
     (tie.spec
     sub-items
