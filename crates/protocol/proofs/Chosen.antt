@@ -24,11 +24,13 @@ use Rattle.records.specs.Records.{Record}
 use Rattle.protocol.specs.Network.{linesMost, Network, noRecord, siteAt, lineAt, lineNumber, messageStamp, messageFits, wellShaped}
 use Rattle.lists.specs.Lists.{isEmpty, someBelow}
 use Rattle.lists.specs.Numbers.{numberIf}
-use Rattle.protocol.specs.Steps.{noSuchSite, scheduleNumber, head, headStamp, earlierOf, earliest, chosen, writesFor, scheduleNetwork}
+use Rattle.protocol.specs.Steps.{noSuchSite, scheduleNumber, head, headStamp, earlierOf, earliest, chosen, writesFor, scheduleNetwork, lacksArrived}
 use Rattle.lists.proofs.Numbers.{none-holds}
 use Rattle.lists.proofs.Lists.{set-each}
 use Rattle.protocol.proofs.WellShaped.{LineShape, Shape, shape-parts, shape-whole}
 use Rattle.protocol.proofs.Keeps.{placed-set, stamps-set, records-set}
+use Rattle.protocol.specs.Allowed.{ScheduleAllowed}
+use Rattle.protocol.proofs.Allowed.{schedule-allowed}
 
 either : (holds : ℕ → Type 0) (b : Bool) (p q : ℕ) → holds p → holds q → holds (cond b p q)
 either holds true p q x y = x
@@ -91,14 +93,8 @@ and-false true b e f = e
 and-false false b e f = absurd (true≢false (sym f))
 
 module _ (n : Network) (j : ℕ) (few : length (n .sites) ≤ sitesMost) (s : Shape n) (z : scheduleNumber n j ≡ 0) where
-  causes : (noSuchSite n j ≡ false) × (hasParents (n .items) j ≡ true) × (someBelow (λ p. isLine (n .items) p j && eqb (lineAt n p j .arrived) 0) sitesMost ≡ false)
-  unfolding scheduleNumber
-  causes =
-      let orphan = not (hasParents (n .items) j) in
-      let waits = someBelow (λ p. isLine (n .items) p j && eqb (lineAt n p j .arrived) 0) sitesMost in
-      let a = none-holds (noSuchSite n j) 6 (numberIf orphan 19 ∷ (numberIf waits 20 ∷ [])) z in
-      let b = none-holds orphan 18 (numberIf waits 20 ∷ []) (a .1) in
-      (a .0, not-false (hasParents (n .items) j) (b .0), none-holds waits 19 [] (b .1) .0)
+  allowed : ScheduleAllowed n j
+  allowed = schedule-allowed n j z
 
   -- ---- each parent's line has a message that has arrived
   module _ (p : ℕ) (line : isLine (n .items) p j ≡ true) where
@@ -110,7 +106,7 @@ module _ (n : Network) (j : ℕ) (few : length (n .sites) ≤ sitesMost) (s : Sh
         let l = lineAt n p j in
         eqb-false (l .arrived) 0
         (and-false (isLine (n .items) p j) (eqb (l .arrived) 0)
-        (none-below (λ q. isLine (n .items) q j && eqb (lineAt n q j .arrived) 0) sitesMost p (causes .2) (omega (arith, parent-up .0, parent-up .1))) line)
+        (none-below (lacksArrived n j) sitesMost p (allowed .all-arrived) (omega (arith, parent-up .0, parent-up .1))) line)
 
     pub parent-number : lineNumber p j < length (n .lines)
     parent-number = go (leb (length (n .lines)) (lineNumber p j)) refl
@@ -136,7 +132,7 @@ module _ (n : Network) (j : ℕ) (few : length (n .sites) ≤ sitesMost) (s : Sh
 
   -- ---- so has the chosen one's
   pub chosen-line : isLine (n .items) (chosen n j) j ≡ true
-  chosen-line = chosen-parent n j (s .placed) few (causes .1) .0
+  chosen-line = chosen-parent n j (s .placed) few (allowed .parents) .0
 
   pub chosen-up : (chosen n j < j) × (j < length (n .sites))
   chosen-up = parent-up (chosen n j) chosen-line
@@ -176,9 +172,9 @@ taken-shape xs h k l s =
       fitting = every-rest (messageFits h (k / sitesMost)) (l .messages) (s .fitting);
     }
 
-pub keeps-schedule : (n : Network) (j : ℕ) → length (n .lines) ≡ linesMost → length (n .sites) ≤ sitesMost → wellShaped n ≡ true → scheduleNumber n j ≡ 0 → wellShaped (scheduleNetwork n j) ≡ true
+pub keeps-schedule : (n : Network) (j : ℕ) → length (n .sites) ≤ sitesMost → wellShaped n ≡ true → scheduleNumber n j ≡ 0 → wellShaped (scheduleNetwork n j) ≡ true
 unfolding scheduleNetwork
-keeps-schedule n j _ few e z =
+keeps-schedule n j few e z =
     let s = shape-parts n e in
     let p = chosen n j in
     let m = head n p j in

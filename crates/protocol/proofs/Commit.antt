@@ -24,7 +24,7 @@ use Rattle.protocol.specs.Network.{Network, noRecord, siteAt, messageSta
 use Rattle.protocol.specs.Steps.{noSuchSite, countAtMost, someLineFull, opNumber, due, opsOf, wrongLists, commitNumber, commitNetwork, recordOf}
 use Rattle.lists.specs.Lists.{keep}
 use Rattle.lists.proofs.Numbers.{none-holds, none-first}
-use Rattle.protocol.proofs.Keeps.{OpShape, op-at, raised-made, keeps-commit}
+use Rattle.protocol.proofs.Keeps.{raised-made, keeps-commit}
 use Rattle.protocol.specs.Agreement.{holds}
 use Rattle.protocol.proofs.Values.{touches, wrote, lastFrom, lastValue, from-more, keep-more, none-kept, agree}
 use Rattle.protocol.proofs.Works.{worked-length, getD-worked, worked-size, worked-kinds, worked-reads, wrote-worked}
@@ -33,9 +33,11 @@ use Rattle.protocol.proofs.Added.{added-size, added-old, added-new, add
 use Rattle.protocol.proofs.Invariant.{stampAt, heardAt, tableAt, messagesAt, nthRecord, Named, Invariant, holder, touch-item, touch-owns, due-child, shaped, line-up, stamp-made, record-below, record-site, reaches}
 use Rattle.protocol.proofs.Calm.{changed, Calm, calm-past, calm-queue, calm-ahead, calm-behind, calm-heard, calm-owed, settled-value}
 use Rattle.protocol.proofs.Quiet.{moved, moved-each, moved-here, moved-many, mailed, mail-here, risen-before, risen-without, raise-calm}
+use Rattle.protocol.specs.Allowed.{CommitAllowed}
+use Rattle.protocol.proofs.Allowed.{OpAllowed, op-at}
 
 -- ---- operations of the same kinds on the same items
-like-shape : (xs : List Item) (i : ℕ) (o u : Op) → o .kind ≡ u .kind → o .item ≡ u .item → OpShape xs i u → OpShape xs i o
+like-shape : (xs : List Item) (i : ℕ) (o u : Op) → o .kind ≡ u .kind → o .item ≡ u .item → OpAllowed xs i u → OpAllowed xs i o
 like-shape xs i o u k x s =
     record {
       kind = omega (arith, s .kind);
@@ -76,7 +78,7 @@ module _ (n : Network) (inv : Invariant n) (i : ℕ) (os : List Op) (site : i < 
   rises = risen-before n inv i site few
 
   r-made : madeBy byNumber i (r .stamp) ≡ true
-  r-made = raised-made n (shaped n inv) i (lt-leb (length (n .sites)) i site) few
+  r-made = raised-made n (shaped n inv) i site few
 
   kinds : (a : ℕ) → (getD (r .ops) a noOp .kind ≡ getD os a noOp .kind) × (getD (r .ops) a noOp .item ≡ getD os a noOp .item)
   kinds a = worked-kinds (tableAt n i) (tableAt n i) os a
@@ -84,7 +86,7 @@ module _ (n : Network) (inv : Invariant n) (i : ℕ) (os : List Op) (site : i < 
   size : length (r .ops) ≡ length os
   size = worked-size (tableAt n i) (tableAt n i) os
 
-  r-allowed : (a : ℕ) → a < length (r .ops) → OpShape (n .items) i (getD (r .ops) a noOp)
+  r-allowed : (a : ℕ) → a < length (r .ops) → OpAllowed (n .items) i (getD (r .ops) a noOp)
   r-allowed a l = like-shape (n .items) i (getD (r .ops) a noOp) (getD os a noOp) (kinds a .0) (kinds a .1) (op-at (n .items) i os fit a (omega (arith, size)))
 
   -- ---- it is later than every site that holds what it writes
@@ -208,7 +210,7 @@ module _ (n : Network) (inv : Invariant n) (i : ℕ) (os : List Op) (site : i < 
           heard = calm-heard n inv ss ls later c;
           copy = λ j x l. commit-copy j x (omega (arith, moved-many n inv i new));
           read = added-each h r noRecord (λ k x. ReadsWell x) old-read new-read;
-          allowed = added-each h r noRecord (λ k x. (a : ℕ) → a < length (x .ops) → OpShape (n .items) (x .site) (getD (x .ops) a noOp)) (inv .allowed) r-allowed;
+          allowed = added-each h r noRecord (λ k x. (a : ℕ) → a < length (x .ops) → OpAllowed (n .items) (x .site) (getD (x .ops) a noOp)) (inv .allowed) r-allowed;
         }
 
   -- the stamp of its message; older messages mean what they did
@@ -226,28 +228,6 @@ module _ (n : Network) (inv : Invariant n) (i : ℕ) (os : List Op) (site : i < 
       commit-invariant
       (raise-calm n inv i site few new refl (worked-length (tableAt n i) os ∙ inv .sizes .tables i site) gets m later named w older)
 
--- what holds where no cause does
-pub commit-causes : (n : Network) (i : ℕ) (ks is : List ℕ) (vs : List ℤ) → commitNumber n i ks is vs ≡ 0
-    → (i < length (n .sites)) × (countAtMost n i ≡ false) × (firstNumber (map (opNumber (n .items) i) (opsOf ks is vs)) ≡ 0)
-unfolding commitNumber
-commit-causes n i ks is vs z =
-    let os = opsOf ks is vs in
-    let xs = n .items in
-    let sized = wrongLists (length ks) (length is) (length vs) in
-    let full = leb recordsMost (length (n .history)) in
-    let mail = someLineFull n i (due xs os) in
-    let most : List ℕ = numberIf (countAtMost n i) 14 ∷ [] in
-    let rest : List ℕ = numberIf full 12 ∷ (numberIf mail 13 ∷ most) in
-    let a = none-holds (noSuchSite n i) 6 (numberIf sized 8 ∷ (firstNumber (map (opNumber xs i) os) ∷ rest)) z in
-    let b = none-holds sized 7 (firstNumber (map (opNumber xs i) os) ∷ rest) (a .1) in
-    let c = none-first (firstNumber (map (opNumber xs i) os)) rest (b .1) in
-    let d = none-holds full 11 (numberIf mail 13 ∷ most) (c .1) in
-    let f = none-holds mail 12 most (d .1) in
-    let g = none-holds (countAtMost n i) 13 [] (f .1) in
-    (leb-false (length (n .sites)) i (a .0), g .0, c .0)
-
-pub commit-keeps : (n : Network) → Invariant n → (i : ℕ) (ks is : List ℕ) (vs : List ℤ) → commitNumber n i ks is vs ≡ 0 → Invariant (commitNetwork n i (opsOf ks is vs))
+pub commit-keeps : (n : Network) → Invariant n → (i : ℕ) (os : List Op) → CommitAllowed n i os → Invariant (commitNetwork n i os)
 unfolding commitNetwork
-commit-keeps n inv i ks is vs z =
-    let c = commit-causes n i ks is vs z in
-    commit-made n inv i (opsOf ks is vs) (c .0) (c .1) (c .2) (keeps-commit n i ks is vs (inv .sizes .lines) (inv .sizes .sites) (inv .shape) z)
+commit-keeps n inv i os z = commit-made n inv i os (z .there) (z .count-free) (z .each-op) (keeps-commit n i os (inv .shape) z)

@@ -24,10 +24,12 @@ use Rattle.protocol.specs.Book.{Book, bookStamp, withStamp, startStamps,
 use Rattle.protocol.specs.Agreement.{Known, nothingKnown, witnessed, learned, learnedAll, Always}
 use Rattle.protocol.proofs.Alike.{Alike, AllAlike, worked-alike, all-alike-add}
 use Rattle.protocol.proofs.Invariant.{stampAt, tableAt, Invariant, shaped}
-use Rattle.protocol.proofs.Quiet.{moved-here, risen, deliver-keeps, epoch-keeps, dummy-causes, dummy-keeps}
-use Rattle.protocol.proofs.Commit.{commit-causes, commit-keeps}
+use Rattle.protocol.proofs.Quiet.{moved-here, risen, deliver-keeps, epoch-keeps, dummy-keeps}
+use Rattle.protocol.proofs.Commit.{commit-keeps}
 use Rattle.protocol.proofs.Schedule.{schedule-keeps}
 use Rattle.protocol.proofs.SetUp.{set-up-starts}
+use Rattle.protocol.specs.Allowed.{SetUpAllowed, CommitAllowed, DummyAllowed, EpochAllowed, DeliverAllowed}
+use Rattle.protocol.proofs.Allowed.{set-up-allowed, commit-allowed, dummy-allowed, epoch-allowed, deliver-allowed}
 
 abbrev pub stampsOf : List Site → List Stamp
 stampsOf ss = map (λ (s : Site). s .stamp) ss
@@ -92,7 +94,7 @@ start-stamps : (i n : ℕ) → stampsOf (startSites i n) ≡ startStamps i n
 start-stamps i zero = refl
 start-stamps i (suc n) = ap (λ (ts : List Stamp). record { epoch = 0; tuples = record { site = i; count = 0 } ∷ [] } ∷ ts) (start-stamps (suc i) n)
 
-set-up-follows : (k : Known) → k .answered ≡ k .booked → (sites items : ℕ) (ps ms : List ℕ) → setUpNumber sites items ps ms ≡ 0
+set-up-follows : (k : Known) → k .answered ≡ k .booked → (sites items : ℕ) (ps ms : List ℕ) → SetUpAllowed sites items ps ms
     → Follows (witnessed k (setUp sites items ps ms) (accepted 0 noStamp [] (setUpNetwork sites ps ms)))
 unfolding noted setUpNetwork
 set-up-follows k same sites items ps ms z =
@@ -119,35 +121,33 @@ module _ (k : Known) (f : Follows k) where
   one-more : (t u : Stamp) → t ≡ u → k .answered ++ (t ∷ []) ≡ k .booked ++ (u ∷ [])
   one-more t u e = ap₂ (λ (ts : List Stamp) (s : Stamp). ts ++ (s ∷ [])) (f .answers-are) e
 
-  commit-follows : (i : ℕ) (ks is : List ℕ) (vs : List ℤ) → commitNumber n i ks is vs ≡ 0
+  commit-follows : (i : ℕ) (ks is : List ℕ) (vs : List ℤ) → CommitAllowed n i (opsOf ks is vs)
       → Follows (witnessed k (commit i ks is vs)
       (accepted 0 (recordOf n i (opsOf ks is vs) .stamp) (valuesRead (recordOf n i (opsOf ks is vs) .ops)) (commitNetwork n i (opsOf ks is vs))))
   unfolding noted commitNetwork
   commit-follows i ks is vs z =
       let os = opsOf ks is vs in
       let r = recordOf n i os in
-      let c = commit-causes n i ks is vs z in
       let t = raised (bookStamp b i) in
-      let same : r .stamp ≡ t = risen n (f .inv) i (c .0) (c .1) ∙ ap raised (book-stamp n b (f .stamps-are) i) in
+      let same : r .stamp ≡ t = risen n (f .inv) i (z .there) (z .count-free) ∙ ap raised (book-stamp n b (f .stamps-are) i) in
       let alike : Alike r (record { site = i; stamp = t; ops = os }) = record { site-same = refl; stamp-same = same; ops-alike = worked-alike (tableAt n i) (tableAt n i) os } in
       record {
         network = commitNetwork n i os;
         state-is = refl;
-        inv = commit-keeps n (f .inv) i ks is vs z;
+        inv = commit-keeps n (f .inv) i os z;
         items-are = f .items-are;
         stamps-are = book-moved n b (f .stamps-are) i (committed os (siteAt n i)) t same;
         commits-alike = all-alike-add (n .history) (b .commits) r (record { site = i; stamp = t; ops = os }) (f .commits-alike) alike;
         values-are = ap (λ (vs : List (List ℤ)). vs ++ (valuesRead (r .ops) ∷ [])) (f .values-are) ∙ sym (map-append (λ (x : Record). valuesRead (x .ops)) (n .history) (r ∷ []));
-        answers-are = one-more (r .stamp) (bookStamp (withStamp b i t) i) (same ∙ sym (book-has n b (f .stamps-are) i t (c .0)));
+        answers-are = one-more (r .stamp) (bookStamp (withStamp b i t) i) (same ∙ sym (book-has n b (f .stamps-are) i t (z .there)));
       }
 
-  dummy-follows : (i : ℕ) → dummyNumber n i ≡ 0 → Follows (witnessed k (dummy i) (accepted 0 (siteAt (dummyNetwork n i) i .stamp) [] (dummyNetwork n i)))
+  dummy-follows : (i : ℕ) → DummyAllowed n i → Follows (witnessed k (dummy i) (accepted 0 (siteAt (dummyNetwork n i) i .stamp) [] (dummyNetwork n i)))
   unfolding noted dummyNetwork
   dummy-follows i z =
       let new = dummied (siteAt n i) in
-      let c = dummy-causes n i z in
       let t = raised (bookStamp b i) in
-      let same : new .stamp ≡ t = risen n (f .inv) i (c .0) (c .1) ∙ ap raised (book-stamp n b (f .stamps-are) i) in
+      let same : new .stamp ≡ t = risen n (f .inv) i (z .there) (z .count-free) ∙ ap raised (book-stamp n b (f .stamps-are) i) in
       record {
         network = dummyNetwork n i;
         state-is = refl;
@@ -157,10 +157,10 @@ module _ (k : Known) (f : Follows k) where
         commits-alike = f .commits-alike;
         values-are = f .values-are;
         answers-are = one-more (siteAt (dummyNetwork n i) i .stamp) (bookStamp (withStamp b i t) i)
-            (ap (λ (s : Site). s .stamp) (moved-here n (f .inv) i new (c .0)) ∙ same ∙ sym (book-has n b (f .stamps-are) i t (c .0)));
+            (ap (λ (s : Site). s .stamp) (moved-here n (f .inv) i new (z .there)) ∙ same ∙ sym (book-has n b (f .stamps-are) i t (z .there)));
       }
 
-  epoch-follows : (i e : ℕ) → epochNumber n i e ≡ 0 → Follows (witnessed k (epoch i e) (accepted 0 noStamp [] (epochNetwork n i e)))
+  epoch-follows : (i e : ℕ) → EpochAllowed n i e → Follows (witnessed k (epoch i e) (accepted 0 noStamp [] (epochNetwork n i e)))
   unfolding noted epochNetwork
   epoch-follows i e z =
       record {
@@ -191,7 +191,7 @@ module _ (k : Known) (f : Follows k) where
         answers-are = f .answers-are;
       }
 
-  deliver-follows : (p c : ℕ) → deliverNumber n p c ≡ 0 → Follows (witnessed k (deliver p c) (accepted 0 noStamp [] (deliverNetwork n p c)))
+  deliver-follows : (p c : ℕ) → DeliverAllowed n p c → Follows (witnessed k (deliver p c) (accepted 0 noStamp [] (deliverNetwork n p c)))
   unfolding noted deliverNetwork
   deliver-follows p c z = still-follows (deliverNetwork n p c) (deliver-keeps n (f .inv) p c z) refl refl refl
 
@@ -221,11 +221,11 @@ module _ (k : Known) (f : Follows k) where
 -- ---- every call
 call-follows : (k : Known) → Follows k → (c : Call) → Follows (learned k c)
 unfolding perform
-call-follows k f (setUp sites items ps ms) = judged-follows k f (setUp sites items ps ms) _ _ refl (set-up-follows k (f .answers-are) sites items ps ms)
-call-follows k f (commit i ks is vs) = judged-follows k f (commit i ks is vs) _ _ refl (commit-follows k f i ks is vs)
-call-follows k f (dummy i) = judged-follows k f (dummy i) _ _ refl (dummy-follows k f i)
-call-follows k f (epoch i e) = judged-follows k f (epoch i e) _ _ refl (epoch-follows k f i e)
-call-follows k f (deliver p c) = judged-follows k f (deliver p c) _ _ refl (deliver-follows k f p c)
+call-follows k f (setUp sites items ps ms) = judged-follows k f (setUp sites items ps ms) _ _ refl (λ z. set-up-follows k (f .answers-are) sites items ps ms (set-up-allowed sites items ps ms z))
+call-follows k f (commit i ks is vs) = judged-follows k f (commit i ks is vs) _ _ refl (λ z. commit-follows k f i ks is vs (commit-allowed (f .network) i ks is vs z .1))
+call-follows k f (dummy i) = judged-follows k f (dummy i) _ _ refl (λ z. dummy-follows k f i (dummy-allowed (f .network) i z))
+call-follows k f (epoch i e) = judged-follows k f (epoch i e) _ _ refl (λ z. epoch-follows k f i e (epoch-allowed (f .network) i e z))
+call-follows k f (deliver p c) = judged-follows k f (deliver p c) _ _ refl (λ z. deliver-follows k f p c (deliver-allowed (f .network) p c z))
 call-follows k f (schedule j) = judged-follows k f (schedule j) _ _ refl (schedule-follows k f j)
 call-follows k f (waiting i) = judged-follows k f (waiting i) _ _ refl (waiting-follows k f i)
 
@@ -242,5 +242,5 @@ always holdsOf g s sites items ps ms z calls =
     let o = accepted 0 noStamp [] (setUpNetwork sites ps ms) in
     let none : m ≡ 0 = sym (judged-number m s o refl) ∙ z in
     let is : perform s c ≡ o = ap (λ (b : Bool). cond b o (refused m s)) (eq-eqb m 0 none) in
-    let first : Follows (learned (nothingKnown s) c) = subst (λ (x : Outcome). Follows (witnessed (nothingKnown s) c x)) (sym is) (set-up-follows (nothingKnown s) refl sites items ps ms none) in
+    let first : Follows (learned (nothingKnown s) c) = subst (λ (x : Outcome). Follows (witnessed (nothingKnown s) c x)) (sym is) (set-up-follows (nothingKnown s) refl sites items ps ms (set-up-allowed sites items ps ms none)) in
     g (learnedAll (nothingKnown s) (c ∷ calls)) (calls-follow (learned (nothingKnown s) c) first calls)

@@ -27,7 +27,7 @@ use Rattle.protocol.specs.Network.{linesMost, Network, siteAt, lineAt, l
 use Rattle.protocol.specs.Steps.{due}
 use Rattle.lists.specs.Lists.{keep}
 use Rattle.protocol.proofs.WellShaped.{Shape, shape-parts}
-use Rattle.protocol.proofs.Keeps.{OpShape}
+use Rattle.protocol.proofs.Allowed.{OpAllowed}
 use Rattle.protocol.proofs.Chosen.{message-made}
 use Rattle.protocol.specs.Agreement.{holds}
 use Rattle.protocol.proofs.Values.{touches, lastValue, recordAt}
@@ -88,7 +88,7 @@ pub record Invariant (n : Network) : Type 0 where
   pub read : (k : ℕ) → k < length (n .history) → (a : ℕ) → a < length (nthRecord n k .ops) → reads (getD (nthRecord n k .ops) a noOp) ≡ true
       → getD (nthRecord n k .ops) a noOp .value ≡ lastValue (getD (nthRecord n k .ops) a noOp .item) (keep (λ (r : Record). isEarlier (order (r .stamp) (nthRecord n k .stamp))) (n .history))
   -- a commit writes what its site owns, and reads what it owns or copies
-  pub allowed : (k : ℕ) → k < length (n .history) → (a : ℕ) → a < length (nthRecord n k .ops) → OpShape (n .items) (nthRecord n k .site) (getD (nthRecord n k .ops) a noOp)
+  pub allowed : (k : ℕ) → k < length (n .history) → (a : ℕ) → a < length (nthRecord n k .ops) → OpAllowed (n .items) (nthRecord n k .site) (getD (nthRecord n k .ops) a noOp)
 
 -- ---- the placement
 owner-is : (xs : List Item) (i x : ℕ) → owns xs i x ≡ true → getD xs x noItem .primary ≡ i
@@ -134,7 +134,7 @@ touch-due xs os j x e c =
     some-at (λ (o : Op). writes o && copies xs j (o .item)) os (w .0) noOp (w .1) (rw (w .2, ap (copies xs j) (w .3) ∙ c))
 
 -- operations that a site was allowed write what it owns
-module _ (xs : List Item) (i : ℕ) (os : List Op) (fits : (a : ℕ) → a < length os → OpShape xs i (getD os a noOp)) where
+module _ (xs : List Item) (i : ℕ) (os : List Op) (fits : (a : ℕ) → a < length os → OpAllowed xs i (getD os a noOp)) where
   pub touch-item : (x : ℕ) → touches x os ≡ true → x < length xs
   touch-item x e = let w = writing x os e in subst (λ (y : ℕ). y < length xs) (w .3) (fits (w .0) (w .1) .item)
 

@@ -31,6 +31,8 @@ use Rattle.protocol.specs.Steps.{itemsOf, startSite, startSites, setUpNu
 use Rattle.lists.proofs.Numbers.{none-holds, none-first, or-false}
 use Rattle.lists.proofs.Lists.{set-each}
 use Rattle.protocol.proofs.WellShaped.{sent-each, LineShape, RecordShape, Shape, shape-parts, shape-whole}
+use Rattle.protocol.specs.Allowed.{SetUpAllowed, CommitAllowed, DummyAllowed, EpochAllowed, DeliverAllowed}
+use Rattle.protocol.proofs.Allowed.{op-at}
 
 -- ---- set-up
 pub start-length : (i n : ℕ) → length (startSites i n) ≡ n
@@ -45,18 +47,14 @@ start-at i (suc n) (suc k) h = let next : suc i + k ≡ i + suc k = omega arith 
 no-line : (xs : List Item) (h : List Record) (k : ℕ) → LineShape xs h k noLine
 no-line xs h k = record { held = omega arith; placed = refl; fitting = refl }
 
-pub keeps-set-up : (sites items : ℕ) (ps ms : List ℕ) → setUpNumber sites items ps ms ≡ 0 → wellShaped (setUpNetwork sites ps ms) ≡ true
-unfolding setUpNumber setUpNetwork
-keeps-set-up sites items ps ms z =
+pub keeps-set-up : (sites items : ℕ) (ps ms : List ℕ) → SetUpAllowed sites items ps ms → wellShaped (setUpNetwork sites ps ms) ≡ true
+unfolding setUpNetwork
+keeps-set-up sites items ps ms allowed =
     let xs = itemsOf ps ms in
-    let wrong = outside 1 itemsMost items || (not (eqb (length ps) items) || not (eqb (length ms) items)) in
-    let a = none-holds (outside 1 sitesMost sites) 0 (numberIf wrong 2 ∷ (itemsNumber sites xs ∷ [])) z in
-    let b = none-holds wrong 1 (itemsNumber sites xs ∷ []) (a .1) in
-    let c = none-first (itemsNumber sites xs) [] (b .1) in
     let number : (k : ℕ) → 0 + k ≡ k = λ k. omega arith in
     shape-whole (setUpNetwork sites ps ms)
     (record {
-      placed = ap (λ (m : ℕ). itemsNumber m xs) (start-length 0 sites) ∙ c .0;
+      placed = ap (λ (m : ℕ). itemsNumber m xs) (start-length 0 sites) ∙ allowed .placed;
       stamps = λ i h.
           ap (λ (x : Site). madeBy byNumber i (x .stamp)) (start-at 0 sites i (omega (arith, start-length 0 sites)) ∙ ap startSite (number i))
           ∙ made-start byNumber i 0 0;
@@ -68,23 +66,18 @@ keeps-set-up sites items ps ms z =
 delivered-shape : (xs : List Item) (h : List Record) (k : ℕ) (l : Line) → l .arrived < length (l .messages) → LineShape xs h k l → LineShape xs h k (delivered l)
 delivered-shape xs h k l b s = record { held = omega arith; placed = s .placed; fitting = s .fitting }
 
-pub keeps-deliver : (n : Network) (p c : ℕ) → wellShaped n ≡ true → deliverNumber n p c ≡ 0 → wellShaped (deliverNetwork n p c) ≡ true
-unfolding deliverNumber deliverNetwork
-keeps-deliver n p c e z =
+pub keeps-deliver : (n : Network) (p c : ℕ) → wellShaped n ≡ true → DeliverAllowed n p c → wellShaped (deliverNetwork n p c) ≡ true
+unfolding deliverNetwork
+keeps-deliver n p c e allowed =
     let s = shape-parts n e in
     let l = lineAt n p c in
-    let all = leb (length (l .messages)) (l .arrived) in
-    let none = not (isLine (n .items) p c) in
-    let x = none-holds (noSuchSite n p || noSuchSite n c) 6 (numberIf none 17 ∷ (numberIf all 18 ∷ [])) z in
-    let y = none-holds none 16 (numberIf all 18 ∷ []) (x .1) in
-    let some-left : l .arrived < length (l .messages) = leb-false (length (l .messages)) (l .arrived) (none-holds all 17 [] (y .1) .0) in
     shape-whole (deliverNetwork n p c)
     (record {
       placed = s .placed;
       stamps = s .stamps;
       records = s .records;
       lined = set-each (LineShape (n .items) (n .history)) (n .lines) (lineNumber p c) (delivered l) noLine (s .lined)
-          (λ b. delivered-shape (n .items) (n .history) (lineNumber p c) l some-left (s .lined (lineNumber p c) b));
+          (λ b. delivered-shape (n .items) (n .history) (lineNumber p c) l (allowed .on-way) (s .lined (lineNumber p c) b));
     })
 
 -- ---- a site replaced by one whose timestamp it made too
@@ -103,17 +96,15 @@ epoch-made : (i e : ℕ) (t : Stamp) → madeBy byNumber i t ≡ true → madeBy
 unfolding madeBy
 epoch-made i e t m = m
 
-pub keeps-epoch : (n : Network) (i e : ℕ) → wellShaped n ≡ true → epochNumber n i e ≡ 0 → wellShaped (epochNetwork n i e) ≡ true
-unfolding epochNumber epochNetwork
-keeps-epoch n i e w z =
+pub keeps-epoch : (n : Network) (i e : ℕ) → wellShaped n ≡ true → EpochAllowed n i e → wellShaped (epochNetwork n i e) ≡ true
+unfolding epochNetwork
+keeps-epoch n i e w allowed =
     let s = shape-parts n w in
-    let low = leb e (siteAt n i .stamp .epoch) in
-    let site : i < length (n .sites) = leb-false (length (n .sites)) i (none-holds (noSuchSite n i) 6 (numberIf (hasParents (n .items) i) 15 ∷ (numberIf low 16 ∷ [])) z .0) in
     let new = atEpoch e (siteAt n i) in
     shape-whole (epochNetwork n i e)
     (record {
       placed = placed-set n s i new;
-      stamps = stamps-set n s i new (epoch-made i e (siteAt n i .stamp) (s .stamps i site));
+      stamps = stamps-set n s i new (epoch-made i e (siteAt n i .stamp) (s .stamps i (allowed .there)));
       records = records-set n s i new;
       lined = s .lined;
     })
@@ -135,22 +126,19 @@ module _ (xs : List Item) (h : List Record) (i c : ℕ) (site : c < sitesMost) w
       }
 
 -- a count one higher at site i
-pub raised-made : (n : Network) (s : Shape n) (i : ℕ) → noSuchSite n i ≡ false → countAtMost n i ≡ false → madeBy byNumber i (raisedOrSame (siteAt n i .stamp)) ≡ true
+pub raised-made : (n : Network) (s : Shape n) (i : ℕ) → i < length (n .sites) → countAtMost n i ≡ false → madeBy byNumber i (raisedOrSame (siteAt n i .stamp)) ≡ true
 raised-made n s i a b =
     let t = siteAt n i .stamp in
-    rw (raise-room t (leb-false greatest (ownCount t) b)) (made-raised byNumber i t (s .stamps i (leb-false (length (n .sites)) i a)))
+    rw (raise-room t (leb-false greatest (ownCount t) b)) (made-raised byNumber i t (s .stamps i a))
 
 -- ---- dummy
-pub keeps-dummy : (n : Network) (i : ℕ) → length (n .lines) ≡ linesMost → length (n .sites) ≤ sitesMost → wellShaped n ≡ true → dummyNumber n i ≡ 0 → wellShaped (dummyNetwork n i) ≡ true
-unfolding dummyNumber dummyNetwork
-keeps-dummy n i _ _ e z =
+pub keeps-dummy : (n : Network) (i : ℕ) → wellShaped n ≡ true → DummyAllowed n i → wellShaped (dummyNetwork n i) ≡ true
+unfolding dummyNetwork
+keeps-dummy n i e allowed =
     let s = shape-parts n e in
     let gets = isLine (n .items) i in
-    let a = none-holds (noSuchSite n i) 6 (numberIf (someLineFull n i gets) 13 ∷ (numberIf (countAtMost n i) 14 ∷ [])) z in
-    let b = none-holds (someLineFull n i gets) 12 (numberIf (countAtMost n i) 14 ∷ []) (a .1) in
-    let c = none-holds (countAtMost n i) 13 [] (b .1) in
     let new = dummied (siteAt n i) in
-    let made = raised-made n s i (a .0) (c .0) in
+    let made = raised-made n s i (allowed .there) (allowed .count-free) in
     shape-whole (dummyNetwork n i)
     (record {
       placed = placed-set n s i new;
@@ -200,46 +188,11 @@ module _ (h : List Record) (r : Record) where
           rw (new, getD-append-seam h r [] noRecord) g
 
 -- ---- the operations of a commit that is not refused
-none-at : {A : Type 0} (f : A → ℕ) (xs : List A) (k : ℕ) (d : A) → firstNumber (map f xs) ≡ 0 → k < length xs → f (getD xs k d) ≡ 0
-none-at f [] k d e h = absurd (omega arith)
-none-at f (x ∷ xs) zero d e h = none-first (f x) (map f xs) e .0
-none-at f (x ∷ xs) (suc k) d e h = none-at f xs k d (none-first (f x) (map f xs) e .1) (omega arith)
-
--- what an operation that is not refused at site i is like
-pub record OpShape (xs : List Item) (i : ℕ) (o : Op) : Type 0 where
-  pub kind : o .kind ≤ 1
-  pub item : o .item < length xs
-  pub held : reads o ≡ true → (owns xs i (o .item) || copies xs i (o .item)) ≡ true
-  pub owned : writes o ≡ true → owns xs i (o .item) ≡ true
-
-and-not : (a b : Bool) → (a && not b) ≡ false → a ≡ true → b ≡ true
-and-not true b e f = not-false b e
-and-not false b e f = absurd (false≢true f)
-
-op-shape : (xs : List Item) (i : ℕ) (o : Op) → opNumber xs i o ≡ 0 → OpShape xs i o
-op-shape xs i o z =
-    let odd = ltb 1 (o .kind) || leb (length xs) (o .item) in
-    let unread = reads o && not (owns xs i (o .item) || copies xs i (o .item)) in
-    let unowned = writes o && not (owns xs i (o .item)) in
-    let a = none-holds odd 8 (numberIf unread 10 ∷ (numberIf unowned 11 ∷ [])) z in
-    let b = none-holds unread 9 (numberIf unowned 11 ∷ []) (a .1) in
-    let c = none-holds unowned 10 [] (b .1) in
-    let d = or-false (ltb 1 (o .kind)) (leb (length xs) (o .item)) (a .0) in
-    record {
-      kind = ltb-false 1 (o .kind) (d .0);
-      item = leb-false (length xs) (o .item) (d .1);
-      held = and-not (reads o) (owns xs i (o .item) || copies xs i (o .item)) (b .0);
-      owned = and-not (writes o) (owns xs i (o .item)) (c .0);
-    }
-
 module _ (xs : List Item) (i : ℕ) (os : List Op) (z : firstNumber (map (opNumber xs i) os) ≡ 0) where
-  pub op-at : (k : ℕ) → k < length os → OpShape xs i (getD os k noOp)
-  op-at k h = op-shape xs i (getD os k noOp) (none-at (opNumber xs i) os k noOp z h)
-
   ops-fit : every (opFits (length xs)) os ≡ true
   ops-fit =
       every-all (opFits (length xs)) os noOp
-      (λ k h. let o = getD os k noOp in let s = op-at k h in rw (le-leb (o .kind) 1 (s .kind)) (lt-ltb (o .item) (length xs) (s .item)))
+      (λ k h. let o = getD os k noOp in let s = op-at xs i os z k h in rw (le-leb (o .kind) 1 (s .kind)) (lt-ltb (o .item) (length xs) (s .item)))
 
   -- a site that has a copy of an item written is at the end of a line
   pub due-line : (c : ℕ) → due xs os c ≡ true → isLine xs i c ≡ true
@@ -247,7 +200,7 @@ module _ (xs : List Item) (i : ℕ) (os : List Op) (z : firstNumber (map (opNumb
   due-line c e =
       let f = some-index (λ (o : Op). writes o && copies xs c (o .item)) os noOp e in
       let o = getD os (f .0) noOp in
-      let s = op-at (f .0) (f .1) in
+      let s = op-at xs i os z (f .0) (f .1) in
       let w = and-true (writes o) (copies xs c (o .item)) (f .2) in
       some-at (λ (x : Item). eqb (x .primary) i && bit (x .mask) c) xs (o .item) noItem (s .item) (rw (s .owned (w .0)) (w .1))
 
@@ -266,32 +219,20 @@ records-fit items b (o ∷ os) e =
     ap₂ _&&_ (recorded-fits items b o ∙ q .0) (records-fit items b os (q .1))
 
 -- ---- commit
-pub keeps-commit : (n : Network) (i : ℕ) (ks is : List ℕ) (vs : List ℤ) → length (n .lines) ≡ linesMost → length (n .sites) ≤ sitesMost → wellShaped n ≡ true → commitNumber n i ks is vs ≡ 0
-    → wellShaped (commitNetwork n i (opsOf ks is vs)) ≡ true
-unfolding commitNumber commitNetwork
-keeps-commit n i ks is vs _ _ e z =
+pub keeps-commit : (n : Network) (i : ℕ) (os : List Op) → wellShaped n ≡ true → CommitAllowed n i os → wellShaped (commitNetwork n i os) ≡ true
+unfolding commitNetwork
+keeps-commit n i os e allowed =
     let s = shape-parts n e in
-    let os = opsOf ks is vs in
     let xs = n .items in
     let gets = due xs os in
-    let sized = outside 1 opsMost (length ks) || (not (eqb (length is) (length ks)) || not (eqb (length vs) (length ks))) in
-    let full = leb recordsMost (length (n .history)) in
-    let most : List ℕ = numberIf (countAtMost n i) 14 ∷ [] in
-    let a = none-holds (noSuchSite n i) 6 (numberIf sized 8 ∷ (firstNumber (map (opNumber xs i) os) ∷ (numberIf full 12 ∷ (numberIf (someLineFull n i gets) 13 ∷ most)))) z in
-    let b = none-holds sized 7 (firstNumber (map (opNumber xs i) os) ∷ (numberIf full 12 ∷ (numberIf (someLineFull n i gets) 13 ∷ most))) (a .1) in
-    let c = none-first (firstNumber (map (opNumber xs i) os)) (numberIf full 12 ∷ (numberIf (someLineFull n i gets) 13 ∷ most)) (b .1) in
-    let d = none-holds full 11 (numberIf (someLineFull n i gets) 13 ∷ most) (c .1) in
-    let f = none-holds (someLineFull n i gets) 12 most (d .1) in
-    let g = none-holds (countAtMost n i) 13 [] (f .1) in
     let new = committed os (siteAt n i) in
     let r = recordOf n i os in
-    let made = raised-made n s i (a .0) (g .0) in
-    let site : i < length (n .sites) = leb-false (length (n .sites)) i (a .0) in
+    let made = raised-made n s i (allowed .there) (allowed .count-free) in
     let fits : RecordShape (length (set (n .sites) i new)) (length xs) r
     = record {
-      at = omega (arith, length-set (n .sites) i new);
+      at = omega (arith, allowed .there, length-set (n .sites) i new);
       made = made;
-      fitting = rw (work-ops (siteAt n i .table) (siteAt n i .table) os) (records-fit (length xs) (siteAt n i .table) os (ops-fit xs i os (c .0)));
+      fitting = rw (work-ops (siteAt n i .table) (siteAt n i .table) os) (records-fit (length xs) (siteAt n i .table) os (ops-fit xs i os (allowed .each-op)));
     } in
     shape-whole (commitNetwork n i os)
     (record {
@@ -299,5 +240,5 @@ keeps-commit n i ks is vs _ _ e z =
       stamps = stamps-set n s i new made;
       records = records-longer (n .history) r (RecordShape (length (set (n .sites) i new)) (length xs)) (records-set n s i new) fits;
       lined = sent-each gets i (commit (length (n .history))) (n .lines) (LineShape xs (longer (n .history) r)) (λ k h. line-longer (n .history) r xs k (getD (n .lines) k noLine) (s .lined k h)) sitesMost
-          (λ c′ near hit l. sent-shape xs (longer (n .history) r) i c′ near (commit (length (n .history))) l (due-line xs i os (c .0) c′ hit) (message-new (n .history) r));
+          (λ c′ near hit l. sent-shape xs (longer (n .history) r) i c′ near (commit (length (n .history))) l (due-line xs i os (allowed .each-op) c′ hit) (message-new (n .history) r));
     })

@@ -1,3 +1,4 @@
+pub mod Allowed
 pub mod WellShaped
 pub mod Keeps
 pub mod Chosen

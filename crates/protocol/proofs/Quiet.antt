@@ -30,6 +30,7 @@ use Rattle.protocol.proofs.Keeps.{keeps-deliver, keeps-epoch, keeps-dum
 use Rattle.protocol.proofs.Times.{Before, UpTo, upto-self, upto-before, without-raised, raised-before}
 use Rattle.protocol.proofs.Invariant.{stampAt, heardAt, tableAt, messagesAt, Sizes, Invariant, line-up, line-number, line-child, stamp-made}
 use Rattle.protocol.proofs.Calm.{changed, Sent, Calm, calm-keeps}
+use Rattle.protocol.specs.Allowed.{DummyAllowed, EpochAllowed, DeliverAllowed}
 
 -- ---- one site replaced
 module _ (n : Network) (inv : Invariant n) (i : ℕ) (new : Site) where
@@ -102,7 +103,7 @@ module _ (n : Network) (inv : Invariant n) (gets : ℕ → Bool) (i : ℕ) (m : 
             inr (same, f, subst more (sym same) (mail-here j from f))
 
 -- ---- deliver: what has arrived is no part of the invariant
-pub deliver-keeps : (n : Network) → Invariant n → (p c : ℕ) → deliverNumber n p c ≡ 0 → Invariant (deliverNetwork n p c)
+pub deliver-keeps : (n : Network) → Invariant n → (p c : ℕ) → DeliverAllowed n p c → Invariant (deliverNetwork n p c)
 unfolding deliverNetwork
 deliver-keeps n inv p c z =
     let k = lineNumber p c in
@@ -122,24 +123,19 @@ deliver-keeps n inv p c z =
     (λ j l. refl)
 
 -- ---- epoch: at a site without parents
-pub epoch-keeps : (n : Network) → Invariant n → (i e : ℕ) → epochNumber n i e ≡ 0 → Invariant (epochNetwork n i e)
-unfolding epochNetwork epochNumber
+pub epoch-keeps : (n : Network) → Invariant n → (i e : ℕ) → EpochAllowed n i e → Invariant (epochNetwork n i e)
+unfolding epochNetwork
 epoch-keeps n inv i e z =
     let t = stampAt n i in
-    let low = leb e (t .epoch) in
     let new = atEpoch e (siteAt n i) in
-    let a = none-holds (noSuchSite n i) 6 (numberIf (hasParents (n .items) i) 15 ∷ (numberIf low 16 ∷ [])) z in
-    let b = none-holds (hasParents (n .items) i) 14 (numberIf low 16 ∷ []) (a .1) in
-    let c = none-holds low 15 [] (b .1) in
-    let site : i < length (n .sites) = leb-false (length (n .sites)) i (a .0) in
-    let later : Before t (new .stamp) = epoch-later byNumber t (new .stamp) (leb-false e (t .epoch) (c .0)) in
+    let later : Before t (new .stamp) = epoch-later byNumber t (new .stamp) (z .newer) in
     calm-keeps n inv (moved n inv i new) (n .lines)
     (record {
-      sizes = moved-sizes n inv i new (n .lines) (n .history) refl (inv .sizes .tables i site);
+      sizes = moved-sizes n inv i new (n .lines) (n .history) refl (inv .sizes .tables i (z .there));
       shape = keeps-epoch n i e (inv .shape) z;
       many = moved-many n inv i new;
       grows = moved-grows n inv i new (upto-before t (new .stamp) later);
-      calm = moved-calm n inv i new (λ h. absurd (true≢false (sym h ∙ b .0)));
+      calm = moved-calm n inv i new (λ h. absurd (true≢false (sym h ∙ z .orphan)));
       mail = λ q j line. inl refl;
       stays = λ q m f. refl;
     })
@@ -193,23 +189,13 @@ module _ (n : Network) (inv : Invariant n) (i : ℕ) (site : i < length (n .site
         go p j (inr (s, _, e)) = inr (was-sent p j s e)
 
 -- ---- dummy
--- what holds where no cause does
-pub dummy-causes : (n : Network) (i : ℕ) → dummyNumber n i ≡ 0 → (i < length (n .sites)) × (countAtMost n i ≡ false)
-unfolding dummyNumber
-dummy-causes n i z =
-    let gets = isLine (n .items) i in
-    let a = none-holds (noSuchSite n i) 6 (numberIf (someLineFull n i gets) 13 ∷ (numberIf (countAtMost n i) 14 ∷ [])) z in
-    let b = none-holds (someLineFull n i gets) 12 (numberIf (countAtMost n i) 14 ∷ []) (a .1) in
-    (leb-false (length (n .sites)) i (a .0), none-holds (countAtMost n i) 13 [] (b .1) .0)
-
-pub dummy-keeps : (n : Network) → Invariant n → (i : ℕ) → dummyNumber n i ≡ 0 → Invariant (dummyNetwork n i)
+pub dummy-keeps : (n : Network) → Invariant n → (i : ℕ) → DummyAllowed n i → Invariant (dummyNetwork n i)
 unfolding dummyNetwork
 dummy-keeps n inv i z =
     let gets = isLine (n .items) i in
     let new = dummied (siteAt n i) in
     let m = dummy (new .stamp) in
-    let c = dummy-causes n i z in
     calm-keeps n inv (moved n inv i new) (mailed n inv gets i m)
-    (raise-calm n inv i (c .0) (c .1) new refl (inv .sizes .tables i (c .0)) gets m (n .history) refl
-    (keeps-dummy n i (inv .sizes .lines) (inv .sizes .sites) (inv .shape) z) (λ p x f. refl))
+    (raise-calm n inv i (z .there) (z .count-free) new refl (inv .sizes .tables i (z .there)) gets m (n .history) refl
+    (keeps-dummy n i (inv .shape) z) (λ p x f. refl))
     (moved-tables n inv i new refl)

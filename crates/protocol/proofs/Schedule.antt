@@ -422,4 +422,4 @@ module _ (n : Network) (inv : Invariant n) (j : ℕ) (z : scheduleNumber n j ≡
 
 pub schedule-keeps : (n : Network) → Invariant n → (j : ℕ) → scheduleNumber n j ≡ 0 → Invariant (scheduleNetwork n j)
 unfolding scheduleNetwork
-schedule-keeps n inv j z = schedule-invariant n inv j z (keeps-schedule n j (inv .sizes .lines) (inv .sizes .sites) (inv .shape) z)
+schedule-keeps n inv j z = schedule-invariant n inv j z (keeps-schedule n j (inv .sizes .sites) (inv .shape) z)

@@ -24,26 +24,16 @@ use Rattle.lists.proofs.Numbers.{none-holds, none-first, or-false}
 use Rattle.protocol.proofs.Keeps.{start-length, start-at, keeps-set-up}
 use Rattle.protocol.proofs.Times.{UpTo}
 use Rattle.protocol.proofs.Invariant.{stampAt, heardAt, tableAt, messagesAt, Sizes, Invariant}
+use Rattle.protocol.specs.Allowed.{SetUpAllowed}
 
 pairs-most : (ps ms : List ℕ) → length (itemsOf ps ms) ≤ length ps
 pairs-most [] ms = omega arith
 pairs-most (p ∷ ps) [] = omega arith
 pairs-most (p ∷ ps) (m ∷ ms) = omega (arith, pairs-most ps ms)
 
-module _ (sites items : ℕ) (ps ms : List ℕ) (z : setUpNumber sites items ps ms ≡ 0) where
-  -- few sites, few items, each where it may be
-  causes : (sites ≤ sitesMost) × (length (itemsOf ps ms) ≤ tableSize) × (itemsNumber sites (itemsOf ps ms) ≡ 0)
-  unfolding setUpNumber
-  causes =
-      let xs = itemsOf ps ms in
-      let lists = not (eqb (length ps) items) || not (eqb (length ms) items) in
-      let a = none-holds (outside 1 sitesMost sites) 0 (numberIf (outside 1 itemsMost items || lists) 2 ∷ (itemsNumber sites xs ∷ [])) z in
-      let b = none-holds (outside 1 itemsMost items || lists) 1 (itemsNumber sites xs ∷ []) (a .1) in
-      let c = or-false (outside 1 itemsMost items) lists (b .0) in
-      let few = ltb-false sitesMost sites (or-false (ltb sites 1) (ltb sitesMost sites) (a .0) .1) in
-      let least = ltb-false itemsMost items (or-false (ltb items 1) (ltb itemsMost items) (c .0) .1) in
-      let all = eqb-true (length ps) items (not-false (eqb (length ps) items) (or-false (not (eqb (length ps) items)) (not (eqb (length ms) items)) (c .1) .0)) in
-      (few, omega (arith, pairs-most ps ms), none-first (itemsNumber sites xs) [] (b .1) .0)
+module _ (sites items : ℕ) (ps ms : List ℕ) (z : SetUpAllowed sites items ps ms) where
+  few-items : length (itemsOf ps ms) ≤ tableSize
+  few-items = omega (arith, z .few-items, z .each-primary, pairs-most ps ms)
 
   abbrev start : Network
   start = setUpNetwork sites ps ms
@@ -55,8 +45,8 @@ module _ (sites items : ℕ) (ps ms : List ℕ) (z : setUpNumber sites items ps 
   start-line : (p j : ℕ) → isLine (itemsOf ps ms) p j ≡ true → (p < sites) × (j < sites) × (messagesAt start p j ≡ [])
   unfolding setUpNetwork
   start-line p j line =
-      let up = line-upward sites (itemsOf ps ms) p j (causes .2) line in
-      let near : lineNumber p j < linesMost = omega (arith, up .0, up .1, causes .0) in
+      let up = line-upward sites (itemsOf ps ms) p j (z .placed) line in
+      let near : lineNumber p j < linesMost = omega (arith, up .0, up .1, z .few-sites) in
       (omega (arith, up .0, up .1), up .1, ap (λ (l : Line). l .messages) (getD-replicate linesMost (lineNumber p j) noLine noLine near))
 
   -- nothing is on the way
@@ -71,15 +61,15 @@ module _ (sites items : ℕ) (ps ms : List ℕ) (z : setUpNumber sites items ps 
 
   start-copy : (j x : ℕ) → j < sites → x < length (itemsOf ps ms) → getD (tableAt start j) x (pos 0) ≡ pos 0
   start-copy j x l b =
-      ap (λ (s : Site). getD (s .table) x (pos 0)) (start-site j l) ∙ getD-replicate tableSize x (pos 0) (pos 0) (omega (arith, causes .1))
+      ap (λ (s : Site). getD (s .table) x (pos 0)) (start-site j l) ∙ getD-replicate tableSize x (pos 0) (pos 0) (omega (arith, few-items))
 
   start-sizes : Sizes start
   unfolding setUpNetwork
   start-sizes =
       record {
         lines = length-replicate linesMost noLine;
-        sites = omega (arith, start-length 0 sites, causes .0);
-        items = causes .1;
+        sites = omega (arith, start-length 0 sites, z .few-sites);
+        items = few-items;
         tables = λ j l. ap (λ (s : Site). length (s .table)) (start-site j (omega (arith, start-length 0 sites))) ∙ length-replicate tableSize (pos 0);
       }
 

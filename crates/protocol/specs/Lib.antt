@@ -1,5 +1,6 @@
 pub mod Network
 pub mod Steps
+pub mod Allowed
 pub mod Waiting
 pub mod Calls
 pub mod Book

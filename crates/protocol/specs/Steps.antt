@@ -16,7 +16,7 @@ use Rattle.lists.specs.Numbers.{firstNumber, numberIf, outside}
 use Rattle.lists.specs.Lists.{any, someBelow, keep}
 use Rattle.lines.specs.Lines.{Message, commit, dummy, Line, noLine, sent, delivered, taken}
 use Rattle.records.specs.Records.{Record}
-use Rattle.protocol.specs.Network.{linesMost, Network, withSite, withLine, siteAt, lineAt, lineNumber, messageStamp, messageOps}
+use Rattle.protocol.specs.Network.{linesMost, Network, withSite, withLine, siteAt, lineAt, lineNumber, messageStamp, messageOps, withLines, withRecord}
 
 -- ---- set-up (sites, items, a primary and a mask for each item)
 abbrev pub itemsOf : List ℕ → List ℕ → List Item
@@ -24,11 +24,15 @@ itemsOf [] ms = []
 itemsOf (p ∷ ps) [] = []
 itemsOf (p ∷ ps) (m ∷ ms) = record { primary = p; mask = m } ∷ itemsOf ps ms
 
+-- not 1 to 64 items, or lists of another length
+abbrev pub wrongItems : ℕ → ℕ → ℕ → Bool
+wrongItems items primaries masks = outside 1 itemsMost items || (not (eqb primaries items) || not (eqb masks items))
+
 unfoldable pub setUpNumber : ℕ → ℕ → List ℕ → List ℕ → ℕ
 setUpNumber sites items ps ms =
     firstNumber
     (numberIf (outside 1 sitesMost sites) 1
-    ∷ numberIf (outside 1 itemsMost items || (not (eqb (length ps) items) || not (eqb (length ms) items))) 2
+    ∷ numberIf (wrongItems items (length ps) (length ms)) 2
     ∷ itemsNumber sites (itemsOf ps ms)
     ∷ [])
 
@@ -105,12 +109,9 @@ recordOf n i os = record { site = i; stamp = committed os (siteAt n i) .stamp; o
 
 unfoldable pub commitNetwork : Network → ℕ → List Op → Network
 commitNetwork n i os =
-    record {
-      sites = set (n .sites) i (committed os (siteAt n i));
-      items = n .items;
-      lines = sentTo (due (n .items) os) i (commit (length (n .history))) sitesMost (n .lines);
-      history = n .history ++ (recordOf n i os ∷ []);
-    }
+    let atSite = withSite n i (committed os (siteAt n i)) in
+    let told = withLines atSite (sentTo (due (n .items) os) i (commit (length (n .history))) sitesMost (n .lines)) in
+    withRecord told (recordOf n i os)
 
 -- ---- dummy (site)
 unfoldable pub dummyNumber : Network → ℕ → ℕ
@@ -123,12 +124,8 @@ dummyNumber n i =
 
 unfoldable pub dummyNetwork : Network → ℕ → Network
 dummyNetwork n i =
-    record {
-      sites = set (n .sites) i (dummied (siteAt n i));
-      items = n .items;
-      lines = sentTo (isLine (n .items) i) i (dummy (dummied (siteAt n i) .stamp)) sitesMost (n .lines);
-      history = n .history;
-    }
+    let raised = dummied (siteAt n i) in
+    withLines (withSite n i raised) (sentTo (isLine (n .items) i) i (dummy (raised .stamp)) sitesMost (n .lines))
 
 -- ---- epoch (site, new number)
 unfoldable pub epochNumber : Network → ℕ → ℕ → ℕ
@@ -155,12 +152,16 @@ unfoldable pub deliverNetwork : Network → ℕ → ℕ → Network
 deliverNetwork n p c = withLine n (lineNumber p c) (delivered (lineAt n p c))
 
 -- ---- schedule (site)
+-- p is a parent of j and has nothing arrived there
+abbrev pub lacksArrived : Network → ℕ → ℕ → Bool
+lacksArrived n j p = isLine (n .items) p j && eqb (lineAt n p j .arrived) 0
+
 unfoldable pub scheduleNumber : Network → ℕ → ℕ
 scheduleNumber n j =
     firstNumber
     (numberIf (noSuchSite n j) 7
     ∷ numberIf (not (hasParents (n .items) j)) 19
-    ∷ numberIf (someBelow (λ p. isLine (n .items) p j && eqb (lineAt n p j .arrived) 0) sitesMost) 20
+    ∷ numberIf (someBelow (lacksArrived n j) sitesMost) 20
     ∷ [])
 
 -- the oldest message on the line from p to j, and its timestamp
@@ -190,9 +191,4 @@ unfoldable pub scheduleNetwork : Network → ℕ → Network
 scheduleNetwork n j =
     let p = chosen n j in
     let m = head n p j in
-    record {
-      sites = set (n .sites) j (received (writesFor n j m) (messageStamp (n .history) m) (siteAt n j));
-      items = n .items;
-      lines = set (n .lines) (lineNumber p j) (taken (lineAt n p j));
-      history = n .history;
-    }
+    withLine (withSite n j (received (writesFor n j m) (messageStamp (n .history) m) (siteAt n j))) (lineNumber p j) (taken (lineAt n p j))
