@@ -2,3 +2,6 @@ pub mod Lists
 pub mod Every
 pub mod Some
 pub mod Numbers
+pub mod Chains
+pub mod Sorting
+pub mod Matched

@@ -11,7 +11,9 @@ use Rattle.timestamp.specs.Order.{order, notLater}
 use Rattle.site.specs.Operations.{Op, reads, recorded, written, Work, work, worked}
 use Rattle.records.specs.Records.{Record}
 use Rattle.lists.specs.Lists.{keep, upTo}
-use Rattle.protocol.specs.Run.{Turn, numbered, comesFirst, insert, sorted, inTurn, after, seen, run, startTable, find, shown, valueAt}
+use Rattle.lists.specs.Sorting.{sorted, insert}
+use Rattle.lists.proofs.Matched.{Matched, matched-length, matched-at, matched-add, matched-keep, matched-sorted}
+use Rattle.protocol.specs.Run.{Turn, numbered, comesFirst, inTurn, after, seen, run, startTable, find, shown, valueAt}
 use Rattle.protocol.proofs.Works.{read-no-write}
 
 -- the same work on every table
@@ -23,47 +25,8 @@ pub record Alike (r c : Record) : Type 0 where
   pub stamp-same : r .stamp ≡ c .stamp
   pub ops-alike : AlikeOps (r .ops) (c .ops)
 
--- ---- two lists of one length, element with element
-abbrev pub Matched : {A : Type 0} → (A → A → Type 0) → List A → List A → Type 0
-Matched R [] [] = Unit {0}
-Matched R [] (y ∷ ys) = ⊥
-Matched R (x ∷ xs) [] = ⊥
-Matched R (x ∷ xs) (y ∷ ys) = R x y × Matched R xs ys
-
 abbrev pub AllAlike : List Record → List Record → Type 0
 AllAlike h cs = Matched Alike h cs
-
-module _ {A : Type 0} (R : A → A → Type 0) where
-  pub matched-length : (xs ys : List A) → Matched R xs ys → length xs ≡ length ys
-  matched-length [] [] m = refl
-  matched-length [] (y ∷ ys) m = absurd m
-  matched-length (x ∷ xs) [] m = absurd m
-  matched-length (x ∷ xs) (y ∷ ys) m = ap suc (matched-length xs ys (m .1))
-
-  pub matched-at : (xs ys : List A) (k : ℕ) (d : A) → Matched R xs ys → k < length xs → R (getD xs k d) (getD ys k d)
-  matched-at [] [] k d m l = absurd (omega arith)
-  matched-at [] (y ∷ ys) k d m l = absurd m
-  matched-at (x ∷ xs) [] k d m l = absurd m
-  matched-at (x ∷ xs) (y ∷ ys) zero d m l = m .0
-  matched-at (x ∷ xs) (y ∷ ys) (suc k) d m l = matched-at xs ys k d (m .1) (omega arith)
-
-  matched-add : (xs ys : List A) (x y : A) → Matched R xs ys → R x y → Matched R (xs ++ (x ∷ [])) (ys ++ (y ∷ []))
-  matched-add [] [] x y m e = (e, tt)
-  matched-add [] (v ∷ ys) x y m e = absurd m
-  matched-add (u ∷ xs) [] x y m e = absurd m
-  matched-add (u ∷ xs) (v ∷ ys) x y m e = (m .0, matched-add xs ys x y (m .1) e)
-
-  -- those that pass a test that does not tell them apart
-  matched-keep : (p : A → Bool) → ((x y : A) → R x y → p x ≡ p y) → (xs ys : List A) → Matched R xs ys → Matched R (keep p xs) (keep p ys)
-  matched-keep p same [] [] m = tt
-  matched-keep p same [] (y ∷ ys) m = absurd m
-  matched-keep p same (x ∷ xs) [] m = absurd m
-  matched-keep p same (x ∷ xs) (y ∷ ys) m =
-      subst (λ (b : Bool). Matched R (keep p (x ∷ xs)) (cond b (y ∷ keep p ys) (keep p ys))) (same x y (m .0)) (go (p x) (matched-keep p same xs ys (m .1)))
-    where
-      go : (b : Bool) → Matched R (keep p xs) (keep p ys) → Matched R (cond b (x ∷ keep p xs) (keep p xs)) (cond b (y ∷ keep p ys) (keep p ys))
-      go true r = (m .0, r)
-      go false r = r
 
 pub all-alike-add : (h cs : List Record) (r c : Record) → AllAlike h cs → Alike r c → AllAlike (h ++ (r ∷ [])) (cs ++ (c ∷ []))
 all-alike-add h cs r c m e = matched-add Alike h cs r c m e
@@ -102,27 +65,9 @@ numbered-alike j [] (c ∷ cs) m = absurd m
 numbered-alike j (r ∷ h) [] m = absurd m
 numbered-alike j (r ∷ h) (c ∷ cs) m = ((refl, m .0), numbered-alike (suc j) h cs (m .1))
 
-insert-alike : (c d : Turn) (xs ys : List Turn) → AlikeTurns c d → Matched AlikeTurns xs ys → Matched AlikeTurns (insert c xs) (insert d ys)
-insert-alike c d [] [] e m = (e, tt)
-insert-alike c d [] (y ∷ ys) e m = absurd m
-insert-alike c d (x ∷ xs) [] e m = absurd m
-insert-alike c d (x ∷ xs) (y ∷ ys) e m =
-    let same : comesFirst (c .commit) (x .commit) ≡ comesFirst (d .commit) (y .commit) = λ i. notLater (order (e .1 .stamp-same i) (m .0 .1 .stamp-same i)) in
-    subst (λ (b : Bool). Matched AlikeTurns (insert c (x ∷ xs)) (cond b (d ∷ (y ∷ ys)) (y ∷ insert d ys))) same
-    (go (comesFirst (c .commit) (x .commit)) (insert-alike c d xs ys e (m .1)))
-  where
-    go : (b : Bool) → Matched AlikeTurns (insert c xs) (insert d ys) → Matched AlikeTurns (cond b (c ∷ (x ∷ xs)) (x ∷ insert c xs)) (cond b (d ∷ (y ∷ ys)) (y ∷ insert d ys))
-    go true r = (e, m)
-    go false r = (m .0, r)
-
-sorted-alike : (xs ys : List Turn) → Matched AlikeTurns xs ys → Matched AlikeTurns (sorted xs) (sorted ys)
-sorted-alike [] [] m = tt
-sorted-alike [] (y ∷ ys) m = absurd m
-sorted-alike (x ∷ xs) [] m = absurd m
-sorted-alike (x ∷ xs) (y ∷ ys) m = insert-alike x y (sorted xs) (sorted ys) (m .0) (sorted-alike xs ys (m .1))
-
 turns-alike : (h cs : List Record) → AllAlike h cs → Matched AlikeTurns (inTurn h) (inTurn cs)
-turns-alike h cs m = sorted-alike (numbered 0 h) (numbered 0 cs) (numbered-alike 0 h cs m)
+turns-alike h cs m =
+    matched-sorted AlikeTurns comesFirst (λ c d x y e f i. notLater (order (e .1 .stamp-same i) (f .1 .stamp-same i))) (numbered 0 h) (numbered 0 cs) (numbered-alike 0 h cs m)
 
 -- ---- one run
 table-alike : (table : List ℤ) (c d : Turn) → AlikeTurns c d → worked table (c .commit .ops) .table ≡ worked table (d .commit .ops) .table

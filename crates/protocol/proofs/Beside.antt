@@ -20,7 +20,8 @@ use Rattle.lists.specs.Lists.{someBelow}
 use Rattle.protocol.specs.Waiting.{waitingNumber}
 use Rattle.protocol.specs.Calls.{Call, setUp, commit, dummy, epoch, deliver, schedule, waiting, perform}
 use Rattle.protocol.specs.Agreement.{Known, StampsDiffer, Never6}
-use Rattle.protocol.proofs.Alike.{Alike, matched-length, matched-at}
+use Rattle.lists.proofs.Matched.{matched-length, matched-at}
+use Rattle.protocol.proofs.Alike.{Alike}
 use Rattle.protocol.proofs.Follows.{Follows, always}
 use Rattle.protocol.proofs.Theorem.{stamps-apart}
 

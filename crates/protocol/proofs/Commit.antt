@@ -26,7 +26,8 @@ use Rattle.lists.specs.Lists.{keep}
 use Rattle.lists.proofs.Numbers.{none-holds, none-first}
 use Rattle.protocol.proofs.Keeps.{raised-made, keeps-commit}
 use Rattle.protocol.specs.Agreement.{holds}
-use Rattle.protocol.proofs.Values.{touches, wrote, lastFrom, lastValue, from-more, keep-more, none-kept, agree}
+use Rattle.lists.proofs.Chains.{keep-more}
+use Rattle.protocol.proofs.Values.{touches, wrote, lastFrom, lastValue, from-more, none-kept, agree}
 use Rattle.protocol.proofs.Works.{worked-length, getD-worked, worked-size, worked-kinds, worked-reads, wrote-worked}
 use Rattle.protocol.proofs.Times.{Before, UpTo, upto-self, upto-before, upto-then, before-test, later-fails, test-fails, made-under, cut-upto, cut-before, cut-test}
 use Rattle.protocol.proofs.Added.{added-size, added-old, added-new, added-each, added-rise}

@@ -5,7 +5,7 @@ pub mod Chosen
 pub mod Sent
 pub mod Values
 pub mod Works
-pub mod Sorting
+pub mod Turns
 pub mod Runs
 pub mod Alike
 pub mod Times

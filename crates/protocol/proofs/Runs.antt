@@ -18,10 +18,12 @@ use Rattle.site.specs.InWords.{tableSize}
 use Rattle.site.proofs.Laws.{work-ops}
 use Rattle.records.specs.Records.{Record}
 use Rattle.lists.specs.Lists.{keep, upTo}
-use Rattle.protocol.specs.Run.{Turn, numbered, inTurn, after, run, startTable, find, shown, valueAt}
+use Rattle.protocol.specs.Run.{Turn, numbered, comesFirst, inTurn, after, run, startTable, find, shown, valueAt, comesFirst}
 use Rattle.protocol.proofs.Values.{touches, wrote, lastFrom, lastValue, recordAt, untouched}
 use Rattle.protocol.proofs.Works.{worked-length, getD-worked, recorded-other}
-use Rattle.protocol.proofs.Sorting.{Chain, NotAfter, has, each-implied, map-keep, keep-turn, keep-none, chain-keep, keep-sorted, sorted-same, chain-sorted, chain-number, commits-numbered, each-found, has-turn, find-turn}
+use Rattle.lists.proofs.Chains.{Chain, each-implied, chain-keep, keep-none, keep-turn, map-keep}
+use Rattle.lists.proofs.Sorting.{chain-sorted, sorted-same, keep-sorted, InOrder}
+use Rattle.protocol.proofs.Turns.{turns-along, turns-either, has, chain-number, commits-numbered, each-found, has-turn, find-turn}
 
 -- ---- the value of an item after some turns
 abbrev commits : List Turn → List Record
@@ -65,7 +67,7 @@ module _ (x : ℕ) where
     writers-turn =
         let rising = chain-number (λ r s. writer r ≡ true → writer s ≡ true → notLater (order (r .stamp) (s .stamp)) ≡ true) 0 h (λ k m a b e f. ap notLater (rise k m a b e f)) in
         keep-turn writes passes (inTurn h)
-        ∙ ap (keep passes) (keep-sorted writes (numbered 0 h) ∙ sorted-same (keep writes (numbered 0 h)) (chain-keep writes NotAfter (numbered 0 h) rising))
+        ∙ ap (keep passes) (keep-sorted comesFirst turns-along turns-either writes (numbered 0 h) ∙ sorted-same comesFirst (keep writes (numbered 0 h)) (chain-keep writes (InOrder comesFirst) (numbered 0 h) rising))
         ∙ keep-turn passes writes (numbered 0 h)
 
     -- the run's value after the commits that pass a test is that of those commits in the order made
@@ -162,7 +164,7 @@ run-shows h apart rise right = by-number (find (run startTable (inTurn h))) 0 h 
         let placed : (r s : Record) → (r .stamp ≡ s .stamp → ⊥)
         → (notLater (order (r .stamp) (s .stamp)) ≡ true → IsEarlier byNumber (r .stamp) (s .stamp)) × (notLater (order (r .stamp) (s .stamp)) ≡ false → IsEarlier byNumber (s .stamp) (r .stamp))
         = λ r s n. (λ e. not-later-apart (r .stamp) (s .stamp) n e, later-turned cmp by-number-laws (r .stamp) (s .stamp)) in
-        chain-sorted Before (λ c d e. by-number-laws .trans (c .commit .stamp) (d .commit .stamp) (e .commit .stamp)) (numbered 0 h)
+        chain-sorted comesFirst Before (λ c d e. by-number-laws .trans (c .commit .stamp) (d .commit .stamp) (e .commit .stamp)) (numbered 0 h)
         (chain-number (λ r s. (notLater (order (r .stamp) (s .stamp)) ≡ true → IsEarlier byNumber (r .stamp) (s .stamp)) × (notLater (order (r .stamp) (s .stamp)) ≡ false → IsEarlier byNumber (s .stamp) (r .stamp))) 0 h
         (λ k m a b. placed (recordAt h k) (recordAt h m) (apart k m a b)))
 

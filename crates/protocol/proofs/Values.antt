@@ -44,14 +44,6 @@ pub from-more : (x : ℕ) (v : ℤ) (rs ss : List Record) → lastFrom x v (rs +
 from-more x v [] ss = refl
 from-more x v (r ∷ rs) ss = from-more x (wrote x v (r .ops)) rs ss
 
-cond-more : {A : Type 0} (b : Bool) (x : A) (xs ys : List A) → cond b (x ∷ (xs ++ ys)) (xs ++ ys) ≡ cond b (x ∷ xs) xs ++ ys
-cond-more true x xs ys = refl
-cond-more false x xs ys = refl
-
-pub keep-more : {A : Type 0} (p : A → Bool) (xs ys : List A) → keep p (xs ++ ys) ≡ keep p xs ++ keep p ys
-keep-more p [] ys = refl
-keep-more {A = A} p (x ∷ xs) ys = ap (λ (zs : List A). cond (p x) (x ∷ zs) zs) (keep-more p xs ys) ∙ cond-more (p x) x (keep p xs) (keep p ys)
-
 -- one commit, kept or not
 keep-first : (x : ℕ) (v : ℤ) (p : Record → Bool) (r : Record) (rs : List Record) → lastFrom x v (keep p (r ∷ rs)) ≡ lastFrom x (cond (p r) (wrote x v (r .ops)) v) (keep p rs)
 keep-first x v p r rs = go (p r)

@@ -11,6 +11,7 @@ use Rattle.site.specs.Operations.{worked}
 use Rattle.site.specs.InWords.{tableSize}
 use Rattle.records.specs.Records.{Record}
 use Rattle.protocol.specs.Network.{noRecord}
+use Rattle.lists.specs.Sorting.{sorted}
 use Rattle.lists.specs.Lists.{keep, upTo}
 
 -- a commit with its number in the order made
@@ -23,19 +24,11 @@ numbered k [] = []
 numbered k (c ∷ cs) = record { number = k; commit = c } ∷ numbered (suc k) cs
 
 -- ---- by rising timestamp; a commit made before others goes before those that equal it
-abbrev pub comesFirst : Record → Record → Bool
-comesFirst c d = notLater (order (c .stamp) (d .stamp))
-
-abbrev pub insert : Turn → List Turn → List Turn
-insert c [] = c ∷ []
-insert c (d ∷ ds) = cond (comesFirst (c .commit) (d .commit)) (c ∷ (d ∷ ds)) (d ∷ insert c ds)
-
-abbrev pub sorted : List Turn → List Turn
-sorted [] = []
-sorted (c ∷ cs) = insert c (sorted cs)
+abbrev pub comesFirst : Turn → Turn → Bool
+comesFirst c d = notLater (order (c .commit .stamp) (d .commit .stamp))
 
 abbrev pub inTurn : List Record → List Turn
-inTurn cs = sorted (numbered 0 cs)
+inTurn cs = sorted comesFirst (numbered 0 cs)
 
 -- ---- the run: the reads of each commit get the table before it, then its writes go in
 abbrev pub after : List ℤ → List Turn → List ℤ

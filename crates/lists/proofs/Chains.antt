@@ -1,0 +1,77 @@
+-- What holds of each element of a list, and of each with those after it; of those that pass a test too.
+use mathlib.Core.Path.{_≡_, refl, ap, _∙_}
+use mathlib.Core.Bool.{Bool, true, false, cond}
+use mathlib.Core.List.{List, [], _∷_, _++_, map}
+use Rattle.lists.specs.Lists.{keep}
+
+-- ---- what holds of each element, and of each with those after it
+abbrev pub Each : {A : Type 0} → (A → Type 0) → List A → Type 0
+Each P [] = Unit {0}
+Each P (x ∷ xs) = P x × Each P xs
+
+abbrev pub Chain : {A : Type 0} → (A → A → Type 0) → List A → Type 0
+Chain R [] = Unit {0}
+Chain R (x ∷ xs) = Each (R x) xs × Chain R xs
+
+module _ {A : Type 0} where
+  pub each-all : (P : A → Type 0) → ((x : A) → P x) → (xs : List A) → Each P xs
+  each-all P f [] = tt
+  each-all P f (x ∷ xs) = (f x, each-all P f xs)
+
+  pub chain-all : (R : A → A → Type 0) → ((x y : A) → R x y) → (xs : List A) → Chain R xs
+  chain-all R f [] = tt
+  chain-all R f (x ∷ xs) = (each-all (R x) (f x) xs, chain-all R f xs)
+
+  pub each-implied : (P Q : A → Type 0) → ((x : A) → P x → Q x) → (xs : List A) → Each P xs → Each Q xs
+  each-implied P Q f [] h = tt
+  each-implied P Q f (x ∷ xs) h = (f x (h .0), each-implied P Q f xs (h .1))
+
+  -- ---- of those that pass a test
+  module _ (p : A → Bool) where
+    pub each-keep : (P : A → Type 0) (xs : List A) → Each (λ x. p x ≡ true → P x) xs → Each P (keep p xs)
+    each-keep P [] h = tt
+    each-keep P (x ∷ xs) h = go (p x) refl (each-keep P xs (h .1))
+      where
+        go : (b : Bool) → p x ≡ b → Each P (keep p xs) → Each P (cond b (x ∷ keep p xs) (keep p xs))
+        go true e r = (h .0 e, r)
+        go false e r = r
+
+    pub chain-keep : (R : A → A → Type 0) (xs : List A) → Chain (λ x y. p x ≡ true → p y ≡ true → R x y) xs → Chain R (keep p xs)
+    chain-keep R [] h = tt
+    chain-keep R (x ∷ xs) h = go (p x) refl (chain-keep R xs (h .1))
+      where
+        go : (b : Bool) → p x ≡ b → Chain R (keep p xs) → Chain R (cond b (x ∷ keep p xs) (keep p xs))
+        go true e r = (each-keep (R x) xs (each-implied (λ y. p x ≡ true → p y ≡ true → R x y) (λ y. p y ≡ true → R x y) (λ y f. f e) xs (h .0)), r)
+        go false e r = r
+
+    pub keep-none : (xs : List A) → Each (λ x. p x ≡ false) xs → keep p xs ≡ []
+    keep-none [] h = refl
+    keep-none (x ∷ xs) h = rw (h .0) (keep-none xs (h .1))
+
+    pub keep-turn : (q : A → Bool) (xs : List A) → keep p (keep q xs) ≡ keep q (keep p xs)
+    keep-turn q [] = refl
+    keep-turn q (x ∷ xs) = go (p x) refl (q x) refl (keep-turn q xs)
+      where
+        go : (b : Bool) → p x ≡ b → (c : Bool) → q x ≡ c → keep p (keep q xs) ≡ keep q (keep p xs) → keep p (keep q (x ∷ xs)) ≡ keep q (keep p (x ∷ xs))
+        go true e true f r = simp (e, f, r)
+        go true e false f r = simp (e, f, r)
+        go false e true f r = simp (e, f, r)
+        go false e false f r = simp (e, f, r)
+
+pub map-keep : {A B : Type 0} (f : A → B) (p : B → Bool) (xs : List A) → map f (keep (λ x. p (f x)) xs) ≡ keep p (map f xs)
+map-keep f p [] = refl
+map-keep {B = B} f p (x ∷ xs) = go (p (f x)) (map-keep f p xs)
+  where
+    go : (b : Bool) → map f (keep (λ y. p (f y)) xs) ≡ keep p (map f xs)
+        → map f (cond b (x ∷ keep (λ y. p (f y)) xs) (keep (λ y. p (f y)) xs)) ≡ cond b (f x ∷ keep p (map f xs)) (keep p (map f xs))
+    go true r = ap {B = List B} (λ l. f x ∷ l) r
+    go false r = r
+
+-- those that pass a test, of two lists one behind the other
+cond-more : {A : Type 0} (b : Bool) (x : A) (xs ys : List A) → cond b (x ∷ (xs ++ ys)) (xs ++ ys) ≡ cond b (x ∷ xs) xs ++ ys
+cond-more true x xs ys = refl
+cond-more false x xs ys = refl
+
+pub keep-more : {A : Type 0} (p : A → Bool) (xs ys : List A) → keep p (xs ++ ys) ≡ keep p xs ++ keep p ys
+keep-more p [] ys = refl
+keep-more {A = A} p (x ∷ xs) ys = ap (λ (zs : List A). cond (p x) (x ∷ zs) zs) (keep-more p xs ys) ∙ cond-more (p x) x (keep p xs) (keep p ys)

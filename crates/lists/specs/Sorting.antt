@@ -1,0 +1,12 @@
+-- A stable sort, by a test of whether the first of two may stand before the second.
+use mathlib.Core.Bool.{Bool, cond}
+use mathlib.Core.List.{List, [], _∷_}
+
+-- an element put before the first that it may stand before
+abbrev pub insert : {A : Type 0} → (A → A → Bool) → A → List A → List A
+insert before x [] = x ∷ []
+insert before x (y ∷ ys) = cond (before x y) (x ∷ (y ∷ ys)) (y ∷ insert before x ys)
+
+abbrev pub sorted : {A : Type 0} → (A → A → Bool) → List A → List A
+sorted before [] = []
+sorted before (x ∷ xs) = insert before x (sorted before xs)

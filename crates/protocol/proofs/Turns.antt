@@ -1,0 +1,111 @@
+-- Turns in order, and a turn found by its number.
+use mathlib.Core.Path.{_≡_, refl, ap, sym, _∙_}
+use mathlib.Core.Bool.{Bool, true, false, cond, _||_, false≢true}
+use mathlib.Core.List.{List, [], _∷_, map}
+use Prim.Native.Nat.{ℕ, zero, suc, _+_, _<_}
+use native.Mathlib.Omega.{arith}
+use lib.ListN.{length}
+use lib.Dec.{eqb}
+use borrow.Author.Tests.{eqb-true, eq-eqb, ne-eqb}
+use Rattle.timestamp.specs.Order.{byNumber, orderBy, notLater}
+use Rattle.timestamp.proofs.Comparisons.{not-later-trans, later-turned}
+use Rattle.timestamp.proofs.OrderLaws.{by-number-laws}
+use Rattle.lists.specs.Lists.{any, keep}
+use Rattle.records.specs.Records.{Record}
+use Rattle.lists.specs.Sorting.{sorted, insert}
+use Rattle.lists.proofs.Chains.{Each, Chain}
+use Rattle.lists.proofs.Sorting.{each-sorted, any-sorted}
+use Rattle.protocol.specs.Run.{Turn, numbered, comesFirst, inTurn, find}
+use Rattle.protocol.proofs.Values.{recordAt}
+
+-- ---- by rising timestamp, equal ones in the order made
+pub turns-along : (c d e : Turn) → comesFirst c d ≡ true → comesFirst d e ≡ true → comesFirst c e ≡ true
+turns-along c d e = not-later-trans (orderBy byNumber) by-number-laws (c .commit .stamp) (d .commit .stamp) (e .commit .stamp)
+
+pub turns-either : (c d : Turn) → comesFirst c d ≡ false → comesFirst d c ≡ true
+turns-either c d h = ap notLater (later-turned (orderBy byNumber) by-number-laws (c .commit .stamp) (d .commit .stamp) h)
+
+-- ---- a turn found by its number
+abbrev pub has : ℕ → List Turn → Bool
+has k cs = any (λ (c : Turn). eqb (c .number) k) cs
+
+pub each-found : (P : Record → Type 0) (cs : List Turn) (k : ℕ) → Each (λ c. P (c .commit)) cs → has k cs ≡ true → P (find cs k)
+each-found P [] k h e = absurd (false≢true e)
+each-found P (c ∷ cs) k h e = go (eqb (c .number) k) e (each-found P cs k (h .1))
+  where
+    go : (b : Bool) → (b || has k cs) ≡ true → (has k cs ≡ true → P (find cs k)) → P (cond b (c .commit) (find cs k))
+    go true f r = h .0
+    go false f r = r f
+
+module _ (k : ℕ) where
+  -- one that shares its number with none
+  find-insert : (c : Turn) (ds : List Turn) → Each (λ d. c .number < d .number) ds → find (insert comesFirst c ds) k ≡ find (c ∷ ds) k
+  find-insert c [] h = refl
+  find-insert c (d ∷ ds) h = go (comesFirst c d) (find-insert c ds (h .1))
+    where
+      turn : (a b : Bool) → eqb (c .number) k ≡ a → eqb (d .number) k ≡ b
+          → cond b (d .commit) (cond a (c .commit) (find ds k)) ≡ cond a (c .commit) (cond b (d .commit) (find ds k))
+      turn true true e f =
+          let apart : c .number < d .number = h .0 in
+          absurd (omega (arith, eqb-true (c .number) k e, eqb-true (d .number) k f))
+      turn true false e f = refl
+      turn false b e f = refl
+
+      go : (b : Bool) → find (insert comesFirst c ds) k ≡ find (c ∷ ds) k → find (cond b (c ∷ (d ∷ ds)) (d ∷ insert comesFirst c ds)) k ≡ find (c ∷ (d ∷ ds)) k
+      go true r = refl
+      go false r = ap (λ (x : Record). cond (eqb (d .number) k) (d .commit) x) r ∙ turn (eqb (c .number) k) (eqb (d .number) k) refl refl
+
+  find-sorted : (cs : List Turn) → Chain (λ c d. c .number < d .number) cs → find (sorted comesFirst cs) k ≡ find cs k
+  find-sorted [] h = refl
+  find-sorted (c ∷ cs) h =
+      find-insert c (sorted comesFirst cs) (each-sorted comesFirst (λ d. c .number < d .number) cs (h .0))
+      ∙ ap (λ (x : Record). cond (eqb (c .number) k) (c .commit) x) (find-sorted cs (h .1))
+
+-- ---- the commits numbered in the order made
+pub commits-numbered : (j : ℕ) (h : List Record) → map (λ (c : Turn). c .commit) (numbered j h) ≡ h
+commits-numbered j [] = refl
+commits-numbered j (r ∷ h) = ap {B = List Record} (λ l. r ∷ l) (commits-numbered (suc j) h)
+
+-- what holds of each commit by its number, and of each two
+pub each-number : (P : Record → Type 0) (j : ℕ) (h : List Record) → ((k : ℕ) → k < length h → P (recordAt h k)) → Each (λ (c : Turn). P (c .commit)) (numbered j h)
+each-number P j [] f = tt
+each-number P j (r ∷ h) f = (f 0 (omega arith), each-number P (suc j) h (λ k l. f (suc k) (omega arith)))
+
+pub chain-number : (R : Record → Record → Type 0) (j : ℕ) (h : List Record)
+    → ((k m : ℕ) → k < m → m < length h → R (recordAt h k) (recordAt h m)) → Chain (λ (c d : Turn). R (c .commit) (d .commit)) (numbered j h)
+chain-number R j [] f = tt
+chain-number R j (r ∷ h) f = (each-number (R r) (suc j) h (λ m l. f 0 (suc m) (omega arith) (omega arith)), chain-number R (suc j) h (λ k m a b. f (suc k) (suc m) (omega arith) (omega arith)))
+
+each-numbered : (j n : ℕ) (h : List Record) → j < n → Each (λ (c : Turn). j < c .number) (numbered n h)
+each-numbered j n [] l = tt
+each-numbered j n (r ∷ h) l = (l, each-numbered j (suc n) h (omega arith))
+
+chain-numbered : (j : ℕ) (h : List Record) → Chain (λ (c d : Turn). c .number < d .number) (numbered j h)
+chain-numbered j [] = tt
+chain-numbered j (r ∷ h) = (each-numbered j (suc j) h (omega arith), chain-numbered (suc j) h)
+
+find-numbered : (j k : ℕ) (h : List Record) → find (numbered j h) (j + k) ≡ recordAt h k
+find-numbered j k [] = refl
+find-numbered j zero (r ∷ h) = rw (eq-eqb j (j + 0) (omega arith))
+find-numbered j (suc k) (r ∷ h) =
+    let next : j + suc k ≡ suc j + k = omega arith in
+    rw (ne-eqb j (j + suc k) (λ e. omega arith)) (ap (find (numbered (suc j) h)) next ∙ find-numbered (suc j) k h)
+
+has-numbered : (j k : ℕ) (h : List Record) → k < length h → has (j + k) (numbered j h) ≡ true
+has-numbered j k [] l = absurd (omega arith)
+has-numbered j zero (r ∷ h) l = rw (eq-eqb j (j + 0) (omega arith))
+has-numbered j (suc k) (r ∷ h) l =
+    let next : j + suc k ≡ suc j + k = omega arith in
+    rw (ne-eqb j (j + suc k) (λ e. omega arith)) (ap (λ (m : ℕ). has m (numbered (suc j) h)) next ∙ has-numbered (suc j) k h (omega arith))
+
+-- ---- and in turn: every number is there, with its commit
+module _ (h : List Record) (k : ℕ) where
+  pub has-turn : k < length h → has k (inTurn h) ≡ true
+  has-turn l =
+      let same : k ≡ 0 + k = omega arith in
+      any-sorted comesFirst (λ (c : Turn). eqb (c .number) k) (numbered 0 h) ∙ ap (λ (m : ℕ). has m (numbered 0 h)) same ∙ has-numbered 0 k h l
+
+  pub find-turn : find (inTurn h) k ≡ recordAt h k
+  find-turn =
+      let same : k ≡ 0 + k = omega arith in
+      find-sorted k (numbered 0 h) (chain-numbered 0 h) ∙ ap (find (numbered 0 h)) same ∙ find-numbered 0 k h
