@@ -11,10 +11,12 @@ use Rattle.protocol.specs.Network.{Network, noStamp, siteAt, withSite}
 use Rattle.lists.specs.Numbers.{numberIf}
 use Rattle.protocol.specs.Steps.{noSuchSite, epochNumber, epochNetwork}
 use Rattle.protocol.specs.Calls.{epoch, accepted, perform}
-use Rattle.network_layout.specs.InWords.{networkIn, numberIn, SiteStep}
+use Rattle.network_layout.specs.InWords.{networkIn, shaped, SiteStep}
 use Rattle.network_layout.specs.Promises.{Performed}
 use Rattle.lists.proofs.Numbers.{none-holds}
-use Rattle.network_layout.proofs.Performs.{shaped-well, meaning-some, number-none, performs-refused, performs-accepted}
+use Rattle.network_layout.specs.At.{AtNetwork}
+use Rattle.network_layout.proofs.OnNetwork.{well-on, refused-on, accepted-on, unshaped}
+use Rattle.protocol.proofs.Allowed.{epoch-allowed}
 use Rattle.protocol.proofs.Keeps.{keeps-epoch}
 
 -- ---- the number
@@ -37,21 +39,20 @@ module _ (n : Network) (i e : ℕ) where
       unfolding epochNumber
       epoch-new h = rw (a, b, lt-leb e (siteAt n i .stamp .epoch) h)
 
-  pub epoch-site : epochNumber n i e ≡ 0 → noSuchSite n i ≡ false
-  unfolding epochNumber
-  epoch-site z = none-holds (noSuchSite n i) 6 (numberIf (hasParents (n .items) i) 15 ∷ numberIf (leb e (siteAt n i .stamp .epoch)) 16 ∷ []) z .0
-
 -- ---- the step on words
-module _ (w : List ℕ) (i e : ℕ) where
-  pub epoch-done : numberIn w (λ n. epochNumber n i e) ≡ 0 → (v : List ℕ) (k : ℕ) → k ≡ i → SiteStep w v k (atEpoch e) → Performed (epoch i e) w v 0 0 noStamp []
+module _ (w : List ℕ) (net : AtNetwork w) (i e : ℕ) where
+  pub epoch-refused : (r : ℕ) → r ≡ epochNumber (networkIn w) i e → (r ≡ 0 → ⊥) → Performed (epoch i e) w w r 0 noStamp []
+  unfolding perform
+  epoch-refused r f h = refused-on (epoch i e) refl (λ m. epochNumber m i e) (λ m. accepted 0 noStamp [] (epochNetwork m i e)) (λ m. refl) w net r f h
+
+  pub epoch-done : epochNumber (networkIn w) i e ≡ 0 → (v : List ℕ) (k : ℕ) → k ≡ i → SiteStep w v k (atEpoch e) → Performed (epoch i e) w v 0 0 noStamp []
   unfolding perform epochNetwork
   epoch-done z v k f s =
       let n = networkIn w in
-      let q = number-none w (λ m. epochNumber m i e) z in
-      performs-accepted (epoch i e) (λ m. epochNumber m i e) (λ m. accepted 0 noStamp [] (epochNetwork m i e)) (λ m. refl) refl w v 0 noStamp [] z refl refl refl refl
-      (meaning-some v (epochNetwork n i e) (s .ranged) (s .meant ∙ ap (λ (j : ℕ). withSite n j (atEpoch e (siteAt n j))) f) (keeps-epoch n i e (shaped-well w (q .0)) (q .1)))
+      accepted-on (epoch i e) refl (λ m. epochNumber m i e) (λ m. accepted 0 noStamp [] (epochNetwork m i e)) (λ m. refl) w net v 0 noStamp [] (epochNetwork n i e) z refl (s .ranged)
+      (s .meant ∙ ap (λ (j : ℕ). withSite n j (atEpoch e (siteAt n j))) f)
+      (keeps-epoch n i e (well-on w net) (epoch-allowed n i e z))
 
-  pub epoch-refused : (r : ℕ) → r ≡ numberIn w (λ n. epochNumber n i e) → (r ≡ 0 → ⊥) → Performed (epoch i e) w w r 0 noStamp []
-  unfolding perform
-  epoch-refused r f h =
-      performs-refused (epoch i e) (λ m. epochNumber m i e) (λ m. accepted 0 noStamp [] (epochNetwork m i e)) (λ m. refl) refl w r f h
+pub epoch-unshaped : (w : List ℕ) (i e : ℕ) → shaped w ≡ false → Performed (epoch i e) w w 6 0 noStamp []
+unfolding perform
+epoch-unshaped w i e = unshaped (epoch i e) refl w

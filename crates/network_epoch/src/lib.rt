@@ -7,7 +7,8 @@ ghost use Rattle.network_layout.specs.Layout.{stateSize};
 ghost use Rattle.protocol.specs.Network.{noStamp};
 ghost use Rattle.protocol.specs.Steps.{epochNumber};
 ghost use Rattle.protocol.specs.Calls.{epoch as epochCall};
-ghost use Rattle.network_layout.specs.InWords.{numberIn};
+ghost use Rattle.network_layout.specs.InWords.{networkIn};
+ghost use Rattle.network_layout.specs.At.{AtNetwork};
 ghost use Rattle.network_layout.specs.Promises.{Performed};
 
 // A new epoch at a site. It answers its number.
@@ -21,6 +22,17 @@ fn epoch_in(state: &mut [u32], site: u32, to: u32) -> u32
     requires { ⌜ length (now state) ≡ stateSize ⌝ }
     ensures { λ r. ⌜ Performed (epochCall site to) (now (state .entry)) (now (state .exit)) r 0 noStamp [] ⌝ }
 {
+    if !network_shape::shaped(state) {
+        return 6;
+    }
+    epoch_on(state, site, to)
+}
+
+// The same on the words of a network.
+pub fn epoch_on(state: &mut [u32], site: u32, to: u32) -> u32
+    requires { ⌜ AtNetwork (now state) ⌝ }
+    ensures { λ r. ⌜ Performed (epochCall site to) (now (state .entry)) (now (state .exit)) r 0 noStamp [] ⌝ }
+{
     let number = epoch_number(state, site, to);
     if number != 0 {
         return number;
@@ -31,12 +43,11 @@ fn epoch_in(state: &mut [u32], site: u32, to: u32) -> u32
 
 // The number of the first cause that refuses the step, or 0.
 fn epoch_number(state: &[u32], site: u32, to: u32) -> u32
-    requires { ⌜ length (now state) ≡ stateSize ⌝ }
-    ensures { λ r. ⌜ r ≡ numberIn (now (state .entry)) (λ n. epochNumber n site to) ⌝ }
+    requires { ⌜ AtNetwork (now state) ⌝ }
+    ensures { λ r. ⌜ r ≡ epochNumber (networkIn (now (state .entry))) site to ⌝ }
 {
-    let cause = network_shape::site_number(state, site);
-    if cause != 0 {
-        return cause;
+    if !network_shape::is_site(state, site) {
+        return 7;
     }
     if network_access::has_parents(state, site) {
         return 15;

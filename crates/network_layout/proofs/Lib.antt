@@ -3,3 +3,4 @@ pub mod Performs
 pub mod Asked
 pub mod Places
 pub mod Played
+pub mod OnNetwork

@@ -7,7 +7,7 @@ use lib.ListN.{length, getD}
 use Rattle.limits.specs.Limits.{sitesMost, recordsMost}
 use Rattle.protocol.specs.Network.{linesMost}
 use Rattle.network_layout.specs.Layout.{stateSize}
-use Rattle.network_layout.specs.InWords.{inRange}
+use Rattle.network_layout.specs.InWords.{inRange, shaped}
 
 pub record AtState (w : List ℕ) : Type 0 where
   pub sized : length w ≡ stateSize
@@ -29,3 +29,8 @@ pub record AtRecord (w : List ℕ) (k : ℕ) : Type 0 where
   pub ranged : inRange w ≡ true
   pub there : k < getD w 2 0
   pub few : k < recordsMost
+
+-- the words of a network
+pub record AtNetwork (w : List ℕ) : Type 0 where
+  pub sized : length w ≡ stateSize
+  pub formed : shaped w ≡ true

@@ -1,78 +1,81 @@
 -- `epoch_number` asks for the causes in the order of their numbers.
 use mathlib.Core.Path.{_≡_, sym, ap, _∙_}
-use mathlib.Core.Bool.{true, false}
-use mathlib.Core.List.{[], _∷_}
+use mathlib.Core.Bool.{false}
 use Prim.Native.Nat.{ℕ}
 use native.Mathlib.Omega.{arith}
-use lib.Dec.{leb}
+use borrow.Author.Tests.{leb-false, not-true, not-false}
+use lib.ListN.{length}
 use Rattle.timestamp.specs.Timestamp.{Stamp}
-use Rattle.placement.specs.Placement.{hasParents}
+use Rattle.lists.proofs.Numbers.{flip-true, flip-false}
 use Rattle.protocol.specs.Network.{siteAt}
-use Rattle.lists.specs.Numbers.{numberIf}
-use Rattle.protocol.specs.Steps.{noSuchSite, epochNumber}
-use Rattle.network_layout.specs.InWords.{networkIn, shaped}
-use Rattle.network_layout.proofs.Performs.{number-shaped, shaped-range, site-found, site-first, site-below}
-use Rattle.network_epoch.proofs.EpochLaws.{epoch-below, epoch-old, epoch-new}
+use Rattle.protocol.specs.Steps.{noSuchSite}
+use Rattle.network_layout.specs.InWords.{networkIn}
+use Rattle.network_layout.specs.At.{AtState, AtSite}
+use Rattle.network_layout.proofs.OnNetwork.{at-state, at-site}
+use Rattle.network_epoch.proofs.EpochLaws.{epoch-nowhere, epoch-below, epoch-old, epoch-new}
 use borrow.Author.Needs.{needs}
 use Rattle.network_epoch.proofs.epoch_number.Statement.{statement}
 use Rattle.network_epoch.proofs.epoch_number.Tie as tie
 
--- the state is a network and has the site
-found : (c : tie.Else1) → (shaped (c .before .before .before .args .state .now) ≡ true) × (noSuchSite (networkIn (c .before .before .before .args .state .now)) (c .before .before .before .args .site) ≡ false)
-found c = site-found (c .before .before .before .args .state .now) (c .before .before .before .args .site) (sym (c .before .site-number .ensures) ∙ c .if1 .left)
+-- the site is there
+there : (c : tie.Else1) → noSuchSite (networkIn (c .before .before .before .args .state .now)) (c .before .before .before .args .site) ≡ false
+there c =
+    let A = c .before .before .before .args in
+    flip-true (c .before .is-site .result) (noSuchSite (networkIn (A .state .now)) (A .site)) (c .before .is-site .ensures) (not-false (c .before .is-site .result) (c .if1 .left))
 
 -- the epoch that the code reads is the site's
 present : (c : tie.After-site-stamp) → c .site-stamp .result .epoch .0 ≡ siteAt (networkIn (c .before .before .before .before .before .before .before .args .state .now)) (c .before .before .before .before .before .before .before .args .site) .stamp .epoch
 present c =
-    ap (λ (t : Stamp). t .epoch) (c .site-stamp .ensures) ∙ ap (λ (j : ℕ). siteAt (networkIn (c .before .before .before .before .before .before .before .args .state .now)) j .stamp .epoch) (c .before .wide .ensures)
+    let w = c .before .before .before .before .before .before .before .args .state .now in
+    ap (λ (t : Stamp). t .epoch) (c .site-stamp .ensures) ∙ ap (λ (j : ℕ). siteAt (networkIn w) j .stamp .epoch) (c .before .wide .ensures)
 
-site-number-requires : tie.Need-site-number-requires
-site-number-requires c κs = search needs
+is-site-requires : tie.Need-is-site-requires
+is-site-requires c κs = search needs
 
 returns : tie.Need-returns
-unfolding epochNumber
-returns c = let A = c .before .before .before .args in site-first (A .state .now) (A .site) (λ n. numberIf (hasParents (n .items) (A .site)) 15 ∷ numberIf (leb (A .to) (siteAt n (A .site) .stamp .epoch)) 16 ∷ []) (c .before .site-number .result) (c .before .site-number .ensures) (c .if1 .taken)
+returns c =
+    let A = c .before .before .before .args in
+    let n = networkIn (A .state .now) in
+    sym (epoch-nowhere n (A .site) (A .to) (flip-false (c .before .is-site .result) (noSuchSite n (A .site)) (c .before .is-site .ensures) (not-true (c .before .is-site .result) (c .if1 .taken))))
 
 has-parents-requires : tie.Need-has-parents-requires
-has-parents-requires c κs = (c .before .before .before .pre, shaped-range (c .before .before .before .args .state .now) (found (c) .0))
+has-parents-requires c κs =
+    let start = c .before .before .before in
+    let at : AtState (start .args .state .now) = at-state (start .args .state .now) (start .pre) in
+    search needs
 
 returns-2 : tie.Need-returns-2
 returns-2 c =
-    let A = c .before .before .before .before .before .args in
-    let f = found (c .before .before) in
-    sym (number-shaped (A .state .now) (λ n. epochNumber n (A .site) (A .to)) (f .0) ∙ epoch-below (networkIn (A .state .now)) (A .site) (A .to) (f .1) (sym (c .before .has-parents .ensures) ∙ c .if2 .taken))
+    let found = c .before .before in
+    let A = found .before .before .before .args in
+    sym (epoch-below (networkIn (A .state .now)) (A .site) (A .to) (there found) (sym (c .before .has-parents .ensures) ∙ c .if2 .taken))
 
 wide-requires : tie.Need-wide-requires
 wide-requires c κs = search needs
 
 site-stamp-requires : tie.Need-site-stamp-requires
 site-stamp-requires c κs =
-    let w = c .before .before .before .before .before .before .args .state .now in
-    let f = found (c .before .before .before) in
-    let b = site-below w (shaped-range w (f .0)) (c .before .before .before .before .before .before .args .site) (f .1) in
-    (c .before .before .before .before .before .before .pre, shaped-range w (f .0), omega (arith, c .wide .ensures, b .0), omega (arith, c .wide .ensures, b .1))
+    let found = c .before .before .before in
+    let start = found .before .before .before in
+    let A = start .args in
+    let at : AtSite (A .state .now) (c .wide .result) = at-site (A .state .now) (start .pre) (A .site) (c .wide .result) (c .wide .ensures) (leb-false (length (networkIn (A .state .now) .sites)) (A .site) (there found)) in
+    search needs
 
 returns-3 : tie.Need-returns-3
 returns-3 c =
-    let A = c .before .before .before .before .before .before .before .before .before .before .args in
-    let f = found (c .before .before .before .before .before .before .before) in
-    sym (number-shaped (A .state .now) (λ n. epochNumber n (A .site) (A .to)) (f .0) ∙ epoch-old (networkIn (A .state .now)) (A .site) (A .to) (f .1) (sym (c .before .before .before .before .before .before .has-parents .ensures) ∙ c .before .before .before .before .before .if2 .left) (omega (arith, present (c .before .before .before), c .if3 .taken)))
+    let read = c .before .before .before in
+    let orphan = read .before .before in
+    let found = orphan .before .before in
+    let A = found .before .before .before .args in
+    sym (epoch-old (networkIn (A .state .now)) (A .site) (A .to) (there found) (sym (orphan .before .has-parents .ensures) ∙ orphan .if2 .left) (omega (arith, present read, c .if3 .taken)))
 
 returns-4 : tie.Need-returns-4
 returns-4 c =
-    let A = c .before .before .before .before .before .before .before .before .before .before .args in
-    let f = found (c .before .before .before .before .before .before .before) in
-    sym (number-shaped (A .state .now) (λ n. epochNumber n (A .site) (A .to)) (f .0) ∙ epoch-new (networkIn (A .state .now)) (A .site) (A .to) (f .1) (sym (c .before .before .before .before .before .before .has-parents .ensures) ∙ c .before .before .before .before .before .if2 .left) (omega (arith, present (c .before .before .before), c .if3 .left)))
+    let read = c .before .before .before in
+    let orphan = read .before .before in
+    let found = orphan .before .before in
+    let A = found .before .before .before .args in
+    sym (epoch-new (networkIn (A .state .now)) (A .site) (A .to) (there found) (sym (orphan .before .has-parents .ensures) ∙ orphan .if2 .left) (omega (arith, present read, c .if3 .left)))
 
 pub epoch-number-spec : {M : Type 1} → statement M
-epoch-number-spec =
-    tie.close
-    (tie.spec
-    site-number-requires
-    returns
-    has-parents-requires
-    returns-2
-    wide-requires
-    site-stamp-requires
-    returns-3
-    returns-4)
+epoch-number-spec = tie.close (tie.spec is-site-requires returns has-parents-requires returns-2 wide-requires site-stamp-requires returns-3 returns-4)
