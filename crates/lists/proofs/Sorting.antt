@@ -4,7 +4,7 @@ use mathlib.Core.Bool.{Bool, true, false, cond, _||_}
 use mathlib.Core.List.{List, [], _∷_}
 use Rattle.lists.specs.Lists.{any, keep}
 use Rattle.lists.specs.Sorting.{insert, sorted}
-use Rattle.lists.proofs.Chains.{Each, Chain, each-all, chain-all, each-implied, each-keep}
+use Rattle.lists.proofs.Chains.{Each, Chain, chain-all, each-implied, each-keep}
 
 module _ {A : Type 0} (before : A → A → Bool) where
   -- ---- what holds of each element

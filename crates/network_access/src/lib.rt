@@ -25,10 +25,11 @@ ghost use Rattle.placement.specs.Placement.{isLine, hasParents, owns, copies};
 ghost use Rattle.lines.specs.Lines.{commit, noLine, sentOrSame, deliveredOrSame, takenOrSame};
 ghost use Rattle.lines.specs.InWords.{messageOf};
 ghost use Rattle.network_layout.specs.Layout.{stateSize};
-ghost use Rattle.protocol.specs.Network.{linesMost, siteAt, noRecord, noStamp};
+ghost use Rattle.protocol.specs.Network.{linesMost, siteAt, noRecord, noStamp, lineNumber};
 ghost use Rattle.protocol.specs.Steps.{countAtMost};
 ghost use Rattle.network_layout.specs.InWords.{networkIn, inRange, SiteStep, LineStep, RecordStep};
 ghost use Rattle.network_layout.specs.Promises.{Blank};
+ghost use Rattle.network_layout.specs.At.{Pair};
 
 pub fn is_line(state: &[u32], p: u32, c: u32) -> bool
     requires { ⌜ (length (now state) ≡ stateSize) × (inRange (now state) ≡ true) ⌝ }
@@ -250,4 +251,12 @@ pub fn record_ops(state: &[u32], k: usize) -> [u32; 24]
     let e = a + 24;
     words::copy(&mut out, &state[a..e]);
     out
+}
+
+// The number of the line from site p to site c.
+pub fn line_number(p: u32, c: u32) -> usize
+    requires { ⌜ Pair p c ⌝ }
+    ensures { λ r. ⌜ r ≡ lineNumber p c ⌝ }
+{
+    words::wide(p) * limits::SITES_WIDE + words::wide(c)
 }

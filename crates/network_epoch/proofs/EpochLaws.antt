@@ -1,19 +1,16 @@
 -- Epoch: its number, cause by cause, and the network after it.
 use mathlib.Core.Path.{_≡_, refl, ap, _∙_}
 use mathlib.Core.Bool.{true, false}
-use mathlib.Core.List.{List, [], _∷_}
+use mathlib.Core.List.{List, []}
 use Prim.Native.Nat.{ℕ, _≤_, _<_}
-use lib.Dec.{leb}
 use borrow.Author.Tests.{le-leb, lt-leb}
 use Rattle.site.specs.Site.{atEpoch}
 use Rattle.placement.specs.Placement.{hasParents}
 use Rattle.protocol.specs.Network.{Network, noStamp, siteAt, withSite}
-use Rattle.lists.specs.Numbers.{numberIf}
 use Rattle.protocol.specs.Steps.{noSuchSite, epochNumber, epochNetwork}
 use Rattle.protocol.specs.Calls.{epoch, accepted, perform}
 use Rattle.network_layout.specs.InWords.{networkIn, shaped, SiteStep}
 use Rattle.network_layout.specs.Promises.{Performed}
-use Rattle.lists.proofs.Numbers.{none-holds}
 use Rattle.network_layout.specs.At.{AtNetwork}
 use Rattle.network_layout.proofs.OnNetwork.{well-on, refused-on, accepted-on, unshaped}
 use Rattle.protocol.proofs.Allowed.{epoch-allowed}

@@ -6,16 +6,16 @@ use mathlib.Core.Option.{none, some}
 use Prim.Native.Nat.{ℕ, _≤_, _<_}
 use native.Mathlib.Omega.{arith}
 use lib.IntN.{ℤ}
-use lib.ListN.{length, getD}
-use Rattle.limits.specs.Limits.{sitesMost, recordsMost}
+use lib.ListN.{length}
+use Rattle.limits.specs.Limits.{sitesMost}
 use Rattle.timestamp.specs.Timestamp.{Stamp}
-use Rattle.protocol.specs.Network.{Network, noStamp, linesMost, lineNumber, wellShaped}
+use Rattle.protocol.specs.Network.{Network, noStamp, lineNumber, wellShaped}
 use Rattle.protocol.specs.Calls.{Call, Outcome, refused, judged, perform}
 use Rattle.network_layout.specs.InWords.{networkIn, inRange, shaped, meaning}
 use Rattle.network_layout.specs.Promises.{Performed}
 use Rattle.network_layout.specs.At.{AtState, AtSite, AtLine, AtRecord, AtNetwork}
 use Rattle.network_layout.proofs.Assembled.{partsOf, range-parts}
-use Rattle.network_layout.proofs.Performs.{sites-count, records-count, shaped-range, shaped-well, number-shaped, number-unshaped, performs-refused, performs-accepted, meaning-some}
+use Rattle.network_layout.proofs.Performs.{sites-count, records-count, shaped-range, shaped-well, number-shaped, performs-refused, performs-accepted, meaning-some}
 
 module _ (w : List ℕ) (net : AtNetwork w) where
   pub ranged-on : inRange w ≡ true

@@ -34,3 +34,14 @@ pub record AtRecord (w : List ℕ) (k : ℕ) : Type 0 where
 pub record AtNetwork (w : List ℕ) : Type 0 where
   pub sized : length w ≡ stateSize
   pub formed : shaped w ≡ true
+
+-- two sites, and the line between them
+pub record Pair (p c : ℕ) : Type 0 where
+  pub from : p < sitesMost
+  pub to : c < sitesMost
+
+pub record AtPair (w : List ℕ) (p c : ℕ) : Type 0 where
+  pub sized : length w ≡ stateSize
+  pub ranged : inRange w ≡ true
+  pub from : p < sitesMost
+  pub to : c < sitesMost
