@@ -2,6 +2,7 @@
 use lines::Message;
 use network_layout::Dummied;
 use network_layout::WORDS;
+use timestamp::Timestamp;
 ghost use mathlib.Core.Path.{_≡_};
 ghost use mathlib.Core.List.{[]};
 ghost use lib.ListN.{length};
@@ -9,7 +10,10 @@ ghost use Rattle.timestamp.specs.Timestamp.{stampOf};
 ghost use Rattle.network_layout.specs.Layout.{stateSize};
 ghost use Rattle.protocol.specs.Steps.{dummyNumber};
 ghost use Rattle.protocol.specs.Calls.{dummy as dummyCall};
-ghost use Rattle.network_layout.specs.InWords.{numberIn};
+ghost use Rattle.network_layout.specs.InWords.{networkIn};
+ghost use Rattle.network_layout.specs.At.{AtNetwork, AtSite};
+ghost use Rattle.network_dummy.specs.Done.{DummyReady, Raised, DummyDone};
+ghost use Rattle.protocol.specs.Network.{noStamp};
 ghost use Rattle.network_layout.specs.Promises.{Performed, Blank};
 
 // A dummy at a site. It answers its number and the timestamp.
@@ -25,45 +29,78 @@ fn dummy_in(state: &mut [u32], site: u32) -> Dummied
     ensures { λ r. ⌜ Performed (dummyCall site) (now (state .entry)) (now (state .exit)) (r .number) 0 (stampOf (r .stamp)) [] ⌝ }
     ensures { λ r. ⌜ ((r .number ≡ 0 → ⊥) → Blank (r .stamp)) ⌝ }
 {
+    if !network_shape::shaped(state) {
+        return refused(6);
+    }
+    dummy_on(state, site)
+}
+
+// The same on the words of a network.
+pub fn dummy_on(state: &mut [u32], site: u32) -> Dummied
+    requires { ⌜ AtNetwork (now state) ⌝ }
+    ensures { λ r. ⌜ Performed (dummyCall site) (now (state .entry)) (now (state .exit)) (r .number) 0 (stampOf (r .stamp)) [] ⌝ }
+    ensures { λ r. ⌜ ((r .number ≡ 0 → ⊥) → Blank (r .stamp)) ⌝ }
+{
     let number = dummy_number(state, site);
     if number != 0 {
-        let none = network_access::no_stamp();
-        return Dummied {
-            number,
-            stamp: none,
-        };
+        return refused(number);
     }
-    let i = words::wide(site);
-    let mask = network_access::children(state, site);
-    network_access::site_dummy(state, i);
-    let t = network_access::site_stamp(state, i);
-    let m = Message {
-        name: 256,
-        stamp: t,
-    };
-    network_sending::send_all(state, i, mask, m);
+    let t = dummy_done(state, site);
     Dummied {
         number: 0,
         stamp: t,
     }
 }
 
+fn refused(number: u32) -> Dummied
+    ensures { λ r. ⌜ (r .number ≡ number) × (stampOf (r .stamp) ≡ noStamp) × Blank (r .stamp) ⌝ }
+{
+    let none = network_access::no_stamp();
+    Dummied {
+        number,
+        stamp: none,
+    }
+}
+
 // The number of the first cause that refuses the step, or 0.
 fn dummy_number(state: &[u32], site: u32) -> u32
-    requires { ⌜ length (now state) ≡ stateSize ⌝ }
-    ensures { λ r. ⌜ r ≡ numberIn (now (state .entry)) (λ n. dummyNumber n site) ⌝ }
+    requires { ⌜ AtNetwork (now state) ⌝ }
+    ensures { λ r. ⌜ r ≡ dummyNumber (networkIn (now (state .entry))) site ⌝ }
 {
-    let cause = network_shape::site_number(state, site);
-    if cause != 0 {
-        return cause;
+    if !network_shape::is_site(state, site) {
+        return 7;
     }
-    let i = words::wide(site);
     let mask = network_access::children(state, site);
-    if network_sending::some_line_full(state, i, mask) {
+    if network_sending::some_line_full(state, site, mask) {
         return 13;
     }
-    if network_access::count_at_most(state, i) {
+    if network_access::count_at_most(state, words::wide(site)) {
         return 14;
     }
     0
+}
+
+// A dummy that no cause refuses: the site's count, then the messages. It answers the timestamp.
+fn dummy_done(state: &mut [u32], site: u32) -> Timestamp
+    requires { ⌜ DummyReady (now state) site ⌝ }
+    ensures { λ r. ⌜ DummyDone (now (state .entry)) (now (state .exit)) site (stampOf r) ⌝ }
+{
+    let mask = network_access::children(state, site);
+    let t = raise(state, site);
+    let m = Message {
+        name: limits::RECORDS,
+        stamp: t,
+    };
+    network_sending::send_all(state, site, mask, m);
+    t
+}
+
+// The site's own count one higher; its timestamp then.
+fn raise(state: &mut [u32], site: u32) -> Timestamp
+    requires { ⌜ AtSite (now state) site ⌝ }
+    ensures { λ r. ⌜ Raised (now (state .entry)) (now (state .exit)) site (stampOf r) ⌝ }
+{
+    let i = words::wide(site);
+    network_access::site_dummy(state, i);
+    network_access::site_stamp(state, i)
 }

@@ -13,14 +13,16 @@ ghost use Rattle.network_layout.specs.Layout.{stateSize};
 ghost use Rattle.protocol.specs.Network.{withLine, lineAt, lineNumber};
 ghost use Rattle.protocol.specs.Steps.{someLineFull};
 ghost use Rattle.network_layout.specs.InWords.{networkIn, inRange, SentStep};
+ghost use Rattle.network_layout.specs.At.{AtPair};
+ghost use Rattle.network_sending.specs.Sending.{Sender, Sends};
 
 // Whether a line from site i to a site that the mask names holds 16.
-pub fn some_line_full(state: &[u32], i: usize, mask: u32) -> bool
-    requires { ⌜ (length (now state) ≡ stateSize) × (i < sitesMost) ⌝ }
+pub fn some_line_full(state: &[u32], i: u32, mask: u32) -> bool
+    requires { ⌜ Sender (now state) i ⌝ }
     ensures { λ r. ⌜ r ≡ someLineFull (networkIn (now (state .entry))) i (bit mask) ⌝ }
 {
     let mut c = 0;
-    while c < 8 {
+    while c < limits::SITES {
         if line_full(state, i, mask, c) {
             return true;
         }
@@ -30,36 +32,36 @@ pub fn some_line_full(state: &[u32], i: usize, mask: u32) -> bool
 }
 
 // The message to each site that the mask names, one after another.
-pub fn send_all(state: &mut [u32], i: usize, mask: u32, m: Message)
-    requires { ⌜ (length (now state) ≡ stateSize) × (i < sitesMost) × (inRange (now state) ≡ true) × (someLineFull (networkIn (now state)) i (bit mask) ≡ false) ⌝ }
+pub fn send_all(state: &mut [u32], i: u32, mask: u32, m: Message)
+    requires { ⌜ Sends (now state) i mask ⌝ }
     ensures { λ r. ⌜ SentStep (now (state .entry)) (now (state .exit)) (bit mask) i (messageOf m) sitesMost ⌝ }
 {
     let mut c = 0;
-    while c < 8 {
+    while c < limits::SITES {
         send_one(state, i, mask, c, m);
         c += 1;
     }
 }
 
 // Whether the mask names site c and the line to it holds 16.
-fn line_full(state: &[u32], i: usize, mask: u32, c: u32) -> bool
-    requires { ⌜ (length (now state) ≡ stateSize) × (i < sitesMost) × (c < sitesMost) ⌝ }
+fn line_full(state: &[u32], i: u32, mask: u32, c: u32) -> bool
+    requires { ⌜ AtPair (now state) i c ⌝ }
     ensures { λ r. ⌜ r ≡ (bit mask c && leb heldMost (length (lineAt (networkIn (now (state .entry))) i c .messages))) ⌝ }
 {
     if !placement::bit(mask, c) {
         return false;
     }
-    16 <= network_access::line_held(state, i * 8 + words::wide(c))
+    limits::MESSAGES_WIDE <= network_access::line_held(state, network_access::line_number(i, c))
 }
 
 // The message to site c, where the mask names it.
-fn send_one(state: &mut [u32], i: usize, mask: u32, c: u32, m: Message)
-    requires { ⌜ (length (now state) ≡ stateSize) × (i < sitesMost) × (c < sitesMost) × (inRange (now state) ≡ true) ⌝ }
+fn send_one(state: &mut [u32], i: u32, mask: u32, c: u32, m: Message)
+    requires { ⌜ AtPair (now state) i c ⌝ }
     ensures { λ r. ⌜ networkIn (now (state .exit)) ≡ cond (bit mask c) (withLine (networkIn (now (state .entry))) (lineNumber i c) (sentOrSame (messageOf m) (lineAt (networkIn (now (state .entry))) i c))) (networkIn (now (state .entry))) ⌝ }
     ensures { λ r. ⌜ inRange (now (state .exit)) ≡ true ⌝ }
 {
     if placement::bit(mask, c) {
-        let k = i * 8 + words::wide(c);
+        let k = network_access::line_number(i, c);
         network_access::line_send(state, k, m);
     }
 }

@@ -23,10 +23,10 @@ abbrev μ-loop : tie.MeasureT-loop
 μ-loop state₀ i mask m c₀ state c = 8 - c
 
 loop-holds : tie.Need-loop-holds Inv-loop μ-loop
-loop-holds c = (omega arith, c .before .pre .0, refl, c .before .pre .2)
+loop-holds c = (omega arith, c .before .pre .sized, refl, c .before .pre .ranged)
 
 send-one-requires : tie.Need-send-one-requires Inv-loop μ-loop
-send-one-requires c κs = (c .before .before .loop .inv .1, c .before .before .before .before .pre .1, c .before .loop-test .taken, c .before .before .loop .inv .3)
+send-one-requires c κs = record { sized = c .before .before .loop .inv .1; ranged = c .before .before .loop .inv .3; from = c .before .before .before .before .pre .from; to = c .before .loop-test .taken }
 
 add-c : tie.Need-add-c Inv-loop μ-loop
 add-c c = search needs
@@ -40,7 +40,7 @@ loop-again c =
     let n = networkIn (A .state .now) in (
       omega arith,
       c .before .before .send-one .kept .0 ∙ c .before .before .before .before .before .loop .inv .1,
-      sent-next n (bit (A .mask)) (A .i) (messageOf (A .m)) (c .before .before .before .before .before .loop .c) (line-room n (A .i) (bit (A .mask)) (c .before .before .before .before .before .before .before .pre .3) (c .before .before .before .before .before .loop .c) (c .before .before .before .before .loop-test .taken)) (networkIn (c .before .before .before .before .before .loop .state)) (networkIn (c .before .before .send-one .last .0)) (c .before .before .before .before .before .loop .inv .2) (c .before .before .send-one .ensures .0),
+      sent-next n (bit (A .mask)) (A .i) (messageOf (A .m)) (c .before .before .before .before .before .loop .c) (line-room n (A .i) (bit (A .mask)) (c .before .before .before .before .before .before .before .pre .room) (c .before .before .before .before .before .loop .c) (c .before .before .before .before .loop-test .taken)) (networkIn (c .before .before .before .before .before .loop .state)) (networkIn (c .before .before .send-one .last .0)) (c .before .before .before .before .before .loop .inv .2) (c .before .before .send-one .ensures .0),
       c .before .before .send-one .ensures .1,
     )
 

@@ -1,8 +1,7 @@
 -- `send_one` asks the mask, and sends on the line.
-use mathlib.Core.Path.{_≡_, sym, ap, _∙_}
+use mathlib.Core.Path.{sym, ap, _∙_}
 use mathlib.Core.Bool.{Bool, cond}
-use Prim.Native.Nat.{ℕ, _*_, _+_}
-use native.Mathlib.Omega.{arith}
+use Prim.Native.Nat.{ℕ}
 use lib.ListN.{getD}
 use Rattle.lines.specs.Lines.{noLine, sentOrSame}
 use Rattle.lines.specs.InWords.{messageOf}
@@ -15,14 +14,8 @@ use Rattle.network_sending.proofs.send_one.Tie as tie
 bit-requires : tie.Need-bit-requires
 bit-requires c κs = search needs
 
-mul-k : tie.Need-mul-k
-mul-k c = search needs
-
-wide-requires : tie.Need-wide-requires
-wide-requires c κs = search needs
-
-add-k : tie.Need-add-k
-add-k c = search needs
+line-number-requires : tie.Need-line-number-requires
+line-number-requires c κs = search needs
 
 line-send-requires : tie.Need-line-send-requires
 line-send-requires c κs = search needs
@@ -34,7 +27,7 @@ returns : tie.Need-returns
 returns c =
     let A = c .before .before .before .before .before .before .before .before .args in
     let n = networkIn (A .state .now) in
-    let k : A .i * 8 + c .before .before .before .before .wide .result ≡ lineNumber (A .i) (A .c) = omega (arith, c .before .before .before .before .wide .ensures) in (
+    let k = c .before .before .before .before .line-number .ensures in (
       c .before .before .line-send .ensures .meant
           ∙ ap (λ (j : ℕ). withLine n j (sentOrSame (messageOf (A .m)) (getD (n .lines) j noLine))) k
           ∙ sym (ap (λ (b : Bool). cond b (withLine n (lineNumber (A .i) (A .c)) (sentOrSame (messageOf (A .m)) (lineAt n (A .i) (A .c)))) n) (sym (c .before .before .before .before .before .before .bit .ensures) ∙ c .before .before .before .before .before .if1 .taken)),
@@ -45,16 +38,14 @@ returns-2 : tie.Need-returns-2
 returns-2 c =
     let A = c .before .before .before .args in
     let n = networkIn (A .state .now) in
-    (sym (ap (λ (b : Bool). cond b (withLine n (lineNumber (A .i) (A .c)) (sentOrSame (messageOf (A .m)) (lineAt n (A .i) (A .c)))) n) (sym (c .before .bit .ensures) ∙ c .if1 .left)), c .before .before .before .pre .3)
+    (sym (ap (λ (b : Bool). cond b (withLine n (lineNumber (A .i) (A .c)) (sentOrSame (messageOf (A .m)) (lineAt n (A .i) (A .c)))) n) (sym (c .before .bit .ensures) ∙ c .if1 .left)), c .before .before .before .pre .ranged)
 
 pub send-one-spec : {M : Type 1} → statement M
 send-one-spec =
     tie.close
     (tie.spec
     bit-requires
-    mul-k
-    wide-requires
-    add-k
+    line-number-requires
     line-send-requires
     same-length
     returns

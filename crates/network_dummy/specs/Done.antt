@@ -1,0 +1,27 @@
+-- What the parts of a dummy's code ask and say.
+use mathlib.Core.Path.{_≡_}
+use mathlib.Core.Bool.{true}
+use mathlib.Core.List.{List}
+use Prim.Native.Nat.{ℕ}
+use Rattle.timestamp.specs.Timestamp.{Stamp}
+use Rattle.site.specs.Site.{dummied}
+use Rattle.protocol.specs.Network.{siteAt}
+use Rattle.protocol.specs.Steps.{dummyNetwork}
+use Rattle.protocol.specs.Allowed.{DummyAllowed}
+use Rattle.network_layout.specs.InWords.{networkIn, inRange, SiteStep}
+use Rattle.network_layout.specs.At.{AtNetwork}
+
+-- the words of a network on which no cause refuses the dummy
+pub record DummyReady (w : List ℕ) (i : ℕ) : Type 0 where
+  pub net : AtNetwork w
+  pub allowed : DummyAllowed (networkIn w) i
+
+-- the site's own count one higher, and its timestamp then
+pub record Raised (entry exit : List ℕ) (i : ℕ) (stamp : Stamp) : Type 0 where
+  pub step : SiteStep entry exit i dummied
+  pub stamp-is : stamp ≡ siteAt (networkIn exit) i .stamp
+
+pub record DummyDone (entry exit : List ℕ) (i : ℕ) (stamp : Stamp) : Type 0 where
+  pub network-is : networkIn exit ≡ dummyNetwork (networkIn entry) i
+  pub ranged : inRange exit ≡ true
+  pub stamp-is : stamp ≡ siteAt (dummyNetwork (networkIn entry) i) i .stamp
