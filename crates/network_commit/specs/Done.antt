@@ -1,13 +1,68 @@
--- What the part of a commit's code that does the work says.
+-- What the parts of a commit's code ask and say.
 use mathlib.Core.Path.{_≡_}
 use mathlib.Core.Bool.{true}
-use mathlib.Core.List.{List}
-use Prim.Native.Nat.{ℕ}
+use mathlib.Core.List.{List, []}
+use Prim.Native.Nat.{ℕ, _≤_, _<_}
 use lib.IntN.{ℤ}
+use lib.ListN.{length, getD}
+use Rattle.limits.specs.Limits.{sitesMost, opsMost, recordsMost}
+use Rattle.lists.specs.Numbers.{firstNumber}
 use Rattle.timestamp.specs.Timestamp.{Stamp}
 use Rattle.site.specs.Operations.{Op, valuesRead}
-use Rattle.protocol.specs.Steps.{recordOf, commitNetwork}
+use Rattle.site.specs.Site.{committed}
+use Rattle.placement.specs.Masks.{maskOf}
+use Rattle.protocol.specs.Network.{noStamp, siteAt, withSite, withRecord}
+use Rattle.protocol.specs.Steps.{due, commitCauses, recordOf, commitNetwork}
+use Rattle.protocol.specs.Allowed.{CommitAllowed}
+use Rattle.network_layout.specs.Layout.{stateSize}
 use Rattle.network_layout.specs.InWords.{networkIn, inRange}
+use Rattle.network_layout.specs.At.{AtNetwork}
+
+-- n operations in words, on a state in range
+pub record WithOps (w : List ℕ) (n : ℕ) : Type 0 where
+  pub sized : length w ≡ stateSize
+  pub ranged : inRange w ≡ true
+  pub few-ops : n ≤ opsMost
+
+-- one of them
+pub record WithOp (w : List ℕ) (k : ℕ) : Type 0 where
+  pub sized : length w ≡ stateSize
+  pub ranged : inRange w ≡ true
+  pub few-ops : k < opsMost
+
+-- a commit of n operations in words, at a site that is there
+pub record CommitAt (w : List ℕ) (i n : ℕ) : Type 0 where
+  pub net : AtNetwork w
+  pub there : i < length (networkIn w .sites)
+  pub some-ops : 1 ≤ n
+  pub few-ops : n ≤ opsMost
+
+-- and the mask of the sites that are due a message
+pub record Masked (w : List ℕ) (i n mask : ℕ) (os : List Op) : Type 0 where
+  pub at : CommitAt w i n
+  pub mask-is : mask ≡ maskOf (due (networkIn w .items) os) sitesMost
+
+-- no cause refuses it
+pub record CommitReady (w : List ℕ) (i n mask : ℕ) (os : List Op) : Type 0 where
+  pub masked : Masked w i n mask os
+  pub allowed : CommitAllowed (networkIn w) i os
+
+-- the site has room for n operations, and the history for a record
+pub record WorkReady (w : List ℕ) (i n : ℕ) : Type 0 where
+  pub sized : length w ≡ stateSize
+  pub ranged : inRange w ≡ true
+  pub there : i < getD w 0 0
+  pub few : i < sitesMost
+  pub room : getD w 2 0 < recordsMost
+  pub some-ops : 1 ≤ n
+  pub few-ops : n ≤ opsMost
+
+-- the operations worked at the site, and the record added; the timestamp and the operations as recorded
+pub record WorkDone (entry exit : List ℕ) (i : ℕ) (os : List Op) (stamp : Stamp) (ops : List Op) : Type 0 where
+  pub network-is : networkIn exit ≡ withRecord (withSite (networkIn entry) i (committed os (siteAt (networkIn entry) i))) (recordOf (networkIn entry) i os)
+  pub ranged : inRange exit ≡ true
+  pub stamp-is : stamp ≡ recordOf (networkIn entry) i os .stamp
+  pub ops-are : ops ≡ recordOf (networkIn entry) i os .ops
 
 -- what a commit of the operations `os` at site i that no cause refuses answers and leaves
 pub record CommitDone (entry exit : List ℕ) (i : ℕ) (os : List Op) (number : ℕ) (stamp : Stamp) (values : List ℤ) : Type 0 where
@@ -16,3 +71,11 @@ pub record CommitDone (entry exit : List ℕ) (i : ℕ) (os : List Op) (number :
   pub values-are : values ≡ valuesRead (recordOf (networkIn entry) i os .ops)
   pub network-is : networkIn exit ≡ commitNetwork (networkIn entry) i os
   pub ranged : inRange exit ≡ true
+
+-- the same where a cause from 9 on may refuse it
+pub record CommitTried (entry exit : List ℕ) (i : ℕ) (os : List Op) (number : ℕ) (stamp : Stamp) (values : List ℤ) : Type 0 where
+  pub number-is : number ≡ firstNumber (commitCauses (networkIn entry) i os)
+  pub done : number ≡ 0 → CommitDone entry exit i os number stamp values
+  pub kept : (number ≡ 0 → ⊥) → exit ≡ entry
+  pub no-stamp : (number ≡ 0 → ⊥) → stamp ≡ noStamp
+  pub no-values : (number ≡ 0 → ⊥) → values ≡ []

@@ -5,9 +5,9 @@ mod operations; // operations.rt: a commit's operations in words, and the values
 use lines::Message;
 use network_layout::Committed;
 use network_layout::WORDS;
+use timestamp::Timestamp;
 ghost use mathlib.Core.Path.{_≡_};
-ghost use mathlib.Core.Bool.{true, false};
-ghost use Prim.Native.Nat.{_≤_, _<_};
+ghost use Prim.Native.Nat.{_≤_};
 ghost use lib.IntN.{pos};
 ghost use lib.ListN.{length, take};
 ghost use Rattle.timestamp.specs.Timestamp.{stampOf};
@@ -15,11 +15,19 @@ ghost use Rattle.site.specs.InWords.{opsIn};
 ghost use Rattle.limits.specs.Limits.{opsMost};
 ghost use Rattle.lists.specs.Numbers.{firstNumber};
 ghost use Rattle.network_layout.specs.Layout.{stateSize};
-ghost use Rattle.protocol.specs.Steps.{noSuchSite, commitCauses, wrongLists, commitNumber};
+ghost use Rattle.protocol.specs.Network.{noStamp};
+ghost use Rattle.protocol.specs.Steps.{commitCauses, wrongLists};
 ghost use Rattle.protocol.specs.Calls.{commit as commitCall};
-ghost use Rattle.network_layout.specs.InWords.{networkIn, inRange, shaped, numberIn};
+ghost use Rattle.network_layout.specs.InWords.{networkIn};
+ghost use Rattle.network_layout.specs.At.{AtNetwork};
 ghost use Rattle.network_layout.specs.Promises.{Performed, Blank, Filled};
-ghost use Rattle.network_commit.specs.Done.{CommitDone};
+ghost use Rattle.network_commit.specs.Done.{CommitAt, Masked, CommitReady, CommitDone, CommitTried, WorkReady, WorkDone};
+
+// The timestamp of a commit, and its operations as the history keeps them.
+struct Worked {
+    stamp: Timestamp,
+    ops: [u32; 24],
+}
 
 // A commit at a site: operations as three lists of their fields. It answers its number, the timestamp and the values read.
 pub fn commit(
@@ -42,53 +50,95 @@ fn commit_in(state: &mut [u32], site: u32, kinds: &[u8], items: &[u32], values: 
     ensures { λ r. ⌜ ((r .number ≡ 0 → ⊥) → Blank (r .stamp) × (r .count ≡ 0)) ⌝ }
     ensures { λ r. ⌜ Filled (pos 0) opsMost (r .count) (r .values) ⌝ }
 {
-    let number = commit_number(state, site, kinds, items, values);
-    if number != 0 {
-        let none = network_access::no_stamp();
-        return Committed {
-            number,
-            stamp: none,
-            count: 0,
-            values: [0; 8],
-        };
+    if !network_shape::shaped(state) {
+        return refused(6);
     }
-    let ops = operations::op_words(kinds, items, values);
-    commit_done(state, site, &ops, kinds.len())
+    commit_on(state, site, kinds, items, values)
 }
 
-// The number of the first cause that refuses the step, or 0.
-fn commit_number(state: &[u32], site: u32, kinds: &[u8], items: &[u32], values: &[i32]) -> u32
-    requires { ⌜ length (now state) ≡ stateSize ⌝ }
-    ensures { λ r. ⌜ r ≡ numberIn (now (state .entry)) (λ n. commitNumber n site (now (kinds .entry)) (now (items .entry)) (now (values .entry))) ⌝ }
+// The same on the words of a network.
+pub fn commit_on(
+    state: &mut [u32],
+    site: u32,
+    kinds: &[u8],
+    items: &[u32],
+    values: &[i32],
+) -> Committed
+    requires { ⌜ AtNetwork (now state) ⌝ }
+    ensures { λ r. ⌜ Performed (commitCall site (now (kinds .entry)) (now (items .entry)) (now (values .entry))) (now (state .entry)) (now (state .exit)) (r .number) 0 (stampOf (r .stamp)) (take (r .count) (r .values)) ⌝ }
+    ensures { λ r. ⌜ ((r .number ≡ 0 → ⊥) → Blank (r .stamp) × (r .count ≡ 0)) ⌝ }
+    ensures { λ r. ⌜ Filled (pos 0) opsMost (r .count) (r .values) ⌝ }
 {
-    let cause = network_shape::site_number(state, site);
+    if !network_shape::is_site(state, site) {
+        return refused(7);
+    }
+    if wrong_lists(kinds.len(), items.len(), values.len()) {
+        return refused(8);
+    }
+    let ops = operations::op_words(kinds, items, values);
+    commit_words(state, site, &ops, kinds.len())
+}
+
+fn refused(number: u32) -> Committed
+    ensures { λ r. ⌜ (r .number ≡ number) × (stampOf (r .stamp) ≡ noStamp) × Blank (r .stamp) × (r .count ≡ 0) × Filled (pos 0) opsMost (r .count) (r .values) ⌝ }
+{
+    let none = network_access::no_stamp();
+    Committed {
+        number,
+        stamp: none,
+        count: 0,
+        values: [0; 8],
+    }
+}
+
+// A commit of n operations in words, at a site that is there.
+fn commit_words(state: &mut [u32], site: u32, ops: &[u32], n: usize) -> Committed
+    requires { ⌜ CommitAt (now state) site n ⌝ }
+    ensures { λ r. ⌜ CommitTried (now (state .entry)) (now (state .exit)) site (opsIn n (now (ops .entry))) (r .number) (stampOf (r .stamp)) (take (r .count) (r .values)) ⌝ }
+    ensures { λ r. ⌜ ((r .number ≡ 0 → ⊥) → Blank (r .stamp) × (r .count ≡ 0)) ⌝ }
+    ensures { λ r. ⌜ Filled (pos 0) opsMost (r .count) (r .values) ⌝ }
+{
+    let mask = due::due_mask(state, ops, n);
+    let cause = commit_cause(state, site, ops, n, mask);
+    if cause != 0 {
+        return refused(cause);
+    }
+    commit_done(state, site, ops, n, mask)
+}
+
+// The number of the first cause from 9 on that refuses a commit of n operations, or 0.
+fn commit_cause(state: &[u32], site: u32, ops: &[u32], n: usize, mask: u32) -> u32
+    requires { ⌜ Masked (now state) site n mask (opsIn n (now ops)) ⌝ }
+    ensures { λ r. ⌜ r ≡ firstNumber (commitCauses (networkIn (now (state .entry))) site (opsIn n (now (ops .entry)))) ⌝ }
+{
+    let cause = due::ops_number(state, site, ops, n);
     if cause != 0 {
         return cause;
     }
-    if wrong_lists(kinds.len(), items.len(), values.len()) {
-        return 8;
+    if limits::RECORDS <= state[2] {
+        return 12;
     }
-    let ops = operations::op_words(kinds, items, values);
-    commit_cause(state, site, &ops, kinds.len())
+    if network_sending::some_line_full(state, site, mask) {
+        return 13;
+    }
+    if network_access::count_at_most(state, words::wide(site)) {
+        return 14;
+    }
+    0
 }
 
-// A commit of n operations that no cause refuses: the site, the record, then the messages.
-fn commit_done(state: &mut [u32], site: u32, ops: &[u32], n: usize) -> Committed
-    requires { ⌜ (length (now state) ≡ stateSize) × (shaped (now state) ≡ true) × (noSuchSite (networkIn (now state)) site ≡ false) × (1 ≤ n) × (n ≤ opsMost) × (firstNumber (commitCauses (networkIn (now state)) site (opsIn n (now ops))) ≡ 0) ⌝ }
+// A commit that no cause refuses: the site and the record, then the messages.
+fn commit_done(state: &mut [u32], site: u32, ops: &[u32], n: usize, mask: u32) -> Committed
+    requires { ⌜ CommitReady (now state) site n mask (opsIn n (now ops)) ⌝ }
     ensures { λ r. ⌜ CommitDone (now (state .entry)) (now (state .exit)) site (opsIn n (now (ops .entry))) (r .number) (stampOf (r .stamp)) (take (r .count) (r .values)) ⌝ }
     ensures { λ r. ⌜ Filled (pos 0) opsMost (r .count) (r .values) ⌝ }
 {
-    let i = words::wide(site);
-    let made = state[2];
-    let mask = due::due_mask(state, ops, n);
-    let done = network_access::site_commit(state, i, ops, n);
-    let t = network_access::site_stamp(state, i);
-    network_access::add_record(state, site, short(n), t, &done);
-    let m = Message {
-        name: made,
-        stamp: t,
-    };
-    network_sending::send_all(state, i, mask, m);
+    let name = state[2];
+    let worked = work(state, site, ops, n);
+    let t = worked.stamp;
+    let done = worked.ops;
+    let m = Message { name, stamp: t };
+    network_sending::send_all(state, site, mask, m);
     let given = operations::values_read(&done, n);
     let read = given.values;
     Committed {
@@ -99,27 +149,19 @@ fn commit_done(state: &mut [u32], site: u32, ops: &[u32], n: usize) -> Committed
     }
 }
 
-// The number of the first cause from 9 on that refuses a commit of n operations, or 0.
-fn commit_cause(state: &[u32], site: u32, ops: &[u32], n: usize) -> u32
-    requires { ⌜ (length (now state) ≡ stateSize) × (inRange (now state) ≡ true) × (noSuchSite (networkIn (now state)) site ≡ false) × (n ≤ opsMost) ⌝ }
-    ensures { λ r. ⌜ r ≡ firstNumber (commitCauses (networkIn (now (state .entry))) site (opsIn n (now (ops .entry)))) ⌝ }
+// The operations worked at the site, and the commit's record added.
+fn work(state: &mut [u32], site: u32, ops: &[u32], n: usize) -> Worked
+    requires { ⌜ WorkReady (now state) site n ⌝ }
+    ensures { λ r. ⌜ WorkDone (now (state .entry)) (now (state .exit)) site (opsIn n (now (ops .entry))) (stampOf (r .stamp)) (opsIn n (r .ops)) ⌝ }
 {
-    let cause = due::ops_number(state, site, ops, n);
-    if cause != 0 {
-        return cause;
-    }
-    if 256 <= state[2] {
-        return 12;
-    }
-    let mask = due::due_mask(state, ops, n);
     let i = words::wide(site);
-    if network_sending::some_line_full(state, i, mask) {
-        return 13;
+    let done = network_access::site_commit(state, i, ops, n);
+    let t = network_access::site_stamp(state, i);
+    network_access::add_record(state, site, short(n), t, &done);
+    Worked {
+        stamp: t,
+        ops: done,
     }
-    if network_access::count_at_most(state, i) {
-        return 14;
-    }
-    0
 }
 
 // Not 1 to 8 operations, or lists of several lengths.

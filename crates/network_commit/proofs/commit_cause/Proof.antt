@@ -1,79 +1,99 @@
--- `commit_cause` asks for the causes in the order of their numbers.
-use mathlib.Core.Path.{_≡_, sym, ap, _∙_}
+-- `commit_cause` asks for the causes from 9 on in the order of their numbers.
+use mathlib.Core.Path.{_≡_, refl, sym, ap, _∙_}
 use Prim.Native.Nat.{ℕ, _<_}
 use native.Mathlib.Omega.{arith}
 use lib.ListN.{length}
-use Rattle.site.specs.InWords.{opsIn}
-use Rattle.placement.specs.Masks.{bit}
 use Rattle.limits.specs.Limits.{recordsMost}
-use Rattle.protocol.specs.Steps.{countAtMost, someLineFull, due}
+use Rattle.site.specs.InWords.{opsIn}
+use Rattle.protocol.specs.Steps.{due, countAtMost, someLineFull}
 use Rattle.network_layout.specs.InWords.{networkIn}
-use Rattle.network_layout.proofs.Performs.{site-below, records-count}
+use Rattle.network_layout.specs.At.{AtSite}
+use Rattle.network_layout.proofs.Performs.{records-count}
+use Rattle.network_layout.proofs.OnNetwork.{ranged-on, at-site}
 use Rattle.network_sending.proofs.SendLaws.{full-by-mask}
 use Rattle.network_commit.proofs.CommitLaws.{commit-op, commit-booked, commit-full, commit-largest, commit-free}
 use borrow.Author.Needs.{needs}
 use Rattle.network_commit.proofs.commit_cause.Statement.{statement}
 use Rattle.network_commit.proofs.commit_cause.Tie as tie
 
--- what the mask finds is what the placement says
-asked : (c : tie.After-some-line-full) → c .some-line-full .result ≡ someLineFull (networkIn (c .before .before .before .before .before .before .before .before .before .args .state .now)) (c .before .before .before .before .before .before .before .before .before .args .site) (due (networkIn (c .before .before .before .before .before .before .before .before .before .args .state .now) .items) (opsIn (c .before .before .before .before .before .before .before .before .before .args .n) (c .before .before .before .before .before .before .before .before .before .args .ops .now)))
-asked c =
-    let A = c .before .before .before .before .before .before .before .before .before .args in
-    let n = networkIn (A .state .now) in
-    c .some-line-full .ensures
-    ∙ ap (λ (k : ℕ). someLineFull n k (bit (c .before .before .due-mask .result))) (c .before .wide .ensures)
-    ∙ full-by-mask (due (n .items) (opsIn (A .n) (A .ops .now))) (c .before .before .due-mask .result) (c .before .before .due-mask .ensures) n (A .site)
+at : (c : tie.Start) (k : ℕ) → k ≡ c .args .site → AtSite (c .args .state .now) k
+at c k same = at-site (c .args .state .now) (c .pre .at .net) (c .args .site) k same (c .pre .at .there)
+
+-- none of the operations is refused
+pass : (c : tie.Else1) → _
+pass c = sym (c .before .ops-number .ensures) ∙ c .if1 .left
 
 -- the history has room
 room : (c : tie.Else2) → length (networkIn (c .before .before .before .before .before .before .args .state .now) .history) < recordsMost
-room c = omega (arith, records-count (c .before .before .before .before .before .before .args .state .now), c .if2 .left)
+room c = omega (arith, c .if2 .left, records-count (c .before .before .before .before .before .before .args .state .now))
+
+-- what the mask finds is what the operations ask for
+asked : (c : tie.After-some-line-full) → c .some-line-full .result ≡ someLineFull (networkIn (c .before .before .before .before .before .before .before .args .state .now)) (c .before .before .before .before .before .before .before .args .site) (due (networkIn (c .before .before .before .before .before .before .before .args .state .now) .items) (opsIn (c .before .before .before .before .before .before .before .args .n) (c .before .before .before .before .before .before .before .args .ops .now)))
+asked c =
+    let start = c .before .before .before .before .before .before .before in
+    let A = start .args in
+    let n = networkIn (A .state .now) in
+    c .some-line-full .ensures ∙ full-by-mask (due (n .items) (opsIn (A .n) (A .ops .now))) (A .mask) (start .pre .mask-is) n (A .site)
+
+-- the own count, at the site that was asked for
+largest : (c : tie.After-count-at-most) → c .count-at-most .result ≡ countAtMost (networkIn (c .before .before .before .before .before .before .before .before .before .before .args .state .now)) (c .before .before .before .before .before .before .before .before .before .before .args .site)
+largest c = c .count-at-most .ensures ∙ ap (countAtMost (networkIn (c .before .before .before .before .before .before .before .before .before .before .args .state .now))) (c .before .wide .ensures)
 
 ops-number-requires : tie.Need-ops-number-requires
-ops-number-requires c κs = search needs
+ops-number-requires c κs =
+    let start = c .before .before in
+    let asks = start .pre .at in
+    record { sized = asks .net .sized; ranged = ranged-on (start .args .state .now) (asks .net); few-ops = asks .few-ops }
 
 returns : tie.Need-returns
 returns c =
     let A = c .before .before .before .before .args in
-    c .before .ops-number .ensures ∙ commit-op (networkIn (A .state .now)) (A .site) (opsIn (A .n) (A .ops .now)) (λ z. c .if1 .taken (c .before .ops-number .ensures ∙ z))
+    let n = networkIn (A .state .now) in
+    c .before .ops-number .ensures ∙ commit-op n (A .site) (opsIn (A .n) (A .ops .now)) (λ z. c .if1 .taken (c .before .ops-number .ensures ∙ z))
 
 shared-slice-read-if2 : tie.Need-shared-slice-read-if2
 shared-slice-read-if2 c = search needs
 
 returns-2 : tie.Need-returns-2
 returns-2 c =
-    let A = c .before .before .before .before .before .before .args in
-    sym (commit-booked (networkIn (A .state .now)) (A .site) (opsIn (A .n) (A .ops .now)) (sym (c .before .before .before .ops-number .ensures) ∙ c .before .before .if1 .left) (omega (arith, records-count (A .state .now), c .if2 .taken)))
+    let passed = c .before .before in
+    let A = passed .before .before .before .before .args in
+    sym (commit-booked (networkIn (A .state .now)) (A .site) (opsIn (A .n) (A .ops .now)) (pass passed) (omega (arith, c .if2 .taken, records-count (A .state .now))))
 
-due-mask-requires : tie.Need-due-mask-requires
-due-mask-requires c κs = search needs
+some-line-full-requires : tie.Need-some-line-full-requires
+some-line-full-requires c κs = let start = c .before .before .before .before .before .before in let site = at start (start .args .site) refl in record { sized = site .sized; ranged = site .ranged; from = site .few }
+
+returns-3 : tie.Need-returns-3
+returns-3 c =
+    let roomy = c .before .before in
+    let passed = roomy .before .before in
+    let A = passed .before .before .before .before .args in
+    sym (commit-full (networkIn (A .state .now)) (A .site) (opsIn (A .n) (A .ops .now)) (pass passed) (room roomy) (sym (asked (c .before)) ∙ c .if3 .taken))
 
 wide-requires : tie.Need-wide-requires
 wide-requires c κs = search needs
 
-some-line-full-requires : tie.Need-some-line-full-requires
-some-line-full-requires c κs = (c .before .before .before .before .before .before .before .before .pre .0, omega (arith, c .wide .ensures, site-below (c .before .before .before .before .before .before .before .before .args .state .now) (c .before .before .before .before .before .before .before .before .pre .1) (c .before .before .before .before .before .before .before .before .args .site) (c .before .before .before .before .before .before .before .before .pre .2) .1))
-
-returns-3 : tie.Need-returns-3
-returns-3 c =
-    let A = c .before .before .before .before .before .before .before .before .before .before .args in
-    sym (commit-full (networkIn (A .state .now)) (A .site) (opsIn (A .n) (A .ops .now)) (sym (c .before .before .before .before .before .before .before .ops-number .ensures) ∙ c .before .before .before .before .before .before .if1 .left) (room (c .before .before .before .before)) (sym (asked (c .before)) ∙ c .if3 .taken))
-
 count-at-most-requires : tie.Need-count-at-most-requires
 count-at-most-requires c κs =
-    let b = site-below (c .before .before .before .before .before .before .before .before .before .before .args .state .now) (c .before .before .before .before .before .before .before .before .before .before .pre .1) (c .before .before .before .before .before .before .before .before .before .before .args .site) (c .before .before .before .before .before .before .before .before .before .before .pre .2) in
-    (c .before .before .before .before .before .before .before .before .before .before .pre .0, c .before .before .before .before .before .before .before .before .before .before .pre .1, omega (arith, c .before .before .wide .ensures, b .0), omega (arith, c .before .before .wide .ensures, b .1))
+    let start = c .before .before .before .before .before .before .before .before .before in
+    let site : AtSite (start .args .state .now) (c .wide .result) = at start (c .wide .result) (c .wide .ensures) in
+    search needs
 
 returns-4 : tie.Need-returns-4
 returns-4 c =
-    let A = c .before .before .before .before .before .before .before .before .before .before .before .before .args in
-    let n = networkIn (A .state .now) in
-    sym (commit-largest n (A .site) (opsIn (A .n) (A .ops .now)) (sym (c .before .before .before .before .before .before .before .before .before .ops-number .ensures) ∙ c .before .before .before .before .before .before .before .before .if1 .left) (room (c .before .before .before .before .before .before)) (sym (asked (c .before .before .before)) ∙ c .before .before .if3 .left) (sym (c .before .count-at-most .ensures ∙ ap (countAtMost n) (c .before .before .before .before .wide .ensures)) ∙ c .if4 .taken))
+    let free = c .before .before .before in
+    let roomy = free .before .before in
+    let passed = roomy .before .before in
+    let A = passed .before .before .before .before .args in
+    sym (commit-largest (networkIn (A .state .now)) (A .site) (opsIn (A .n) (A .ops .now)) (pass passed) (room roomy) (sym (asked (free .before)) ∙ free .if3 .left) (sym (largest (c .before)) ∙ c .if4 .taken))
 
 returns-5 : tie.Need-returns-5
 returns-5 c =
-    let A = c .before .before .before .before .before .before .before .before .before .before .before .before .args in
-    let n = networkIn (A .state .now) in
-    sym (commit-free n (A .site) (opsIn (A .n) (A .ops .now)) (sym (c .before .before .before .before .before .before .before .before .before .ops-number .ensures) ∙ c .before .before .before .before .before .before .before .before .if1 .left) (room (c .before .before .before .before .before .before)) (sym (asked (c .before .before .before)) ∙ c .before .before .if3 .left) (sym (c .before .count-at-most .ensures ∙ ap (countAtMost n) (c .before .before .before .before .wide .ensures)) ∙ c .if4 .left))
+    let free = c .before .before .before in
+    let roomy = free .before .before in
+    let passed = roomy .before .before in
+    let A = passed .before .before .before .before .args in
+    sym (commit-free (networkIn (A .state .now)) (A .site) (opsIn (A .n) (A .ops .now)) (pass passed) (room roomy) (sym (asked (free .before)) ∙ free .if3 .left) (sym (largest (c .before)) ∙ c .if4 .left))
 
 pub commit-cause-spec : {M : Type 1} → statement M
 commit-cause-spec =
@@ -83,10 +103,9 @@ commit-cause-spec =
     returns
     shared-slice-read-if2
     returns-2
-    due-mask-requires
-    wide-requires
     some-line-full-requires
     returns-3
+    wide-requires
     count-at-most-requires
     returns-4
     returns-5)

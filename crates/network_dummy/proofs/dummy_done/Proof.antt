@@ -1,6 +1,5 @@
 -- `dummy_done` raises the site's count and sends the dummy to the children.
-use mathlib.Core.Path.{_≡_, _∙_}
-use native.Mathlib.Omega.{arith}
+use mathlib.Core.Path.{_∙_}
 use mathlib.Core.Path.{refl}
 use Rattle.timestamp.specs.Timestamp.{stampOf}
 use Rattle.network_layout.specs.At.{AtState}

@@ -1,5 +1,5 @@
 -- `dummy_on` refuses with its number, or does the dummy.
-use mathlib.Core.Path.{_≡_, refl, sym, subst, _∙_}
+use mathlib.Core.Path.{refl, sym, subst, _∙_}
 use Prim.Native.Nat.{ℕ}
 use mathlib.Core.List.{[]}
 use Rattle.timestamp.specs.Timestamp.{stampOf}

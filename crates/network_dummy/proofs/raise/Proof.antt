@@ -1,5 +1,5 @@
 -- `raise` has the site raise its count, and reads its timestamp.
-use mathlib.Core.Path.{_≡_, ap, subst, _∙_}
+use mathlib.Core.Path.{ap, subst, _∙_}
 use Prim.Native.Nat.{ℕ}
 use native.Mathlib.Omega.{arith}
 use Rattle.site.specs.Site.{dummied}

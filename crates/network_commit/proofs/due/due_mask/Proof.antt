@@ -24,7 +24,7 @@ unfolding maskOf
 loop-holds c = (omega arith, refl)
 
 due-requires : tie.Need-due-requires Inv-loop μ-loop
-due-requires c κs = (c .before .before .before .before .pre .0, c .before .before .before .before .pre .1, c .before .before .before .before .pre .2)
+due-requires c κs = c .before .before .before .before .pre
 
 shl-m : tie.Need-shl-m Inv-loop μ-loop
 shl-m c = search needs
