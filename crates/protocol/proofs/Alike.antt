@@ -89,7 +89,7 @@ after-alike table (x ∷ xs) [] m = absurd m
 after-alike table (x ∷ xs) (y ∷ ys) m = after-alike (worked table (x .commit .ops) .table) xs ys (m .1) ∙ ap (λ (t : List ℤ). after t ys) (table-alike table x y (m .0))
 
 seen-alike : (table : List ℤ) (c d : Turn) → AlikeTurns c d → seen table c ≡ seen table d
-seen-alike table c d e = rw (e .0, e .1 .site-same, e .1 .stamp-same, e .1 .ops-alike)
+seen-alike table c d e = simp (e .0, e .1 .site-same, e .1 .stamp-same, e .1 .ops-alike)
 
 run-alike : (table : List ℤ) (xs ys : List Turn) → Matched AlikeTurns xs ys → run table xs ≡ run table ys
 run-alike table [] [] m = refl

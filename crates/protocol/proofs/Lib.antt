@@ -20,3 +20,4 @@ pub mod SetUp
 pub mod Follows
 pub mod Theorem
 pub mod Beside
+pub mod Examples
