@@ -1,12 +1,12 @@
 -- What the laws use of the order of sites: no two sites have one place, and along a line the place rises.
-use mathlib.Core.Path.{_≡_, refl}
+use mathlib.Core.Path.{_≡_}
 use mathlib.Core.Bool.{true}
 use mathlib.Core.List.{List}
 use Prim.Native.Nat.{ℕ, _≤_, _<_}
 use native.Mathlib.Omega.{arith}
 use Rattle.timestamp.specs.declared.Order.{Order}
 use Rattle.timestamp.specs.Timestamp.{Stamp}
-use Rattle.timestamp.specs.Order.{orderBy, byNumber, IsEarlier, NotLater}
+use Rattle.timestamp.specs.Order.{orderBy, IsEarlier, NotLater}
 use Rattle.limits.specs.Limits.{sitesMost}
 use Rattle.placement.specs.Placement.{Item, itemsNumber, isLine}
 use Rattle.placement.proofs.Laws.{line-upward}
@@ -31,11 +31,6 @@ module _ (sites : ℕ) (xs : List Item) (p c : ℕ) (placed : itemsNumber sites 
   -- both ends are sites
   pub line-ends : (p < sites) × (c < sites)
   line-ends = let up = line-upward sites xs p c placed line in (omega (arith, up .0, up .1), up .1)
-
--- the places are the numbers, which is what code compares
-pub placed-by-number : (xs : List Item) → placeOf xs ≡ byNumber
-unfolding placeOf
-placed-by-number xs = refl
 
 -- ---- the order of a network's sites
 abbrev pub placeAt : Network → ℕ → ℕ
