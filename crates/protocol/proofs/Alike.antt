@@ -1,17 +1,15 @@
 -- Commits alike: those that read and write the same, whatever values their reads were recorded with. The run of such commits is one run.
-use mathlib.Core.Path.{_≡_, refl, ap, ap₂, subst, _∙_}
-use mathlib.Core.Bool.{Bool, true, false, cond}
+use mathlib.Core.Path.{_≡_, refl, ap, ap₂, _∙_}
+use mathlib.Core.Bool.{Bool, true, false}
 use mathlib.Core.List.{List, [], _∷_, _++_, map}
-use Prim.Native.Nat.{ℕ, zero, suc, _<_}
-use native.Mathlib.Omega.{arith}
+use Prim.Native.Nat.{ℕ, suc}
 use lib.IntN.{ℤ, pos}
-use lib.ListN.{length, getD}
+use lib.ListN.{getD}
 use Rattle.timestamp.specs.Timestamp.{Stamp}
 use Rattle.site.specs.Operations.{Op, reads, recorded, written, Work, work, worked}
 use Rattle.records.specs.Records.{Record}
 use Rattle.lists.specs.Lists.{keep, upTo}
-use Rattle.lists.specs.Sorting.{sorted, insert}
-use Rattle.lists.proofs.Matched.{Matched, matched-length, matched-at, matched-add, matched-keep, matched-sorted}
+use Rattle.lists.proofs.Matched.{Matched, matched-length, matched-add, matched-keep, matched-sorted}
 use Rattle.protocol.specs.Run.{Turn, numbered, comesFirst, inTurn, after, seen, run, startTable, find, shown, isUpTo, valueAt}
 use Rattle.protocol.proofs.Works.{read-no-write}
 

@@ -1,12 +1,12 @@
 -- The parent that a schedule chooses has a message that has arrived, and taking it keeps a network well shaped.
 use mathlib.Core.Path.{_≡_, refl, sym, ap, _∙_}
-use mathlib.Core.Bool.{Bool, true, false, cond, not, _&&_, _||_, true≢false}
+use mathlib.Core.Bool.{Bool, true, false, cond, _&&_, _||_, true≢false}
 use mathlib.Core.List.{List, [], _∷_}
 use Prim.Native.Nat.{ℕ, zero, suc, _/_, _%_, _≤_, _<_}
 use native.Mathlib.Omega.{arith}
 use lib.ListN.{length, getD, drop, length-drop, List·getD-eq-default}
 use lib.Dec.{eqb, ltb, leb}
-use borrow.Author.Tests.{leb-true, leb-false, ltb-true, eqb-true, eqb-false, eq-eqb, not-false}
+use borrow.Author.Tests.{leb-true, leb-false, ltb-true, eqb-true, eqb-false, eq-eqb}
 use Rattle.lists.proofs.Every.{and-true, every-at, every-rest}
 use Rattle.timestamp.specs.Timestamp.{appended, appendedOrSame, ownSite, ownCount}
 use Rattle.timestamp.specs.Made.{madeBy}
@@ -19,11 +19,9 @@ use Rattle.limits.specs.Limits.{sitesMost}
 use Rattle.lists.proofs.Some.{some-at, some-index, none-below}
 use Rattle.lines.specs.Lines.{Message, commit, dummy, Line, noLine, taken}
 use Rattle.records.specs.Records.{Record}
-use Rattle.protocol.specs.Network.{linesMost, Network, noRecord, siteAt, lineAt, lineNumber, messageStamp, placeOf, messageFits, wellShaped}
-use Rattle.lists.specs.Lists.{isEmpty, someBelow}
-use Rattle.lists.specs.Numbers.{numberIf}
-use Rattle.protocol.specs.Steps.{noSuchSite, scheduleNumber, head, headStamp, headEarlier, earlierOf, earliest, chosen, writesFor, scheduleNetwork, lacksArrived}
-use Rattle.lists.proofs.Numbers.{none-holds}
+use Rattle.protocol.specs.Network.{Network, noRecord, siteAt, lineAt, lineNumber, messageStamp, placeOf, messageFits, wellShaped}
+use Rattle.lists.specs.Lists.{isEmpty}
+use Rattle.protocol.specs.Steps.{scheduleNumber, head, headStamp, headEarlier, earlierOf, earliest, chosen, writesFor, scheduleNetwork, lacksArrived}
 use Rattle.lists.proofs.Lists.{set-each}
 use Rattle.protocol.proofs.Places.{line-rises, child-place, line-ends, placeAt}
 use Rattle.protocol.proofs.WellShaped.{LineShape, Shape, shape-parts, shape-whole}

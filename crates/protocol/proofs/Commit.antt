@@ -7,8 +7,8 @@ use Prim.Native.Nat.{ℕ, zero, suc, _<_}
 use native.Mathlib.Omega.{arith}
 use lib.IntN.{ℤ, pos}
 use lib.ListN.{length, getD}
-use lib.Dec.{eqb, ltb, leb}
-use borrow.Author.Tests.{leb-false, lt-leb, ltb-true}
+use lib.Dec.{eqb, ltb}
+use borrow.Author.Tests.{ltb-true}
 use Rattle.lists.proofs.Every.{and-true}
 use Rattle.timestamp.specs.Timestamp.{Stamp}
 use Rattle.timestamp.specs.Order.{notLater, isEarlier}
@@ -16,14 +16,12 @@ use Rattle.timestamp.specs.Made.{madeBy}
 use Rattle.site.specs.Operations.{Op, reads, noOp}
 use Rattle.site.specs.Site.{Site, committed}
 use Rattle.placement.specs.Placement.{Item, owns, copies, isLine}
-use Rattle.lists.specs.Numbers.{firstNumber, numberIf}
+use Rattle.lists.specs.Numbers.{firstNumber}
 use Rattle.lines.specs.Lines.{Message, commit, dummy}
-use Rattle.limits.specs.Limits.{recordsMost}
 use Rattle.records.specs.Records.{Record}
 use Rattle.protocol.specs.Network.{Network, noRecord, siteAt, messageStamp, messageFits, wellShaped}
-use Rattle.protocol.specs.Steps.{noSuchSite, countAtMost, someLineFull, opNumber, due, opsOf, wrongLists, commitNumber, commitNetwork, recordOf}
+use Rattle.protocol.specs.Steps.{countAtMost, opNumber, due, commitNetwork, recordOf}
 use Rattle.lists.specs.Lists.{keep}
-use Rattle.lists.proofs.Numbers.{none-holds, none-first}
 use Rattle.protocol.proofs.Keeps.{raised-made, keeps-commit}
 use Rattle.protocol.specs.Agreement.{holds}
 use Rattle.lists.proofs.Chains.{keep-more}

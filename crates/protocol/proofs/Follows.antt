@@ -16,7 +16,7 @@ use Rattle.site.specs.Operations.{valuesRead}
 use Rattle.site.specs.Site.{Site, committed, dummied, atEpoch, received}
 use Rattle.records.specs.Records.{Record}
 use Rattle.protocol.specs.Network.{Network, noStamp, noSite, siteAt}
-use Rattle.protocol.specs.Steps.{startSites, setUpNumber, setUpNetwork, opsOf, commitNumber, commitNetwork, recordOf, dummyNumber, dummyNetwork, epochNumber, epochNetwork, deliverNumber, deliverNetwork, scheduleNumber, scheduleNetwork, chosen, head, headStamp, writesFor}
+use Rattle.protocol.specs.Steps.{startSites, setUpNumber, setUpNetwork, opsOf, commitNetwork, recordOf, dummyNetwork, epochNetwork, deliverNetwork, scheduleNumber, scheduleNetwork, chosen, head, headStamp, writesFor}
 use Rattle.protocol.specs.Waiting.{waitingNumber}
 use Rattle.protocol.specs.Calls.{Call, setUp, commit, dummy, epoch, deliver, schedule, waiting, Outcome, refused, accepted, judged, perform}
 use Rattle.protocol.proofs.Chosen.{received-stamp}

@@ -1,14 +1,14 @@
 -- Set-up gives a well-shaped network, and deliver, epoch, dummy and commit keep it so.
 use mathlib.Core.Path.{_≡_, refl, sym, ap, ap₂, subst, _∙_}
-use mathlib.Core.Bool.{Bool, true, false, cond, not, _&&_, _||_, or-true, false≢true}
+use mathlib.Core.Bool.{Bool, true, false, cond, _&&_, or-true}
 use mathlib.Core.List.{List, [], _∷_, _++_, map}
-use Prim.Native.Nat.{ℕ, zero, suc, _+_, _/_, _%_, _≤_, _<_}
+use Prim.Native.Nat.{ℕ, zero, suc, _+_, _/_, _%_, _<_}
 use native.Mathlib.Omega.{arith}
 use lib.IntN.{ℤ}
 use lib.ListN.{length, getD, set, length-set, length-replicate, getD-replicate, length-append, List·getD-append}
 use lib.Seq.{getD-append-seam}
-use lib.Dec.{eqb, ltb, leb}
-use borrow.Author.Tests.{leb-false, ltb-false, ltb-true, not-false, lt-ltb, le-leb, eq-eqb}
+use lib.Dec.{eqb, ltb}
+use borrow.Author.Tests.{leb-false, ltb-false, ltb-true, lt-ltb, le-leb, eq-eqb}
 use Rattle.lists.specs.Lists.{every, isEmpty}
 use Rattle.lists.proofs.Every.{and-true, every-snoc, every-all}
 use Rattle.timestamp.specs.Timestamp.{Stamp, withEpoch, raisedOrSame, ownCount, greatest}
@@ -17,17 +17,16 @@ use Rattle.timestamp.proofs.Made.{made-start, made-raised}
 use Rattle.timestamp.proofs.Value.{raise-room}
 use Rattle.site.specs.Operations.{Op, noOp, reads, writes, readValue, recorded}
 use Rattle.site.specs.Site.{Site, committed, dummied, atEpoch}
-use Rattle.limits.specs.Limits.{opsMost, sitesMost, itemsMost, recordsMost}
+use Rattle.limits.specs.Limits.{sitesMost}
 use Rattle.site.proofs.Laws.{work-ops}
 use Rattle.placement.specs.Masks.{bit}
-use Rattle.placement.specs.Placement.{Item, itemsNumber, noItem, owns, copies, isLine, hasParents}
-use Rattle.lists.specs.Numbers.{firstNumber, numberIf, outside}
+use Rattle.placement.specs.Placement.{Item, itemsNumber, noItem, copies, isLine}
+use Rattle.lists.specs.Numbers.{firstNumber}
 use Rattle.lists.proofs.Some.{some-at, some-index}
 use Rattle.lines.specs.Lines.{Message, commit, dummy, Line, noLine, sent, delivered}
 use Rattle.records.specs.Records.{Record, opFits}
 use Rattle.protocol.specs.Network.{linesMost, Network, noSite, noRecord, siteAt, lineAt, lineNumber, placeOf, messageFits, wellShaped}
-use Rattle.protocol.specs.Steps.{itemsOf, startSite, startSites, setUpNumber, setUpNetwork, noSuchSite, countAtMost, someLineFull, opsOf, opNumber, due, commitNumber, recordOf, commitNetwork, dummyNumber, dummyNetwork, epochNumber, epochNetwork, deliverNumber, deliverNetwork}
-use Rattle.lists.proofs.Numbers.{none-holds, none-first, or-false}
+use Rattle.protocol.specs.Steps.{itemsOf, startSite, startSites, setUpNetwork, countAtMost, opNumber, due, recordOf, commitNetwork, dummyNetwork, epochNetwork, deliverNetwork}
 use Rattle.lists.proofs.Lists.{set-each}
 use Rattle.protocol.proofs.Places.{placeAt}
 use Rattle.protocol.proofs.WellShaped.{sent-each, LineShape, RecordShape, Shape, shape-parts, shape-whole}

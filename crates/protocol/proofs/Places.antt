@@ -1,4 +1,4 @@
--- What the laws use of the order of sites: no two sites have one place, and along a line the place rises.
+-- What the laws use of the order of sites: no two sites have one place, and along a line the place rises, below 8.
 use mathlib.Core.Path.{_≡_}
 use mathlib.Core.Bool.{true}
 use mathlib.Core.List.{List}
@@ -23,7 +23,7 @@ module _ (sites : ℕ) (xs : List Item) (p c : ℕ) (placed : itemsNumber sites 
   unfolding placeOf
   line-rises = line-upward sites xs p c placed line .0
 
-  -- as many places as sites: a timestamp has room for the tuples of those before the child, and for the child's own
+  -- a timestamp has room for a tuple of each site before the child, and for the child's own
   pub child-place : sites ≤ sitesMost → placeOf xs c < sitesMost
   unfolding placeOf
   child-place few = omega (arith, line-upward sites xs p c placed line .1)

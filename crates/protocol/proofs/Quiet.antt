@@ -7,7 +7,7 @@ use Prim.Native.Nat.{ℕ, _<_}
 use native.Mathlib.Omega.{arith}
 use lib.ListN.{length, getD, set, length-set}
 use lib.Seq.{getD-set-same}
-use lib.Dec.{eqb, leb}
+use lib.Dec.{eqb}
 use borrow.Author.Tests.{eqb-true, eqb-false, leb-false}
 use Rattle.timestamp.specs.Timestamp.{raised, raisedOrSame, ownCount, greatest}
 use Rattle.timestamp.proofs.Made.{without}
@@ -20,9 +20,7 @@ use Rattle.limits.specs.Limits.{sitesMost}
 use Rattle.lines.specs.Lines.{Message, dummy, Line, noLine, delivered}
 use Rattle.records.specs.Records.{Record}
 use Rattle.protocol.specs.Network.{Network, noSite, siteAt, lineAt, lineNumber, messageStamp, messageFits, wellShaped}
-use Rattle.lists.specs.Numbers.{numberIf}
-use Rattle.protocol.specs.Steps.{noSuchSite, countAtMost, someLineFull, sentTo, dummyNumber, dummyNetwork, epochNumber, epochNetwork, deliverNumber, deliverNetwork}
-use Rattle.lists.proofs.Numbers.{none-holds}
+use Rattle.protocol.specs.Steps.{countAtMost, sentTo, dummyNetwork, epochNetwork, deliverNetwork}
 use Rattle.lists.proofs.Lists.{set-each}
 use Rattle.protocol.proofs.WellShaped.{sent-length, sent-other, sent-here}
 use Rattle.protocol.proofs.Keeps.{keeps-deliver, keeps-epoch, keeps-dummy}

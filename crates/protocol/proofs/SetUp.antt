@@ -1,24 +1,19 @@
 -- An accepted set-up gives a network with the invariant.
 use mathlib.Core.Path.{_≡_, ap, sym, subst, _∙_}
-use mathlib.Core.Bool.{true, not, _||_}
+use mathlib.Core.Bool.{true}
 use mathlib.Core.List.{List, [], _∷_}
 use Prim.Native.Nat.{ℕ, _+_, _<_, _≤_}
 use native.Mathlib.Omega.{arith}
 use lib.IntN.{pos}
 use lib.ListN.{length, getD, length-replicate, getD-replicate}
-use lib.Dec.{eqb, ltb}
-use borrow.Author.Tests.{eqb-true, ltb-false, not-false}
 use Rattle.timestamp.proofs.OrderLaws.{bare-not-later}
 use Rattle.timestamp.proofs.Made.{without}
 use Rattle.site.specs.Site.{Site}
 use Rattle.site.specs.InWords.{tableSize}
-use Rattle.placement.specs.Placement.{itemsNumber, isLine}
-use Rattle.limits.specs.Limits.{sitesMost, itemsMost}
+use Rattle.placement.specs.Placement.{isLine}
 use Rattle.lines.specs.Lines.{Line, noLine}
 use Rattle.protocol.specs.Network.{linesMost, Network, siteAt, lineNumber}
-use Rattle.lists.specs.Numbers.{numberIf, outside}
-use Rattle.protocol.specs.Steps.{itemsOf, startSite, setUpNumber, setUpNetwork}
-use Rattle.lists.proofs.Numbers.{none-holds, none-first, or-false}
+use Rattle.protocol.specs.Steps.{itemsOf, startSite, setUpNetwork}
 use Rattle.protocol.proofs.Keeps.{start-length, start-at, keeps-set-up}
 use Rattle.protocol.proofs.Places.{line-ends, placeAt, UpTo}
 use Rattle.protocol.proofs.Invariant.{stampAt, heardAt, tableAt, messagesAt, Sizes, Invariant}

@@ -1,5 +1,5 @@
 -- Turns in order, and a turn found by its number.
-use mathlib.Core.Path.{_≡_, refl, ap, sym, _∙_}
+use mathlib.Core.Path.{_≡_, refl, ap, _∙_}
 use mathlib.Core.Bool.{Bool, true, false, cond, _||_, false≢true}
 use mathlib.Core.List.{List, [], _∷_, map}
 use Prim.Native.Nat.{ℕ, zero, suc, _+_, _<_}
@@ -10,7 +10,7 @@ use borrow.Author.Tests.{eqb-true, eq-eqb, ne-eqb}
 use Rattle.timestamp.specs.Order.{orderBy, notLater}
 use Rattle.timestamp.proofs.Comparisons.{not-later-trans, later-turned}
 use Rattle.timestamp.proofs.OrderLaws.{order-laws}
-use Rattle.lists.specs.Lists.{any, keep}
+use Rattle.lists.specs.Lists.{any}
 use Rattle.records.specs.Records.{Record}
 use Rattle.lists.specs.Sorting.{sorted, insert}
 use Rattle.lists.proofs.Chains.{Each, Chain}

@@ -86,7 +86,7 @@ abbrev pub learnedAll : Known → List Call → Known
 learnedAll k [] = k
 learnedAll k (c ∷ cs) = learnedAll (learned k c) cs
 
--- ---- the agreement
+-- ---- the agreement; the run takes the book's commits by the order of sites that the last accepted set-up gives
 abbrev pub holds : List Item → ℕ → ℕ → Bool
 holds xs i x = owns xs i x || copies xs i x
 
