@@ -18,6 +18,7 @@ use Rattle.lists.proofs.Lists.{map-take, spell, spelled}
 use Rattle.lists.proofs.Every.{and-true}
 use Rattle.timestamp.specs.declared.Tuple.{Tuple}
 use Rattle.timestamp.specs.Timestamp.{Pair, Stamp, pairOf, stampOf, noPair, room}
+use Rattle.timestamp.specs.Order.{byNumber}
 use Rattle.site.specs.Operations.{Op, noOp}
 use Rattle.limits.specs.Limits.{opsMost}
 use Rattle.records.specs.Records.{recordFits}
@@ -123,8 +124,8 @@ module _ (b : List ℕ) (t o a : ℕ) (ts : t ≡ tupleCount b) (os : o ≡ opCo
 pub valid-counts : (sites items : ℕ) (b : List ℕ) → recordValid sites items b ≡ true → (tupleCount b ≤ room) × (opCount b ≤ opsMost)
 unfolding recordValid
 valid-counts sites items b e =
-    let v = and-true (leb (sizeRead b) (length b)) (countsFit (tupleCount b) (opCount b) && (padsZero b && recordFits sites items (recordRead b))) e .1 in
-    let c = and-true (countsFit (tupleCount b) (opCount b)) (padsZero b && recordFits sites items (recordRead b)) v .0 in
+    let v = and-true (leb (sizeRead b) (length b)) (countsFit (tupleCount b) (opCount b) && (padsZero b && recordFits byNumber sites items (recordRead b))) e .1 in
+    let c = and-true (countsFit (tupleCount b) (opCount b)) (padsZero b && recordFits byNumber sites items (recordRead b)) v .0 in
     let d = and-true (within 1 room (tupleCount b)) (within 1 opsMost (opCount b)) c in (
       leb-true (tupleCount b) room (and-true (leb 1 (tupleCount b)) (leb (tupleCount b) room) (d .0) .1),
       leb-true (opCount b) opsMost (and-true (leb 1 (opCount b)) (leb (opCount b) opsMost) (d .1) .1),

@@ -26,7 +26,7 @@ use Rattle.placement.specs.Placement.{itemsNumber}
 use Rattle.records.specs.Records.{opFits, recordFits}
 use Rattle.records.specs.InWords.{recordIn, recordRange, recordSize, opsAt}
 use Rattle.network_layout.specs.Layout.{historyAt, historySize}
-use Rattle.protocol.specs.Network.{lineFits, wellShaped}
+use Rattle.protocol.specs.Network.{placeOf, lineFits, wellShaped}
 use Rattle.network_layout.specs.InWords.{recordWords, networkIn, shaped, meaning}
 use Rattle.network_layout.proofs.Assembled.{partsOf, range-parts}
 use Rattle.network_layout.proofs.Performs.{sites-count, items-count, records-count, shaped-range, shaped-well}
@@ -101,7 +101,7 @@ ops-fit items h (suc n) w e f =
 
 -- ---- a record
 module _ (sites items : ℕ) (few-sites : sites ≤ 8) (few-items : items ≤ 64) where
-  record-fits : (w : List ℕ) → Words w → recordRange w ≡ true → recordFits sites items (recordIn w) ≡ true → RecordFits sites items (recordIn w)
+  record-fits : (w : List ℕ) → Words w → recordRange w ≡ true → recordFits byNumber sites items (recordIn w) ≡ true → RecordFits sites items (recordIn w)
   unfolding recordIn recordFits recordRange stampIn
   record-fits w e r f =
       let s = part w 2 stampSize in
@@ -121,31 +121,34 @@ module _ (sites items : ℕ) (few-sites : sites ≤ 8) (few-items : items ≤ 64
         site = omega arith;
         epoch = word-at s 0 (words-part w 2 stampSize e);
         some-tuples = omega (arith, m .some);
-        few-tuples = omega (arith, made-length site stamp (q .0));
+        few-tuples = omega (arith, made-length byNumber site stamp (q .0));
         some-ops = omega (arith, ops-length n os);
         few-ops = omega (arith, ops-length n os);
         tuples = pairs-fit (stamp .tuples) site (omega arith) (sites-fit (stamp .tuples) site (m .rises) (m .last)) counts;
         ops = ops-fit items few-items n os (words-part w opsAt opsSize e) (q .1);
       }
 
-  records-fit : (ws : List (List ℕ)) → All Words ws → every recordRange ws ≡ true → every (recordFits sites items) (map recordIn ws) ≡ true → All (RecordFits sites items) (map recordIn ws)
+  records-fit : (ws : List (List ℕ)) → All Words ws → every recordRange ws ≡ true → every (recordFits byNumber sites items) (map recordIn ws) ≡ true → All (RecordFits sites items) (map recordIn ws)
   records-fit [] a r f = no-more
   records-fit (w ∷ ws) (more e a) r f =
       let p = and-true (recordRange w) (every recordRange ws) r in
-      let q = and-true (recordFits sites items (recordIn w)) (every (recordFits sites items) (map recordIn ws)) f in
+      let q = and-true (recordFits byNumber sites items (recordIn w)) (every (recordFits byNumber sites items) (map recordIn ws)) f in
       more (record-fits w e (p .0) (q .0)) (records-fit ws a (p .1) (q .1))
 
 -- ---- a state
 pub history-fits : (w : List ℕ) → Words w → shaped w ≡ true → HistoryFits (historyOf (networkIn w))
-unfolding partsOf networkIn wellShaped
+unfolding partsOf networkIn placeOf wellShaped
 history-fits w e s =
     let r = range-parts w (shaped-range w s) in
     let n = networkIn w in
     let sites = length (n .sites) in
     let items = length (n .items) in
-    let a = and-true (eqb (itemsNumber sites (n .items)) 0) (everyFrom (λ i x. madeBy byNumber i (x .stamp)) 0 (n .sites) && (every (recordFits sites items) (n .history) && everyFrom (lineFits (n .items) (n .history)) 0 (n .lines))) (shaped-well w s) .1 in
-    let b = and-true (everyFrom (λ i x. madeBy byNumber i (x .stamp)) 0 (n .sites)) (every (recordFits sites items) (n .history) && everyFrom (lineFits (n .items) (n .history)) 0 (n .lines)) a .1 in
-    let c = and-true (every (recordFits sites items) (n .history)) (everyFrom (lineFits (n .items) (n .history)) 0 (n .lines)) b .0 in
+    let stamps = everyFrom (λ i x. madeBy byNumber i (x .stamp)) 0 (n .sites) in
+    let records = every (recordFits byNumber sites items) (n .history) in
+    let lines = everyFrom (lineFits (n .items) (n .history)) 0 (n .lines) in
+    let a = and-true (eqb (itemsNumber sites (n .items)) 0) (stamps && (records && lines)) (shaped-well w s) .1 in
+    let b = and-true stamps (records && lines) a .1 in
+    let c = and-true records lines b .0 in
     let few-sites : sites ≤ 8 = omega (arith, sites-count w, r .few-sites) in
     let few-items : items ≤ 64 = omega (arith, items-count w 0, r .few-items) in
     record {

@@ -15,6 +15,7 @@ use Rattle.lists.specs.Lists.{every, isEmpty}
 use Rattle.words.proofs.Parts.{part-length, part-getD}
 use Rattle.words.proofs.Chunks.{chunks-length}
 use Rattle.lists.proofs.Every.{and-true, every-at}
+use Rattle.timestamp.specs.Order.{byNumber}
 use Rattle.records.specs.Records.{recordFits}
 use Rattle.history_file.specs.Bytes.{isByte, byte, little, unitSize, unit, joined, numberAt, allZero, padded}
 use Rattle.history_file.specs.File.{pairBytes, opBytes, recordBytes, mark, trailer, trailerSize, fileOf}
@@ -191,9 +192,9 @@ module _ (sites items : ℕ) (b : List ℕ) (v : recordValid sites items b ≡ t
   pads : padsZero b ≡ true
   unfolding recordValid
   pads =
-      let r = and-true (leb (sizeRead b) (length b)) (countsFit (tupleCount b) (opCount b) && (padsZero b && recordFits sites items (recordRead b))) v .1 in
-      let s = and-true (countsFit (tupleCount b) (opCount b)) (padsZero b && recordFits sites items (recordRead b)) r .1 in
-      and-true (padsZero b) (recordFits sites items (recordRead b)) s .0
+      let r = and-true (leb (sizeRead b) (length b)) (countsFit (tupleCount b) (opCount b) && (padsZero b && recordFits byNumber sites items (recordRead b))) v .1 in
+      let s = and-true (countsFit (tupleCount b) (opCount b)) (padsZero b && recordFits byNumber sites items (recordRead b)) r .1 in
+      and-true (padsZero b) (recordFits byNumber sites items (recordRead b)) s .0
 
   pub record-back : recordBytes (recordRead b) ≡ take (sizeRead b) b
   unfolding recordBytes recordRead sizeRead

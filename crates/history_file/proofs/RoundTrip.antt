@@ -14,6 +14,7 @@ use mir.Syntax.{w32}
 use Rattle.words.specs.Words.{part, chunks}
 use Rattle.lists.specs.Lists.{every}
 use Rattle.timestamp.specs.Timestamp.{Pair, room}
+use Rattle.timestamp.specs.Order.{byNumber}
 use Rattle.site.specs.Operations.{Op}
 use Rattle.limits.specs.Limits.{opsMost}
 use Rattle.records.specs.Records.{Record, recordFits}
@@ -39,7 +40,7 @@ pub record OpFits (o : Op) : Type 0 where
   pub value : SFits w32 (o .value)
 
 pub record RecordFits (sites items : ℕ) (r : Record) : Type 0 where
-  pub fits : recordFits sites items r ≡ true
+  pub fits : recordFits byNumber sites items r ≡ true
   pub site : r .site < 256
   pub epoch : r .stamp .epoch < 4294967296
   pub some-tuples : 1 ≤ length (r .stamp .tuples)
@@ -184,7 +185,7 @@ module _ (sites items : ℕ) (r : Record) (h : RecordFits sites items r) (rest :
       let z : eqb (getD there 3 0) 0 ≡ true = eq-eqb (getD there 3 0) 0 zero-there in
       let p : every (padded 1) (tupleUnits there) ≡ true = ap (every (padded 1)) tuple-units ∙ every-good PairFits pairBytes pairRead pair-size (padded 1) pair-padded (r .stamp .tuples) in
       let q : every (padded 2) (opUnits there) ≡ true = ap (every (padded 2)) op-units ∙ every-good OpFits opBytes opRead op-size (padded 2) op-padded (r .ops) in
-      let f : recordFits sites items (recordRead there) ≡ true = ap (recordFits sites items) record-reads ∙ h .fits in
+      let f : recordFits byNumber sites items (recordRead there) ≡ true = ap (recordFits byNumber sites items) record-reads ∙ h .fits in
       λ i. long i && (((t1 i && t2 i) && (o1 i && o2 i)) && ((z i && (p i && q i)) && f i))
 
   pub rest-reads : drop (sizeRead there) there ≡ rest

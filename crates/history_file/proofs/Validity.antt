@@ -62,21 +62,21 @@ module _ (b : List ℕ) (head : ℕ) (h : head ≡ getD b 3 0) where
 
 -- ---- fields
 module _ (sites items : ℕ) (b : List ℕ) (site : ℕ) (s : site ≡ getD b 0 0) where
-  fits-is : recordFits sites items (recordRead b) ≡ (ltb site sites && (madeBy byNumber site (bare (drop unitSize b) (tupleCount b) site) && every (opFits items) (map opRead (opUnits b))))
+  fits-is : recordFits byNumber sites items (recordRead b) ≡ (ltb site sites && (madeBy byNumber site (bare (drop unitSize b) (tupleCount b) site) && every (opFits items) (map opRead (opUnits b))))
   unfolding recordFits recordRead madeBy
   fits-is = ap (λ (x : ℕ). ltb x sites && (madeBy byNumber x (bare (drop unitSize b) (tupleCount b) site) && every (opFits items) (map opRead (opUnits b)))) (sym s)
 
-  pub fits-elsewhere : sites ≤ site → false ≡ recordFits sites items (recordRead b)
+  pub fits-elsewhere : sites ≤ site → false ≡ recordFits byNumber sites items (recordRead b)
   fits-elsewhere h = sym (fits-is ∙ rw (le-ltb site sites h))
 
   module _ (here : site < sites) (t : ℕ) (ts : t ≡ tupleCount b) (made : Bool) (m : made ≡ madeBy byNumber site (bare (part b unitSize (length b - unitSize)) t site)) where
     made-same : made ≡ madeBy byNumber site (bare (drop unitSize b) (tupleCount b) site)
     made-same = m ∙ ap₂ (λ (k : ℕ) (x : List ℕ). madeBy byNumber site (bare x k site)) ts (rest-part b unitSize)
 
-    pub fits-unmade : made ≡ false → false ≡ recordFits sites items (recordRead b)
+    pub fits-unmade : made ≡ false → false ≡ recordFits byNumber sites items (recordRead b)
     fits-unmade f = sym (fits-is ∙ rw (lt-ltb site sites here, ← made-same, f))
 
-    pub fits-by-ops : made ≡ true → (o a : ℕ) → o ≡ opCount b → a ≡ unitSize + unitSize * t → (q : Bool) → q ≡ every (opFits items) (map opRead (chunks unitSize o (part b a (length b - a)))) → q ≡ recordFits sites items (recordRead b)
+    pub fits-by-ops : made ≡ true → (o a : ℕ) → o ≡ opCount b → a ≡ unitSize + unitSize * t → (q : Bool) → q ≡ every (opFits items) (map opRead (chunks unitSize o (part b a (length b - a)))) → q ≡ recordFits byNumber sites items (recordRead b)
     fits-by-ops g o a os es q e =
         e
         ∙ ap₂ (λ (k : ℕ) (x : List ℕ). every (opFits items) (map opRead (chunks unitSize k x))) os (rest-part b a ∙ ap (λ (k : ℕ). drop k b) (es ∙ ap (λ (k : ℕ). unitSize + unitSize * k) ts))
@@ -89,9 +89,9 @@ module _ (sites items : ℕ) (b : List ℕ) (size : ℕ) (is : size ≡ sizeRead
   valid-short h = sym (rw (lt-leb (sizeRead b) (length b) (omega arith)))
 
   module _ (long : size ≤ length b) (t o : ℕ) (ts : t ≡ tupleCount b) (os : o ≡ opCount b) (counts : Bool) (cs : counts ≡ countsFit t o) where
-    valid-is : recordValid sites items b ≡ (counts && (padsZero b && recordFits sites items (recordRead b)))
+    valid-is : recordValid sites items b ≡ (counts && (padsZero b && recordFits byNumber sites items (recordRead b)))
     unfolding recordValid
-    valid-is = rw (le-leb (sizeRead b) (length b) (omega arith)) (ap (λ (x : Bool). x && (padsZero b && recordFits sites items (recordRead b))) (sym (cs ∙ ap₂ countsFit ts os)))
+    valid-is = rw (le-leb (sizeRead b) (length b) (omega arith)) (ap (λ (x : Bool). x && (padsZero b && recordFits byNumber sites items (recordRead b))) (sym (cs ∙ ap₂ countsFit ts os)))
 
     pub valid-uncounted : counts ≡ false → false ≡ recordValid sites items b
     valid-uncounted f = sym (valid-is ∙ rw f)
@@ -100,12 +100,12 @@ module _ (sites items : ℕ) (b : List ℕ) (size : ℕ) (is : size ≡ sizeRead
       pub valid-unpadded : pads ≡ false → false ≡ recordValid sites items b
       valid-unpadded f = sym (valid-is ∙ rw (counted, ← ps, f))
 
-      pub valid-by-fields : pads ≡ true → (q : Bool) → q ≡ recordFits sites items (recordRead b) → q ≡ recordValid sites items b
+      pub valid-by-fields : pads ≡ true → (q : Bool) → q ≡ recordFits byNumber sites items (recordRead b) → q ≡ recordValid sites items b
       valid-by-fields g q e = e ∙ sym (valid-is ∙ rw (counted, ← ps, g))
 
 pub valid-room : (sites items : ℕ) (b : List ℕ) → recordValid sites items b ≡ true → sizeRead b ≤ length b
 unfolding recordValid
-valid-room sites items b e = leb-true (sizeRead b) (length b) (and-true (leb (sizeRead b) (length b)) (countsFit (tupleCount b) (opCount b) && (padsZero b && recordFits sites items (recordRead b))) e .0)
+valid-room sites items b e = leb-true (sizeRead b) (length b) (and-true (leb (sizeRead b) (length b)) (countsFit (tupleCount b) (opCount b) && (padsZero b && recordFits byNumber sites items (recordRead b))) e .0)
 
 pub size-some : (b : List ℕ) → 8 ≤ sizeRead b
 unfolding sizeRead

@@ -9,6 +9,7 @@ use mir.Syntax.{w32}
 use Rattle.words.specs.Words.{part, chunks}
 use Rattle.lists.specs.Lists.{every, isEmpty}
 use Rattle.timestamp.specs.Timestamp.{Pair, room}
+use Rattle.timestamp.specs.Order.{byNumber}
 use Rattle.site.specs.Operations.{Op}
 use Rattle.limits.specs.Limits.{opsMost, sitesMost, itemsMost, recordsMost}
 use Rattle.lists.specs.Numbers.{firstNumber, numberIf, outside}
@@ -65,7 +66,7 @@ padsZero b = eqb (getD b 3 0) 0 && (every (padded 1) (tupleUnits b) && every (pa
 -- the bytes start with a whole record, every field of it in range
 unfoldable pub recordValid : ℕ → ℕ → List ℕ → Bool
 recordValid sites items b =
-    leb (sizeRead b) (length b) && (countsFit (tupleCount b) (opCount b) && (padsZero b && recordFits sites items (recordRead b)))
+    leb (sizeRead b) (length b) && (countsFit (tupleCount b) (opCount b) && (padsZero b && recordFits byNumber sites items (recordRead b)))
 
 -- ---- n records, one after another
 unfoldable pub recordsRead : ℕ → List ℕ → List Record

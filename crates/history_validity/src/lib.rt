@@ -134,7 +134,7 @@ fn operations_fit(b: &[u8], n: usize, items: u32) -> bool
 // Whether the fields of a record are in range.
 fn fields_fit(b: &[u8], sites: u32, items: u32) -> bool
     requires { ⌜ sizeRead (now b) ≤ length (now b) ⌝ }
-    ensures { λ r. ⌜ r ≡ recordFits sites items (recordRead (now (b .entry))) ⌝ }
+    ensures { λ r. ⌜ r ≡ recordFits byNumber sites items (recordRead (now (b .entry))) ⌝ }
 {
     let t = count(b, 1);
     let o = count(b, 2);

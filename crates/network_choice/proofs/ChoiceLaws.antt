@@ -18,16 +18,16 @@ use Rattle.placement.specs.Placement.{Item, isLine, hasParents}
 use Rattle.placement.proofs.Laws.{bit-mask-of}
 use Rattle.lines.specs.Lines.{commit, dummy, noLine}
 use Rattle.records.specs.Records.{opFits}
-use Rattle.protocol.specs.Network.{linesMost, Network, noRecord, lineAt, lineNumber, messageStamp, messageFits}
+use Rattle.protocol.specs.Network.{linesMost, Network, noRecord, lineAt, lineNumber, messageStamp, placeOf, messageFits}
 use Rattle.lists.specs.Numbers.{numberIf}
-use Rattle.protocol.specs.Steps.{noSuchSite, scheduleNumber, head, headStamp, earlierOf, earliest, chosen}
+use Rattle.protocol.specs.Steps.{noSuchSite, scheduleNumber, head, headStamp, headEarlier, earlierOf, earliest, chosen}
 use Rattle.network_layout.specs.InWords.{networkIn, inRange, numberIn}
 use Rattle.network_choice.specs.Choice.{Best}
 use Rattle.network_layout.proofs.Assembled.{partsOf, range-parts}
 use Rattle.lists.proofs.Numbers.{first-holds, first-fails}
 use Rattle.network_layout.proofs.Performs.{sites-count, records-count, shaped-range, shaped-well, number-none}
 use Rattle.protocol.proofs.WellShaped.{Shape, shape-parts}
-use Rattle.protocol.proofs.Chosen.{parent-up, parent-fits, chosen-line}
+use Rattle.protocol.proofs.Chosen.{parent-ends, parent-fits, chosen-line}
 
 -- ---- the number
 module _ (n : Network) (j : ℕ) where
@@ -79,17 +79,18 @@ module _ (n : Network) (j p parent : ℕ) (t : Stamp) (b : Best n j p parent t) 
   better-none e = record { is = step parent (ap (λ (x : Bool). cond x (earlierOf n j p parent) parent) e); stamped = b .stamped }
 
   module _ (line : isLine (n .items) p j ≡ true) where
-    compared : (x y : Bool) → leb sitesMost parent ≡ x → isEarlier (order (headStamp n p j) (headStamp n parent j)) ≡ y → cond (x || y) p parent ≡ cond (isLine (n .items) p j) (earlierOf n j p parent) parent
+    compared : (x y : Bool) → leb sitesMost parent ≡ x → headEarlier n j p parent ≡ y → cond (x || y) p parent ≡ cond (isLine (n .items) p j) (earlierOf n j p parent) parent
     compared x y e f = sym (ap (λ (z : Bool). cond z (earlierOf n j p parent) parent) line ∙ ap₂ (λ (u v : Bool). cond (u || v) p parent) e f)
 
     module _ (t′ : Stamp) (is : t′ ≡ headStamp n p j) where
       pub better-first : sitesMost ≤ parent → Best n j (p + 1) p t′
       better-first h =
-          let y = isEarlier (order (headStamp n p j) (headStamp n parent j)) in
+          let y = headEarlier n j p parent in
           record { is = step p (sym (compared true y (le-leb sitesMost parent h) refl)); stamped = λ _. is }
 
       module _ (low : parent < sitesMost) where
-        asked : (y : Bool) → isEarlier (order t′ t) ≡ y → isEarlier (order (headStamp n p j) (headStamp n parent j)) ≡ y
+        asked : (y : Bool) → isEarlier (order t′ t) ≡ y → headEarlier n j p parent ≡ y
+        unfolding placeOf
         asked y e = sym (ap₂ (λ (u v : Stamp). isEarlier (order u v)) is (b .stamped low)) ∙ e
 
         pub better-earlier : isEarlier (order t′ t) ≡ true → Best n j (p + 1) p t′
@@ -124,8 +125,8 @@ module _ (w : List ℕ) (j : ℕ) (zero-number : numberIn w (λ n. scheduleNumbe
   module _ (p : ℕ) (line : isLine (net .items) p j ≡ true) where
     pub line-sites : (p < sitesMost) × (j < sitesMost) × (j < getD w 0 0)
     line-sites =
-        let up = parent-up net j few well zero-is p line in
-        (omega (arith, up .0, up .1, few), omega (arith, up .1, few), omega (arith, up .1, sites-count w))
+        let ends = parent-ends net j few well zero-is p line in
+        (omega (arith, ends .0, few), omega (arith, ends .1, few), omega (arith, ends .1, sites-count w))
 
     pub line-there : (k : ℕ) → k ≡ lineNumber p j → k < linesMost
     line-there k e = omega (arith, line-sites)
@@ -144,7 +145,7 @@ module _ (w : List ℕ) (j : ℕ) (zero-number : numberIn w (λ n. scheduleNumbe
 
         pub head-recorded : name < getD w 2 0
         head-recorded =
-            let fits : messageFits (net .history) p (commit name) ≡ true = ap (messageFits (net .history) p) head-commit ∙ parent-fits net j few well zero-is p line in
+            let fits : messageFits (placeOf (net .items)) (net .history) p (commit name) ≡ true = ap (messageFits (placeOf (net .items)) (net .history) p) head-commit ∙ parent-fits net j few well zero-is p line in
             omega (arith, records-count w, ltb-true name (length (net .history)) (and-true (ltb name (length (net .history))) (eqb (getD (net .history) name noRecord .site) p) fits .0))
 
         pub head-fitting : every (opFits (length (net .items))) (getD (net .history) name noRecord .ops) ≡ true

@@ -29,7 +29,7 @@ use Rattle.lines.specs.InWords.{messageIn, messageRange, messageSize, boxesSize
 use Rattle.records.specs.Records.{Record, recordFits}
 use Rattle.records.specs.InWords.{recordIn, recordRange, recordSize}
 use Rattle.network_layout.specs.Layout.{itemsAt, itemsSize, sitesAt, sitesSize, historyAt, historySize}
-use Rattle.protocol.specs.Network.{noRecord, messageFits, lineFits, wellShaped}
+use Rattle.protocol.specs.Network.{noRecord, placeOf, messageFits, lineFits, wellShaped}
 use Rattle.network_layout.specs.InWords.{siteWords, lineWords, recordWords, networkIn, inRange, shaped}
 use Rattle.network_layout.proofs.Assembled.{no-record}
 
@@ -38,10 +38,10 @@ abbrev pub historyIn : List ℕ → ℕ → List Record
 historyIn kept made = map recordIn (chunks recordSize made kept)
 
 abbrev pub recordTest : ℕ → ℕ → List ℕ → Bool
-recordTest sites items x = recordRange x && recordFits sites items (recordIn x)
+recordTest sites items x = recordRange x && recordFits byNumber sites items (recordIn x)
 
 abbrev pub messageTest : List Record → ℕ → List ℕ → Bool
-messageTest h p x = messageRange x && messageFits h p (messageIn x)
+messageTest h p x = messageRange x && messageFits byNumber h p (messageIn x)
 
 abbrev pub lineTest : List Item → List Record → ℕ → List ℕ → Bool
 lineTest xs h k x = lineRange x && lineFits xs h k (lineIn x)
@@ -165,9 +165,9 @@ module _ (l : List ℕ) (k items : ℕ) (few-items : items ≤ itemsMost) (place
     held = length-map boxes messageIn ∙ chunks-length messageSize n (part l 2 boxesSize)
 
     line-held : line-test ≡ (leb arrived n && (isLine (itemsIn items placed) (k / sitesMost) (k % sitesMost) && every (messageTest h (k / sitesMost)) boxes))
-    unfolding lineRange lineFits lineIn
+    unfolding lineRange placeOf lineFits lineIn
     line-held =
-        let fits = messageFits h (k / sitesMost) in
+        let fits = messageFits byNumber h (k / sitesMost) in
         let x = every messageRange boxes in
         let y = isLine (itemsIn items placed) (k / sitesMost) (k % sitesMost) in
         let z = every fits (map messageIn boxes) in
@@ -228,13 +228,13 @@ module _ (w : List ℕ) where
   counts = leb 1 (getD w 0 0) && (leb (getD w 0 0) sitesMost && (leb 1 (getD w 1 0) && (leb (getD w 1 0) itemsMost && leb (getD w 2 0) recordsMost)))
 
   shape-is : shaped w ≡ (counts && (eqb (itemsNumber (getD w 0 0) placed) 0 && (everyFrom stampShaped 0 (siteWords w) && (every (recordTest (getD w 0 0) (getD w 1 0)) (recordWords w) && everyFrom (lineTest placed history) 0 (lineWords w)))))
-  unfolding shaped inRange wellShaped networkIn
+  unfolding shaped inRange placeOf wellShaped networkIn
   shape-is =
       rw (
         length-map (siteWords w) siteIn ∙ chunks-length siteSize (getD w 0 0) (part w sitesAt sitesSize),
         length-map (chunks itemSize (getD w 1 0) (part w itemsAt itemsSize)) itemIn ∙ chunks-length itemSize (getD w 1 0) (part w itemsAt itemsSize),
         from-both siteRange siteIn (λ (i : ℕ) (s : Site). madeBy byNumber i (s .stamp)) stampShaped site-test 0 (siteWords w),
-        every-both recordRange recordIn (recordFits (getD w 0 0) (getD w 1 0)) (recordWords w),
+        every-both recordRange recordIn (recordFits byNumber (getD w 0 0) (getD w 1 0)) (recordWords w),
         from-both lineRange lineIn (lineFits placed history) (lineTest placed history) (λ _ _. refl) 0 (lineWords w),
       )
       (and-whole
@@ -248,7 +248,7 @@ module _ (w : List ℕ) where
       (every recordRange (recordWords w))
       (eqb (itemsNumber (getD w 0 0) placed) 0)
       (everyFrom (λ (i : ℕ) (s : Site). madeBy byNumber i (s .stamp)) 0 (map siteIn (siteWords w)))
-      (every (recordFits (getD w 0 0) (getD w 1 0)) history)
+      (every (recordFits byNumber (getD w 0 0) (getD w 1 0)) history)
       (everyFrom (lineFits placed history) 0 (map lineIn (lineWords w))))
 
   module _ (fit : Bool) (fit-is : fit ≡ counts) where

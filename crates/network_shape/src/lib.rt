@@ -23,6 +23,7 @@ ghost use Rattle.network_layout.specs.InWords.{networkIn, shaped as shapedWords
 ghost use mathlib.Core.List.{map};
 ghost use lib.Dec.{leb};
 ghost use Rattle.words.specs.Words.{chunks};
+ghost use Rattle.timestamp.specs.Order.{byNumber};
 ghost use Rattle.timestamp.specs.Made.{stampShaped};
 ghost use Rattle.placement.specs.InWords.{itemsIn};
 ghost use Rattle.records.specs.Records.{recordFits};
@@ -108,7 +109,7 @@ fn sites_shaped(w: &[u32], n: usize) -> bool
 // Whether each of the records made is one of a group of that many sites and items.
 fn records_shaped(w: &[u32], made: usize, sites: u32, items: u32) -> bool
     requires { ⌜ (length (now w) ≡ historySize) × (made ≤ recordsMost) ⌝ }
-    ensures { λ r. ⌜ r ≡ every (λ x. recordRange x && recordFits sites items (recordIn x)) (chunks recordSize made (now (w .entry))) ⌝ }
+    ensures { λ r. ⌜ r ≡ every (λ x. recordRange x && recordFits byNumber sites items (recordIn x)) (chunks recordSize made (now (w .entry))) ⌝ }
 {
     let mut k = 0;
     while k < made {
@@ -165,7 +166,7 @@ fn line_shaped(l: &[u32], k: usize, placed: &[u32], items: usize, kept: &[u32], 
 // Whether each of the first n messages fits a line from site p.
 fn messages_shaped(w: &[u32], n: usize, p: u32, kept: &[u32], made: u32) -> bool
     requires { ⌜ (length (now w) ≡ heldMost * messageSize) × (n ≤ heldMost) × (length (now kept) ≡ historySize) × (made ≤ recordsMost) ⌝ }
-    ensures { λ r. ⌜ r ≡ every (λ x. messageRange x && messageFits (map recordIn (chunks recordSize made (now (kept .entry)))) p (messageIn x)) (chunks messageSize n (now (w .entry))) ⌝ }
+    ensures { λ r. ⌜ r ≡ every (λ x. messageRange x && messageFits byNumber (map recordIn (chunks recordSize made (now (kept .entry)))) p (messageIn x)) (chunks messageSize n (now (w .entry))) ⌝ }
 {
     let mut i = 0;
     while i < n {
@@ -182,7 +183,7 @@ fn messages_shaped(w: &[u32], n: usize, p: u32, kept: &[u32], made: u32) -> bool
 // Whether a message names a recorded commit of site p, or is a dummy that p made.
 fn message_shaped(w: &[u32], p: u32, kept: &[u32], made: u32) -> bool
     requires { ⌜ (length (now w) ≡ messageSize) × (length (now kept) ≡ historySize) × (made ≤ recordsMost) ⌝ }
-    ensures { λ r. ⌜ r ≡ (messageRange (now (w .entry)) && messageFits (map recordIn (chunks recordSize made (now (kept .entry)))) p (messageIn (now (w .entry)))) ⌝ }
+    ensures { λ r. ⌜ r ≡ (messageRange (now (w .entry)) && messageFits byNumber (map recordIn (chunks recordSize made (now (kept .entry)))) p (messageIn (now (w .entry)))) ⌝ }
 {
     let name = words::word(w, 0);
     if 256 <= name {

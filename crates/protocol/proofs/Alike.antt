@@ -6,12 +6,11 @@ use Prim.Native.Nat.{ℕ, suc}
 use lib.IntN.{ℤ, pos}
 use lib.ListN.{getD}
 use Rattle.timestamp.specs.Timestamp.{Stamp}
-use Rattle.timestamp.specs.Order.{order, notLater}
 use Rattle.site.specs.Operations.{Op, reads, recorded, written, Work, work, worked}
 use Rattle.records.specs.Records.{Record}
 use Rattle.lists.specs.Lists.{keep, upTo}
 use Rattle.lists.proofs.Matched.{Matched, matched-length, matched-add, matched-keep, matched-sorted}
-use Rattle.protocol.specs.Run.{Turn, numbered, comesFirst, inTurn, after, seen, run, startTable, find, shown, valueAt}
+use Rattle.protocol.specs.Run.{Turn, numbered, comesFirst, inTurn, after, seen, run, startTable, find, shown, isUpTo, valueAt}
 use Rattle.protocol.proofs.Works.{read-no-write}
 
 -- the same work on every table
@@ -63,9 +62,19 @@ numbered-alike j [] (c ∷ cs) m = absurd m
 numbered-alike j (r ∷ h) [] m = absurd m
 numbered-alike j (r ∷ h) (c ∷ cs) m = ((refl, m .0), numbered-alike (suc j) h cs (m .1))
 
-turns-alike : (h cs : List Record) → AllAlike h cs → Matched AlikeTurns (inTurn h) (inTurn cs)
-turns-alike h cs m =
-    matched-sorted AlikeTurns comesFirst (λ c d x y e f i. notLater (order (e .1 .stamp-same i) (f .1 .stamp-same i))) (numbered 0 h) (numbered 0 cs) (numbered-alike 0 h cs m)
+-- between two turns alike: all but the operations of each
+abbrev between : (c d : Turn) → AlikeTurns c d → 𝕀 → Turn
+between c d e i = record { number = e .0 i; commit = record { site = e .1 .site-same i; stamp = e .1 .stamp-same i; ops = c .commit .ops } }
+
+module _ (place : ℕ → ℕ) where
+  first-alike : (c d x y : Turn) → AlikeTurns c d → AlikeTurns x y → comesFirst place c x ≡ comesFirst place d y
+  first-alike c d x y e f i = comesFirst place (between c d e i) (between x y f i)
+
+  upto-alike : (t : Stamp) (c d : Turn) → AlikeTurns c d → isUpTo place t c ≡ isUpTo place t d
+  upto-alike t c d e i = isUpTo place t (between c d e i)
+
+turns-alike : (place : ℕ → ℕ) (h cs : List Record) → AllAlike h cs → Matched AlikeTurns (inTurn place h) (inTurn place cs)
+turns-alike place h cs m = matched-sorted AlikeTurns _ (first-alike _) (numbered 0 h) (numbered 0 cs) (numbered-alike 0 h cs m)
 
 -- ---- one run
 table-alike : (table : List ℤ) (c d : Turn) → AlikeTurns c d → worked table (c .commit .ops) .table ≡ worked table (d .commit .ops) .table
@@ -78,8 +87,7 @@ after-alike table (x ∷ xs) [] m = absurd m
 after-alike table (x ∷ xs) (y ∷ ys) m = after-alike (worked table (x .commit .ops) .table) xs ys (m .1) ∙ ap (λ (t : List ℤ). after t ys) (table-alike table x y (m .0))
 
 seen-alike : (table : List ℤ) (c d : Turn) → AlikeTurns c d → seen table c ≡ seen table d
-seen-alike table c d e =
-    λ i. record { number = e .0 i; commit = record { site = e .1 .site-same i; stamp = e .1 .stamp-same i; ops = e .1 .ops-alike table table i .ops } }
+seen-alike table c d e = simp (e .0, e .1 .site-same, e .1 .stamp-same, e .1 .ops-alike)
 
 run-alike : (table : List ℤ) (xs ys : List Turn) → Matched AlikeTurns xs ys → run table xs ≡ run table ys
 run-alike table [] [] m = refl
@@ -89,15 +97,15 @@ run-alike table (x ∷ xs) (y ∷ ys) m =
     ap₂ {C = List Turn} (λ c cs. c ∷ cs) (seen-alike table x y (m .0))
     (run-alike (worked table (x .commit .ops) .table) xs ys (m .1) ∙ ap (λ (t : List ℤ). run t ys) (table-alike table x y (m .0)))
 
-module _ (h cs : List Record) (m : AllAlike h cs) where
-  pub alike-shown : shown startTable h ≡ shown startTable cs
+module _ (place : ℕ → ℕ) (h cs : List Record) (m : AllAlike h cs) where
+  pub alike-shown : shown place startTable h ≡ shown place startTable cs
   unfolding shown
-  alike-shown = ap₂ (λ (ts : List Turn) (n : ℕ). map (find ts) (upTo 0 n)) (run-alike startTable (inTurn h) (inTurn cs) (turns-alike h cs m)) (matched-length Alike h cs m)
+  alike-shown =
+      ap₂ (λ (ts : List Turn) (n : ℕ). map (find ts) (upTo 0 n)) (run-alike startTable (inTurn place h) (inTurn place cs) (turns-alike place h cs m)) (matched-length Alike h cs m)
 
-  pub alike-value : (t : Stamp) (x : ℕ) → valueAt startTable h t x ≡ valueAt startTable cs t x
+  pub alike-value : (t : Stamp) (x : ℕ) → valueAt place startTable h t x ≡ valueAt place startTable cs t x
   unfolding valueAt
   alike-value t x =
-      let passes : Turn → Bool = λ c. notLater (order (c .commit .stamp) t) in
       ap (λ (l : List ℤ). getD l x (pos 0))
-      (after-alike startTable (keep passes (inTurn h)) (keep passes (inTurn cs))
-      (matched-keep AlikeTurns passes (λ c d e i. notLater (order (e .1 .stamp-same i) t)) (inTurn h) (inTurn cs) (turns-alike h cs m)))
+      (after-alike startTable (keep (isUpTo place t) (inTurn place h)) (keep (isUpTo place t) (inTurn place cs))
+      (matched-keep AlikeTurns (isUpTo place t) (upto-alike place t) (inTurn place h) (inTurn place cs) (turns-alike place h cs m)))

@@ -11,7 +11,7 @@ use lib.Dec.{eqb, ltb}
 use borrow.Author.Tests.{ltb-true}
 use Rattle.lists.proofs.Every.{and-true}
 use Rattle.timestamp.specs.Timestamp.{Stamp}
-use Rattle.timestamp.specs.Order.{order, byNumber, notLater, isEarlier}
+use Rattle.timestamp.specs.Order.{notLater, isEarlier}
 use Rattle.timestamp.specs.Made.{madeBy}
 use Rattle.site.specs.Operations.{Op, reads, noOp}
 use Rattle.site.specs.Site.{Site, committed}
@@ -27,7 +27,8 @@ use Rattle.protocol.specs.Agreement.{holds}
 use Rattle.lists.proofs.Chains.{keep-more}
 use Rattle.protocol.proofs.Values.{touches, wrote, lastFrom, lastValue, from-more, none-kept, agree}
 use Rattle.protocol.proofs.Works.{worked-length, getD-worked, worked-size, worked-kinds, worked-reads, wrote-worked}
-use Rattle.protocol.proofs.Times.{Before, UpTo, upto-self, upto-before, upto-then, before-test, later-fails, test-fails, made-under, cut-upto, cut-before, cut-test}
+use Rattle.protocol.proofs.Times.{Times}
+use Rattle.protocol.proofs.Places.{placeAt, orderAt, Before, UpTo, timesAt}
 use Rattle.protocol.proofs.Added.{added-size, added-old, added-new, added-each, added-rise}
 use Rattle.protocol.proofs.Invariant.{stampAt, heardAt, tableAt, messagesAt, nthRecord, Named, Invariant, holder, touch-item, touch-owns, due-child, shaped, line-up, stamp-made, record-below, record-site, reaches}
 use Rattle.protocol.proofs.Calm.{changed, Calm, calm-past, calm-queue, calm-ahead, calm-behind, calm-heard, calm-owed, settled-value}
@@ -54,6 +55,8 @@ like-due xs j (o ∷ os) (u ∷ us) e f =
 
 -- ---- a commit that nothing refuses
 module _ (n : Network) (inv : Invariant n) (i : ℕ) (os : List Op) (site : i < length (n .sites)) (few : countAtMost n i ≡ false) (fit : firstNumber (map (opNumber (n .items) i) os) ≡ 0) where
+  open Times (timesAt n) using (upto-self, upto-before, upto-then, before-test, later-fails, test-fails, made-under, cut-upto, cut-before, cut-test)
+
   abbrev new : Site
   new = committed os (siteAt n i)
 
@@ -73,10 +76,10 @@ module _ (n : Network) (inv : Invariant n) (i : ℕ) (os : List Op) (site : i < 
   abbrev next : Network
   next = changed n (moved n inv i new) (mailed n inv gets i m) later
 
-  rises : Before (stampAt n i) (r .stamp)
+  rises : Before n (stampAt n i) (r .stamp)
   rises = risen-before n inv i site few
 
-  r-made : madeBy byNumber i (r .stamp) ≡ true
+  r-made : madeBy (placeAt n) i (r .stamp) ≡ true
   r-made = raised-made n (shaped n inv) i site few
 
   kinds : (a : ℕ) → (getD (r .ops) a noOp .kind ≡ getD os a noOp .kind) × (getD (r .ops) a noOp .item ≡ getD os a noOp .item)
@@ -89,13 +92,13 @@ module _ (n : Network) (inv : Invariant n) (i : ℕ) (os : List Op) (site : i < 
   r-allowed a l = like-shape (n .items) i (getD (r .ops) a noOp) (getD os a noOp) (kinds a .0) (kinds a .1) (op-at (n .items) i os fit a (omega (arith, size)))
 
   -- ---- it is later than every site that holds what it writes
-  above : (j x : ℕ) → j < length (n .sites) → touches x (r .ops) ≡ true → holds (n .items) j x ≡ true → Before (stampAt n j) (r .stamp)
+  above : (j x : ℕ) → j < length (n .sites) → touches x (r .ops) ≡ true → holds (n .items) j x ≡ true → Before n (stampAt n j) (r .stamp)
   above j x near t e = go (holder (n .items) i j x (touch-item (n .items) i (r .ops) r-allowed x t) (touch-owns (n .items) i (r .ops) r-allowed x t) e)
     where
-      go : (j ≡ i) ⊎ ((isLine (n .items) i j ≡ true) × (copies (n .items) j x ≡ true)) → Before (stampAt n j) (r .stamp)
-      go (inl s) = subst (λ (k : ℕ). Before (stampAt n k) (r .stamp)) (sym s) rises
+      go : (j ≡ i) ⊎ ((isLine (n .items) i j ≡ true) × (copies (n .items) j x ≡ true)) → Before n (stampAt n j) (r .stamp)
+      go (inl s) = subst (λ (k : ℕ). Before n (stampAt n k) (r .stamp)) (sym s) rises
       go (inr (line, _)) =
-          cut-before j (stampAt n j) (r .stamp) (stamp-made n inv j near) (made-under i j (r .stamp) r-made (line-up n inv i j line .0))
+          cut-before j (stampAt n j) (r .stamp) (stamp-made n inv j near) (made-under i j (r .stamp) r-made (line-up n inv i j line))
           (upto-then (heardAt n j) (stampAt n i) (r .stamp) (inv .heard i j line) rises)
 
   -- ---- the history with it, for a test of its commits
@@ -116,31 +119,31 @@ module _ (n : Network) (inv : Invariant n) (i : ℕ) (os : List Op) (site : i < 
 
   -- ---- its own reads: what is not later than its site is before it
   own-read : (x k : ℕ) → k < length (n .history) → touches x (nthRecord n k .ops) ≡ true → holds (n .items) i x ≡ true
-      → isEarlier (order (nthRecord n k .stamp) (r .stamp)) ≡ notLater (order (nthRecord n k .stamp) (stampAt n i))
+      → isEarlier (orderAt n (nthRecord n k .stamp) (r .stamp)) ≡ notLater (orderAt n (nthRecord n k .stamp) (stampAt n i))
   own-read x k l t e = go (reaches n inv k i x l t e)
     where
-      go : (i ≡ nthRecord n k .site) ⊎ ((isLine (n .items) (nthRecord n k .site) i ≡ true) × (copies (n .items) i x ≡ true)) → isEarlier (order (nthRecord n k .stamp) (r .stamp)) ≡ notLater (order (nthRecord n k .stamp) (stampAt n i))
+      go : (i ≡ nthRecord n k .site) ⊎ ((isLine (n .items) (nthRecord n k .site) i ≡ true) × (copies (n .items) i x ≡ true)) → isEarlier (orderAt n (nthRecord n k .stamp) (r .stamp)) ≡ notLater (orderAt n (nthRecord n k .stamp) (stampAt n i))
       go (inl s) =
-          let past : UpTo (nthRecord n k .stamp) (stampAt n i) = subst (λ (j : ℕ). UpTo (nthRecord n k .stamp) (stampAt n j)) (sym s) (inv .past k l) in
+          let past : UpTo n (nthRecord n k .stamp) (stampAt n i) = subst (λ (j : ℕ). UpTo n (nthRecord n k .stamp) (stampAt n j)) (sym s) (inv .past k l) in
           before-test (nthRecord n k .stamp) (r .stamp) (upto-then (nthRecord n k .stamp) (stampAt n i) (r .stamp) past rises) ∙ sym past
       go (inr (line, _)) =
           let below = record-below n inv k i l line in
           cut-test i (r .stamp) (nthRecord n k .stamp) r-made below
-          ∙ ap (λ (t : Stamp). notLater (order (nthRecord n k .stamp) t)) (risen-without n inv i site few)
+          ∙ ap (λ (t : Stamp). notLater (orderAt n (nthRecord n k .stamp) t)) (risen-without n inv i site few)
           ∙ sym (cut-upto i (stampAt n i) (nthRecord n k .stamp) (stamp-made n inv i site) below)
 
   abbrev ReadsWell : Record → Type 0
   ReadsWell c = (a : ℕ) → a < length (c .ops) → reads (getD (c .ops) a noOp) ≡ true
-      → getD (c .ops) a noOp .value ≡ lastValue (getD (c .ops) a noOp .item) (keep (λ (q : Record). isEarlier (order (q .stamp) (c .stamp))) later)
+      → getD (c .ops) a noOp .value ≡ lastValue (getD (c .ops) a noOp .item) (keep (λ (q : Record). isEarlier (orderAt n (q .stamp) (c .stamp))) later)
 
   new-read : ReadsWell r
   new-read a l e =
       let s = r-allowed a l in
       let x = getD (r .ops) a noOp .item in
-      let p : Record → Bool = λ q. isEarlier (order (q .stamp) (r .stamp)) in
+      let p : Record → Bool = λ q. isEarlier (orderAt n (q .stamp) (r .stamp)) in
       worked-reads (tableAt n i) (tableAt n i) os a (omega (arith, size)) e
       ∙ inv .copy i x site (s .item) (s .held e)
-      ∙ sym (agree x p (λ q. notLater (order (q .stamp) (stampAt n i))) (pos 0) (n .history) (λ k b t. own-read x k b t (s .held e)))
+      ∙ sym (agree x p (λ q. notLater (orderAt n (q .stamp) (stampAt n i))) (pos 0) (n .history) (λ k b t. own-read x k b t (s .held e)))
       ∙ sym (without-it x (lastValue x (keep p (n .history))) p (λ t. test-fails (r .stamp) (r .stamp) (upto-self (r .stamp))))
       ∙ sym (with-it x p)
 
@@ -149,7 +152,7 @@ module _ (n : Network) (inv : Invariant n) (i : ℕ) (os : List Op) (site : i < 
       let c = nthRecord n k in
       let s = inv .allowed k l a b in
       let x = getD (c .ops) a noOp .item in
-      let p : Record → Bool = λ q. isEarlier (order (q .stamp) (c .stamp)) in
+      let p : Record → Bool = λ q. isEarlier (orderAt n (q .stamp) (c .stamp)) in
       inv .read k l a b e
       ∙ sym (without-it x (lastValue x (keep p (n .history))) p
       (λ t. test-fails (r .stamp) (c .stamp)
@@ -159,24 +162,24 @@ module _ (n : Network) (inv : Invariant n) (i : ℕ) (os : List Op) (site : i < 
   -- ---- the tables
   abbrev Holds : ℕ → Site → Type 0
   Holds j s = (x : ℕ) → x < length (n .items) → holds (n .items) j x ≡ true
-      → getD (s .table) x (pos 0) ≡ lastFrom x (getD (tableAt n j) x (pos 0)) (keep (λ (q : Record). notLater (order (q .stamp) (s .stamp))) (r ∷ []))
+      → getD (s .table) x (pos 0) ≡ lastFrom x (getD (tableAt n j) x (pos 0)) (keep (λ (q : Record). notLater (orderAt n (q .stamp) (s .stamp))) (r ∷ []))
 
   old-table : (j : ℕ) → j < length (n .sites) → Holds j (siteAt n j)
   old-table j l x b e =
-      sym (without-it x (getD (tableAt n j) x (pos 0)) (λ (q : Record). notLater (order (q .stamp) (stampAt n j))) (λ t. later-fails (r .stamp) (stampAt n j) (above j x l t e)))
+      sym (without-it x (getD (tableAt n j) x (pos 0)) (λ (q : Record). notLater (orderAt n (q .stamp) (stampAt n j))) (λ t. later-fails (r .stamp) (stampAt n j) (above j x l t e)))
 
   new-table : Holds i new
   new-table x b e =
       let v = getD (tableAt n i) x (pos 0) in
       getD-worked (tableAt n i) os x (omega (arith, inv .sizes .tables i site, inv .sizes .items))
       ∙ sym (wrote-worked (tableAt n i) (tableAt n i) os x v)
-      ∙ sym (counts x v (λ (q : Record). notLater (order (q .stamp) (new .stamp))) (upto-self (r .stamp)))
+      ∙ sym (counts x v (λ (q : Record). notLater (orderAt n (q .stamp) (new .stamp))) (upto-self (r .stamp)))
 
   module _ (c : Calm n (moved n inv i new) (mailed n inv gets i m) later) where
     commit-copy : (j x : ℕ) → j < length (n .sites) → x < length (n .items) → holds (n .items) j x ≡ true
-        → getD (tableAt next j) x (pos 0) ≡ lastValue x (keep (λ (q : Record). notLater (order (q .stamp) (stampAt next j))) later)
+        → getD (tableAt next j) x (pos 0) ≡ lastValue x (keep (λ (q : Record). notLater (orderAt n (q .stamp) (stampAt next j))) later)
     commit-copy j x l b e =
-        let p : Record → Bool = λ q. notLater (order (q .stamp) (stampAt next j)) in
+        let p : Record → Bool = λ q. notLater (orderAt n (q .stamp) (stampAt next j)) in
         moved-each n inv i new Holds old-table new-table j l x b e
         ∙ ap (λ (v : ℤ). lastFrom x v (keep p (r ∷ []))) (inv .copy j x l b e ∙ sym (settled-value n inv (moved n inv i new) (mailed n inv gets i m) later c j x l e))
         ∙ sym (with-it x p)
@@ -197,14 +200,14 @@ module _ (n : Network) (inv : Invariant n) (i : ℕ) (os : List Op) (site : i < 
         record {
           sizes = c .sizes;
           shape = c .shape;
-          past = added-each h r noRecord (λ k x. UpTo (x .stamp) (stampAt next (x .site))) (calm-past n inv ss ls later c)
-              (subst (λ (s : Site). UpTo (r .stamp) (s .stamp)) (sym (moved-here n inv i new site)) (upto-self (r .stamp)));
-          rise = added-rise h r noRecord (λ x y. x .site ≡ y .site → Before (x .stamp) (y .stamp)) (inv .rise)
-              (λ a l e. upto-then (nthRecord n a .stamp) (stampAt n (nthRecord n a .site)) (r .stamp) (inv .past a l) (subst (λ (j : ℕ). Before (stampAt n j) (r .stamp)) (sym e) rises));
+          past = added-each h r noRecord (λ k x. UpTo n (x .stamp) (stampAt next (x .site))) (calm-past n inv ss ls later c)
+              (subst (λ (s : Site). UpTo n (r .stamp) (s .stamp)) (sym (moved-here n inv i new site)) (upto-self (r .stamp)));
+          rise = added-rise h r noRecord (λ x y. x .site ≡ y .site → Before n (x .stamp) (y .stamp)) (inv .rise)
+              (λ a l e. upto-then (nthRecord n a .stamp) (stampAt n (nthRecord n a .site)) (r .stamp) (inv .past a l) (subst (λ (j : ℕ). Before n (stampAt n j) (r .stamp)) (sym e) rises));
           queue = calm-queue n inv ss ls later c;
           ahead = calm-ahead n inv ss ls later c;
           behind = calm-behind n inv ss ls later c;
-          owed = λ k j l. added-each h r noRecord (λ a x. (q : ℕ) → due (n .items) (x .ops) q ≡ true → Before (heardAt next q) (x .stamp) → Named (messagesAt next (x .site) q) a)
+          owed = λ k j l. added-each h r noRecord (λ a x. (q : ℕ) → due (n .items) (x .ops) q ≡ true → Before n (heardAt next q) (x .stamp) → Named (messagesAt next (x .site) q) a)
               (calm-owed n inv ss ls later c) (λ q d b. new-owed q d) k l j;
           heard = calm-heard n inv ss ls later c;
           copy = λ j x l. commit-copy j x (omega (arith, moved-many n inv i new));
@@ -216,7 +219,7 @@ module _ (n : Network) (inv : Invariant n) (i : ℕ) (os : List Op) (site : i < 
   named : messageStamp later m ≡ new .stamp
   named = ap (λ (x : Record). x .stamp) (added-new (n .history) r noRecord)
 
-  older : (p : ℕ) (x : Message) → messageFits (n .history) p x ≡ true → messageStamp later x ≡ messageStamp (n .history) x
+  older : (p : ℕ) (x : Message) → messageFits (placeAt n) (n .history) p x ≡ true → messageStamp later x ≡ messageStamp (n .history) x
   older p (commit k) e =
       let q = and-true (ltb k (length (n .history))) (eqb (getD (n .history) k noRecord .site) p) e in
       ap (λ (x : Record). x .stamp) (added-old (n .history) r noRecord k (ltb-true k (length (n .history)) (q .0)))

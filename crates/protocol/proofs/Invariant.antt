@@ -11,7 +11,7 @@ use lib.Dec.{eqb}
 use borrow.Author.Tests.{eqb-true}
 use Rattle.lists.proofs.Every.{and-true, every-at}
 use Rattle.timestamp.specs.Timestamp.{Stamp}
-use Rattle.timestamp.specs.Order.{order, byNumber, notLater, isEarlier, Below}
+use Rattle.timestamp.specs.Order.{notLater, isEarlier, Below}
 use Rattle.timestamp.specs.Made.{madeBy}
 use Rattle.timestamp.proofs.Made.{without}
 use Rattle.site.specs.Operations.{Op, reads, writes, noOp, writesItem}
@@ -20,7 +20,6 @@ use Rattle.placement.specs.Masks.{bit}
 use Rattle.placement.specs.Placement.{Item, noItem, owns, copies, isLine, hasParents}
 use Rattle.limits.specs.Limits.{sitesMost}
 use Rattle.lists.proofs.Some.{some-at, some-index}
-use Rattle.placement.proofs.Laws.{line-upward}
 use Rattle.lines.specs.Lines.{Message, commit}
 use Rattle.records.specs.Records.{Record}
 use Rattle.protocol.specs.Network.{linesMost, Network, siteAt, lineAt, lineNumber, messageStamp, messageFits, wellShaped}
@@ -31,7 +30,8 @@ use Rattle.protocol.proofs.Allowed.{OpAllowed}
 use Rattle.protocol.proofs.Chosen.{message-made}
 use Rattle.protocol.specs.Agreement.{holds}
 use Rattle.protocol.proofs.Values.{touches, lastValue, recordAt}
-use Rattle.protocol.proofs.Times.{Before, UpTo, made-under}
+use Rattle.protocol.proofs.Times.{Times}
+use Rattle.protocol.proofs.Places.{line-rises, line-ends, placeAt, orderAt, Before, UpTo, timesAt}
 
 -- ---- a network's timestamps, tables and messages
 abbrev pub stampAt : Network → ℕ → Stamp
@@ -71,22 +71,22 @@ pub record Invariant (n : Network) : Type 0 where
   pub sizes : Sizes n
   pub shape : wellShaped n ≡ true
   -- a commit is not later than its site; the commits of one site rise
-  pub past : (k : ℕ) → k < length (n .history) → UpTo (nthRecord n k .stamp) (stampAt n (nthRecord n k .site))
-  pub rise : (k m : ℕ) → k < m → m < length (n .history) → nthRecord n k .site ≡ nthRecord n m .site → Before (nthRecord n k .stamp) (nthRecord n m .stamp)
+  pub past : (k : ℕ) → k < length (n .history) → UpTo n (nthRecord n k .stamp) (stampAt n (nthRecord n k .site))
+  pub rise : (k m : ℕ) → k < m → m < length (n .history) → nthRecord n k .site ≡ nthRecord n m .site → Before n (nthRecord n k .stamp) (nthRecord n m .stamp)
   -- the messages of a line rise; each is later than what the child has heard, and not later than the parent
-  pub queue : (p j : ℕ) → isLine (n .items) p j ≡ true → (a b : ℕ) → a < b → b < length (messagesAt n p j) → Before (sentAt n p j a) (sentAt n p j b)
-  pub ahead : (p j : ℕ) → isLine (n .items) p j ≡ true → (a : ℕ) → a < length (messagesAt n p j) → Before (heardAt n j) (sentAt n p j a)
-  pub behind : (p j : ℕ) → isLine (n .items) p j ≡ true → (a : ℕ) → a < length (messagesAt n p j) → UpTo (sentAt n p j a) (stampAt n p)
+  pub queue : (p j : ℕ) → isLine (n .items) p j ≡ true → (a b : ℕ) → a < b → b < length (messagesAt n p j) → Before n (sentAt n p j a) (sentAt n p j b)
+  pub ahead : (p j : ℕ) → isLine (n .items) p j ≡ true → (a : ℕ) → a < length (messagesAt n p j) → Before n (heardAt n j) (sentAt n p j a)
+  pub behind : (p j : ℕ) → isLine (n .items) p j ≡ true → (a : ℕ) → a < length (messagesAt n p j) → UpTo n (sentAt n p j a) (stampAt n p)
   -- a commit that a child has a copy of and has not heard of is on the line
-  pub owed : (k j : ℕ) → k < length (n .history) → due (n .items) (nthRecord n k .ops) j ≡ true → Before (heardAt n j) (nthRecord n k .stamp) → Named (messagesAt n (nthRecord n k .site) j) k
+  pub owed : (k j : ℕ) → k < length (n .history) → due (n .items) (nthRecord n k .ops) j ≡ true → Before n (heardAt n j) (nthRecord n k .stamp) → Named (messagesAt n (nthRecord n k .site) j) k
   -- what a child has heard is not later than any parent
-  pub heard : (p j : ℕ) → isLine (n .items) p j ≡ true → UpTo (heardAt n j) (stampAt n p)
+  pub heard : (p j : ℕ) → isLine (n .items) p j ≡ true → UpTo n (heardAt n j) (stampAt n p)
   -- a table holds the last values of the commits not later than its site
   pub copy : (j x : ℕ) → j < length (n .sites) → x < length (n .items) → holds (n .items) j x ≡ true
-      → getD (tableAt n j) x (pos 0) ≡ lastValue x (keep (λ (r : Record). notLater (order (r .stamp) (stampAt n j))) (n .history))
+      → getD (tableAt n j) x (pos 0) ≡ lastValue x (keep (λ (r : Record). notLater (orderAt n (r .stamp) (stampAt n j))) (n .history))
   -- a read has the last value of the commits before its own
   pub read : (k : ℕ) → k < length (n .history) → (a : ℕ) → a < length (nthRecord n k .ops) → reads (getD (nthRecord n k .ops) a noOp) ≡ true
-      → getD (nthRecord n k .ops) a noOp .value ≡ lastValue (getD (nthRecord n k .ops) a noOp .item) (keep (λ (r : Record). isEarlier (order (r .stamp) (nthRecord n k .stamp))) (n .history))
+      → getD (nthRecord n k .ops) a noOp .value ≡ lastValue (getD (nthRecord n k .ops) a noOp .item) (keep (λ (r : Record). isEarlier (orderAt n (r .stamp) (nthRecord n k .stamp))) (n .history))
   -- a commit writes what its site owns, and reads what it owns or copies
   pub allowed : (k : ℕ) → k < length (n .history) → (a : ℕ) → a < length (nthRecord n k .ops) → OpAllowed (n .items) (nthRecord n k .site) (getD (nthRecord n k .ops) a noOp)
 
@@ -151,40 +151,46 @@ module _ (xs : List Item) (i : ℕ) (os : List Op) (fits : (a : ℕ) → a < len
 
 -- ---- what holds in a network with the invariant
 module _ (n : Network) (inv : Invariant n) where
+  open Times (timesAt n) using (made-under)
+
   pub shaped : Shape n
   shaped = shape-parts n (inv .shape)
 
-  pub line-up : (p j : ℕ) → isLine (n .items) p j ≡ true → (p < j) × (j < length (n .sites))
-  line-up p j e = line-upward (length (n .sites)) (n .items) p j (shaped .placed) e
+  -- a line's ends are sites, and the child comes after its parent
+  pub line-sites : (p j : ℕ) → isLine (n .items) p j ≡ true → (p < length (n .sites)) × (j < length (n .sites))
+  line-sites p j e = line-ends (length (n .sites)) (n .items) p j (shaped .placed) e
 
-  pub stamp-made : (j : ℕ) → j < length (n .sites) → madeBy byNumber j (stampAt n j) ≡ true
+  pub line-up : (p j : ℕ) → isLine (n .items) p j ≡ true → placeAt n p < placeAt n j
+  line-up p j e = line-rises (length (n .sites)) (n .items) p j (shaped .placed) e
+
+  pub stamp-made : (j : ℕ) → j < length (n .sites) → madeBy (placeAt n) j (stampAt n j) ≡ true
   stamp-made = shaped .stamps
 
-  pub record-made : (k : ℕ) → k < length (n .history) → madeBy byNumber (nthRecord n k .site) (nthRecord n k .stamp) ≡ true
+  pub record-made : (k : ℕ) → k < length (n .history) → madeBy (placeAt n) (nthRecord n k .site) (nthRecord n k .stamp) ≡ true
   record-made k l = shaped .records k l .made
 
   pub record-site : (k : ℕ) → k < length (n .history) → nthRecord n k .site < length (n .sites)
   record-site k l = shaped .records k l .at
 
   pub line-number : (p j : ℕ) → isLine (n .items) p j ≡ true → lineNumber p j < length (n .lines)
-  line-number p j e = let up = line-up p j e in omega (arith, up .0, up .1, inv .sizes .lines, inv .sizes .sites)
+  line-number p j e = let ends = line-sites p j e in omega (arith, ends .0, ends .1, inv .sizes .lines, inv .sizes .sites)
 
-  pub message-fits : (p j : ℕ) → isLine (n .items) p j ≡ true → (a : ℕ) → a < length (messagesAt n p j) → messageFits (n .history) p (messageAt n p j a) ≡ true
+  pub message-fits : (p j : ℕ) → isLine (n .items) p j ≡ true → (a : ℕ) → a < length (messagesAt n p j) → messageFits (placeAt n) (n .history) p (messageAt n p j a) ≡ true
   message-fits p j e a l =
-      let up = line-up p j e in
-      let from : lineNumber p j / sitesMost ≡ p = omega (arith, up .1, inv .sizes .sites) in
-      ap (λ (q : ℕ). messageFits (n .history) q (messageAt n p j a)) (sym from)
-      ∙ every-at (messageFits (n .history) (lineNumber p j / sitesMost)) (messagesAt n p j) a (commit 0) (shaped .lined (lineNumber p j) (line-number p j e) .fitting) l
+      let ends = line-sites p j e in
+      let from : lineNumber p j / sitesMost ≡ p = omega (arith, ends .1, inv .sizes .sites) in
+      ap (λ (q : ℕ). messageFits (placeAt n) (n .history) q (messageAt n p j a)) (sym from)
+      ∙ every-at (messageFits (placeAt n) (n .history) (lineNumber p j / sitesMost)) (messagesAt n p j) a (commit 0) (shaped .lined (lineNumber p j) (line-number p j e) .fitting) l
 
-  pub sent-made : (p j : ℕ) → isLine (n .items) p j ≡ true → (a : ℕ) → a < length (messagesAt n p j) → madeBy byNumber p (sentAt n p j a) ≡ true
+  pub sent-made : (p j : ℕ) → isLine (n .items) p j ≡ true → (a : ℕ) → a < length (messagesAt n p j) → madeBy (placeAt n) p (sentAt n p j a) ≡ true
   sent-made p j e a l = message-made n shaped p (messageAt n p j a) (message-fits p j e a l)
 
   -- a commit of a parent stands below its child
-  pub record-below : (k j : ℕ) → k < length (n .history) → isLine (n .items) (nthRecord n k .site) j ≡ true → Below byNumber j (nthRecord n k .stamp .tuples)
-  record-below k j l e = made-under (nthRecord n k .site) j (nthRecord n k .stamp) (record-made k l) (line-up (nthRecord n k .site) j e .0)
+  pub record-below : (k j : ℕ) → k < length (n .history) → isLine (n .items) (nthRecord n k .site) j ≡ true → Below (placeAt n) j (nthRecord n k .stamp .tuples)
+  record-below k j l e = made-under (nthRecord n k .site) j (nthRecord n k .stamp) (record-made k l) (line-up (nthRecord n k .site) j e)
 
-  pub sent-below : (p j : ℕ) → isLine (n .items) p j ≡ true → (a : ℕ) → a < length (messagesAt n p j) → Below byNumber j (sentAt n p j a .tuples)
-  sent-below p j e a l = made-under p j (sentAt n p j a) (sent-made p j e a l) (line-up p j e .0)
+  pub sent-below : (p j : ℕ) → isLine (n .items) p j ≡ true → (a : ℕ) → a < length (messagesAt n p j) → Below (placeAt n) j (sentAt n p j a .tuples)
+  sent-below p j e a l = made-under p j (sentAt n p j a) (sent-made p j e a l) (line-up p j e)
 
   -- who holds an item that commit k writes is the commit's site or its child
   pub reaches : (k j x : ℕ) → k < length (n .history) → touches x (nthRecord n k .ops) ≡ true → holds (n .items) j x ≡ true → (j ≡ nthRecord n k .site) ⊎ ((isLine (n .items) (nthRecord n k .site) j ≡ true) × (copies (n .items) j x ≡ true))

@@ -12,7 +12,6 @@ use borrow.Author.Tests.{leb-false, ltb-false, ltb-true, lt-ltb, le-leb, eq-eqb}
 use Rattle.lists.specs.Lists.{every, isEmpty}
 use Rattle.lists.proofs.Every.{and-true, every-snoc, every-all}
 use Rattle.timestamp.specs.Timestamp.{Stamp, withEpoch, raisedOrSame, ownCount, greatest}
-use Rattle.timestamp.specs.Order.{byNumber}
 use Rattle.timestamp.specs.Made.{madeBy}
 use Rattle.timestamp.proofs.Made.{made-start, made-raised}
 use Rattle.timestamp.proofs.Value.{raise-room}
@@ -26,9 +25,10 @@ use Rattle.lists.specs.Numbers.{firstNumber}
 use Rattle.lists.proofs.Some.{some-at, some-index}
 use Rattle.lines.specs.Lines.{Message, commit, dummy, Line, noLine, sent, delivered}
 use Rattle.records.specs.Records.{Record, opFits}
-use Rattle.protocol.specs.Network.{linesMost, Network, noSite, noRecord, siteAt, lineAt, lineNumber, messageFits, wellShaped}
+use Rattle.protocol.specs.Network.{linesMost, Network, noSite, noRecord, siteAt, lineAt, lineNumber, placeOf, messageFits, wellShaped}
 use Rattle.protocol.specs.Steps.{itemsOf, startSite, startSites, setUpNetwork, countAtMost, opNumber, due, recordOf, commitNetwork, dummyNetwork, epochNetwork, deliverNetwork}
 use Rattle.lists.proofs.Lists.{set-each}
+use Rattle.protocol.proofs.Places.{placeAt}
 use Rattle.protocol.proofs.WellShaped.{sent-each, LineShape, RecordShape, Shape, shape-parts, shape-whole}
 use Rattle.protocol.specs.Allowed.{SetUpAllowed, CommitAllowed, DummyAllowed, EpochAllowed, DeliverAllowed}
 use Rattle.protocol.proofs.Allowed.{op-at}
@@ -55,8 +55,8 @@ keeps-set-up sites items ps ms allowed =
     (record {
       placed = ap (λ (m : ℕ). itemsNumber m xs) (start-length 0 sites) ∙ allowed .placed;
       stamps = λ i h.
-          ap (λ (x : Site). madeBy byNumber i (x .stamp)) (start-at 0 sites i (omega (arith, start-length 0 sites)) ∙ ap startSite (number i))
-          ∙ made-start byNumber i 0 0;
+          ap (λ (x : Site). madeBy (placeOf xs) i (x .stamp)) (start-at 0 sites i (omega (arith, start-length 0 sites)) ∙ ap startSite (number i))
+          ∙ made-start (placeOf xs) i 0 0;
       records = λ k h. absurd (omega arith);
       lined = λ k h. subst (LineShape xs [] k) (sym (getD-replicate linesMost k noLine noLine (omega (arith, length-replicate linesMost noLine)))) (no-line xs [] k);
     })
@@ -81,19 +81,19 @@ keeps-deliver n p c e allowed =
 
 -- ---- a site replaced by one whose timestamp it made too
 module _ (n : Network) (s : Shape n) (i : ℕ) (new : Site) where
-  pub stamps-set : madeBy byNumber i (new .stamp) ≡ true → (k : ℕ) → k < length (set (n .sites) i new) → madeBy byNumber k (getD (set (n .sites) i new) k noSite .stamp) ≡ true
-  stamps-set e = set-each (λ k x. madeBy byNumber k (x .stamp) ≡ true) (n .sites) i new noSite (s .stamps) (λ b. e)
+  pub stamps-set : madeBy (placeAt n) i (new .stamp) ≡ true → (k : ℕ) → k < length (set (n .sites) i new) → madeBy (placeAt n) k (getD (set (n .sites) i new) k noSite .stamp) ≡ true
+  stamps-set e = set-each (λ k x. madeBy (placeAt n) k (x .stamp) ≡ true) (n .sites) i new noSite (s .stamps) (λ b. e)
 
   pub placed-set : itemsNumber (length (set (n .sites) i new)) (n .items) ≡ 0
   placed-set = ap (λ (m : ℕ). itemsNumber m (n .items)) (length-set (n .sites) i new) ∙ s .placed
 
-  pub records-set : (k : ℕ) → k < length (n .history) → RecordShape (length (set (n .sites) i new)) (length (n .items)) (getD (n .history) k noRecord)
-  records-set k h = subst (λ (m : ℕ). RecordShape m (length (n .items)) (getD (n .history) k noRecord)) (sym (length-set (n .sites) i new)) (s .records k h)
+  pub records-set : (k : ℕ) → k < length (n .history) → RecordShape (placeAt n) (length (set (n .sites) i new)) (length (n .items)) (getD (n .history) k noRecord)
+  records-set k h = subst (λ (m : ℕ). RecordShape (placeAt n) m (length (n .items)) (getD (n .history) k noRecord)) (sym (length-set (n .sites) i new)) (s .records k h)
 
 -- ---- epoch: another epoch, the tuples as they were
-epoch-made : (i e : ℕ) (t : Stamp) → madeBy byNumber i t ≡ true → madeBy byNumber i (withEpoch t e) ≡ true
+epoch-made : (place : ℕ → ℕ) (i e : ℕ) (t : Stamp) → madeBy place i t ≡ true → madeBy place i (withEpoch t e) ≡ true
 unfolding madeBy
-epoch-made i e t m = m
+epoch-made place i e t m = m
 
 pub keeps-epoch : (n : Network) (i e : ℕ) → wellShaped n ≡ true → EpochAllowed n i e → wellShaped (epochNetwork n i e) ≡ true
 unfolding epochNetwork
@@ -103,7 +103,7 @@ keeps-epoch n i e w allowed =
     shape-whole (epochNetwork n i e)
     (record {
       placed = placed-set n s i new;
-      stamps = stamps-set n s i new (epoch-made i e (siteAt n i .stamp) (s .stamps i (allowed .there)));
+      stamps = stamps-set n s i new (epoch-made (placeAt n) i e (siteAt n i .stamp) (s .stamps i (allowed .there)));
       records = records-set n s i new;
       lined = s .lined;
     })
@@ -116,19 +116,19 @@ module _ (xs : List Item) (h : List Record) (i c : ℕ) (site : c < sitesMost) w
   to-site : lineNumber i c % sitesMost ≡ c
   to-site = omega arith
 
-  sent-shape : (m : Message) (l : Line) → isLine xs i c ≡ true → messageFits h i m ≡ true → LineShape xs h (lineNumber i c) l → LineShape xs h (lineNumber i c) (sent m l)
+  sent-shape : (m : Message) (l : Line) → isLine xs i c ≡ true → messageFits (placeOf xs) h i m ≡ true → LineShape xs h (lineNumber i c) l → LineShape xs h (lineNumber i c) (sent m l)
   sent-shape m l line fits s =
       record {
         held = omega (arith, length-append (l .messages) (m ∷ []));
         placed = rw (from-site, to-site, line) (or-true (isEmpty (l .messages ++ (m ∷ []))));
-        fitting = every-snoc (messageFits h (lineNumber i c / sitesMost)) (l .messages) m (s .fitting) (rw from-site fits);
+        fitting = every-snoc (messageFits (placeOf xs) h (lineNumber i c / sitesMost)) (l .messages) m (s .fitting) (rw from-site fits);
       }
 
 -- a count one higher at site i
-pub raised-made : (n : Network) (s : Shape n) (i : ℕ) → i < length (n .sites) → countAtMost n i ≡ false → madeBy byNumber i (raisedOrSame (siteAt n i .stamp)) ≡ true
+pub raised-made : (n : Network) (s : Shape n) (i : ℕ) → i < length (n .sites) → countAtMost n i ≡ false → madeBy (placeAt n) i (raisedOrSame (siteAt n i .stamp)) ≡ true
 raised-made n s i a b =
     let t = siteAt n i .stamp in
-    rw (raise-room t (leb-false greatest (ownCount t) b)) (made-raised byNumber i t (s .stamps i a))
+    rw (raise-room t (leb-false greatest (ownCount t) b)) (made-raised (placeAt n) i t (s .stamps i a))
 
 -- ---- dummy
 pub keeps-dummy : (n : Network) (i : ℕ) → wellShaped n ≡ true → DummyAllowed n i → wellShaped (dummyNetwork n i) ≡ true
@@ -156,25 +156,25 @@ module _ (h : List Record) (r : Record) where
   longer-length = omega (arith, length-append h (r ∷ []))
 
   -- an old name means the same record
-  message-longer : (p : ℕ) (m : Message) → messageFits h p m ≡ true → messageFits longer p m ≡ true
-  message-longer p (commit k) e =
+  message-longer : (place : ℕ → ℕ) (p : ℕ) (m : Message) → messageFits place h p m ≡ true → messageFits place longer p m ≡ true
+  message-longer place p (commit k) e =
       let q = and-true (ltb k (length h)) (eqb (getD h k noRecord .site) p) e in
       let old : k < length h = ltb-true k (length h) (q .0) in
       rw (lt-ltb k (length longer) (omega (arith, longer-length)), List·getD-append h (r ∷ []) noRecord k old) (q .1)
-  message-longer p (dummy t) e = e
+  message-longer place p (dummy t) e = e
 
-  messages-longer : (p : ℕ) (ms : List Message) → every (messageFits h p) ms ≡ true → every (messageFits longer p) ms ≡ true
-  messages-longer p [] e = refl
-  messages-longer p (m ∷ ms) e =
-      let q = and-true (messageFits h p m) (every (messageFits h p) ms) e in
-      rw (message-longer p m (q .0)) (messages-longer p ms (q .1))
+  messages-longer : (place : ℕ → ℕ) (p : ℕ) (ms : List Message) → every (messageFits place h p) ms ≡ true → every (messageFits place longer p) ms ≡ true
+  messages-longer place p [] e = refl
+  messages-longer place p (m ∷ ms) e =
+      let q = and-true (messageFits place h p m) (every (messageFits place h p) ms) e in
+      rw (message-longer place p m (q .0)) (messages-longer place p ms (q .1))
 
   line-longer : (xs : List Item) (k : ℕ) (l : Line) → LineShape xs h k l → LineShape xs longer k l
-  line-longer xs k l s = record { held = s .held; placed = s .placed; fitting = messages-longer (k / sitesMost) (l .messages) (s .fitting) }
+  line-longer xs k l s = record { held = s .held; placed = s .placed; fitting = messages-longer (placeOf xs) (k / sitesMost) (l .messages) (s .fitting) }
 
   -- the new name is of the new record
-  message-new : messageFits longer (r .site) (commit (length h)) ≡ true
-  message-new =
+  message-new : (place : ℕ → ℕ) → messageFits place longer (r .site) (commit (length h)) ≡ true
+  message-new place =
       rw (lt-ltb (length h) (length longer) (omega (arith, longer-length)), getD-append-seam h r [] noRecord) (eq-eqb (r .site) (r .site) refl)
 
   pub records-longer : (holds : Record → Type 0) → ((k : ℕ) → k < length h → holds (getD h k noRecord)) → holds r → (k : ℕ) → k < length longer → holds (getD longer k noRecord)
@@ -227,7 +227,7 @@ keeps-commit n i os e allowed =
     let new = committed os (siteAt n i) in
     let r = recordOf n i os in
     let made = raised-made n s i (allowed .there) (allowed .count-free) in
-    let fits : RecordShape (length (set (n .sites) i new)) (length xs) r
+    let fits : RecordShape (placeOf xs) (length (set (n .sites) i new)) (length xs) r
     = record {
       at = omega (arith, allowed .there, length-set (n .sites) i new);
       made = made;
@@ -237,7 +237,7 @@ keeps-commit n i os e allowed =
     (record {
       placed = placed-set n s i new;
       stamps = stamps-set n s i new made;
-      records = records-longer (n .history) r (RecordShape (length (set (n .sites) i new)) (length xs)) (records-set n s i new) fits;
+      records = records-longer (n .history) r (RecordShape (placeOf xs) (length (set (n .sites) i new)) (length xs)) (records-set n s i new) fits;
       lined = sent-each gets i (commit (length (n .history))) (n .lines) (LineShape xs (longer (n .history) r)) (λ k h. line-longer (n .history) r xs k (getD (n .lines) k noLine) (s .lined k h)) sitesMost
-          (λ c′ near hit l. sent-shape xs (longer (n .history) r) i c′ near (commit (length (n .history))) l (due-line xs i os (allowed .each-op) c′ hit) (message-new (n .history) r));
+          (λ c′ near hit l. sent-shape xs (longer (n .history) r) i c′ near (commit (length (n .history))) l (due-line xs i os (allowed .each-op) c′ hit) (message-new (n .history) r (placeOf xs)));
     })

@@ -1,3 +1,5 @@
+pub mod Times
+pub mod Places
 pub mod Allowed
 pub mod WellShaped
 pub mod Keeps
@@ -8,7 +10,6 @@ pub mod Works
 pub mod Turns
 pub mod Runs
 pub mod Alike
-pub mod Times
 pub mod Invariant
 pub mod Added
 pub mod Calm
@@ -19,3 +20,4 @@ pub mod SetUp
 pub mod Follows
 pub mod Theorem
 pub mod Beside
+pub mod Examples

@@ -10,7 +10,6 @@ use lib.Seq.{getD-set-same}
 use lib.Dec.{eqb}
 use borrow.Author.Tests.{eqb-true, eqb-false, leb-false}
 use Rattle.timestamp.specs.Timestamp.{raised, raisedOrSame, ownCount, greatest}
-use Rattle.timestamp.specs.Order.{byNumber}
 use Rattle.timestamp.proofs.Made.{without}
 use Rattle.timestamp.proofs.OrderLaws.{epoch-later}
 use Rattle.timestamp.proofs.Value.{raise-room}
@@ -25,13 +24,16 @@ use Rattle.protocol.specs.Steps.{countAtMost, sentTo, dummyNetwork, epoc
 use Rattle.lists.proofs.Lists.{set-each}
 use Rattle.protocol.proofs.WellShaped.{sent-length, sent-other, sent-here}
 use Rattle.protocol.proofs.Keeps.{keeps-deliver, keeps-epoch, keeps-dummy}
-use Rattle.protocol.proofs.Times.{Before, UpTo, upto-self, upto-before, without-raised, raised-before}
-use Rattle.protocol.proofs.Invariant.{stampAt, heardAt, tableAt, messagesAt, Sizes, Invariant, line-up, line-number, line-child, stamp-made}
+use Rattle.protocol.proofs.Times.{Times}
+use Rattle.protocol.proofs.Places.{placeAt, Before, UpTo, timesAt}
+use Rattle.protocol.proofs.Invariant.{stampAt, heardAt, tableAt, messagesAt, Sizes, Invariant, line-sites, line-number, line-child, stamp-made}
 use Rattle.protocol.proofs.Calm.{changed, Sent, Calm, calm-keeps}
 use Rattle.protocol.specs.Allowed.{DummyAllowed, EpochAllowed, DeliverAllowed}
 
 -- ---- one site replaced
 module _ (n : Network) (inv : Invariant n) (i : ℕ) (new : Site) where
+  open Times (timesAt n) using (upto-self)
+
   abbrev pub moved : List Site
   moved = set (n .sites) i new
 
@@ -55,12 +57,12 @@ module _ (n : Network) (inv : Invariant n) (i : ℕ) (new : Site) where
         tables = λ j l. moved-each (λ k s. length (s .table) ≡ tableSize) (inv .sizes .tables) t j (omega (arith, moved-many));
       }
 
-  pub moved-grows : UpTo (stampAt n i) (new .stamp) → (j : ℕ) → j < length (n .sites) → UpTo (stampAt n j) (getD moved j noSite .stamp)
-  moved-grows u = moved-each (λ j s. UpTo (stampAt n j) (s .stamp)) (λ j l. upto-self (stampAt n j)) u
+  pub moved-grows : UpTo n (stampAt n i) (new .stamp) → (j : ℕ) → j < length (n .sites) → UpTo n (stampAt n j) (getD moved j noSite .stamp)
+  moved-grows u = moved-each (λ j s. UpTo n (stampAt n j) (s .stamp)) (λ j l. upto-self (stampAt n j)) u
 
   pub moved-calm : (hasParents (n .items) i ≡ true → without (new .stamp) ≡ heardAt n i) → (p j : ℕ) → isLine (n .items) p j ≡ true → without (getD moved j noSite .stamp) ≡ heardAt n j
   moved-calm e p j line =
-      moved-each (λ k s. hasParents (n .items) k ≡ true → without (s .stamp) ≡ heardAt n k) (λ k l h. refl) e j (line-up n inv p j line .1) (line-child (n .items) p j line)
+      moved-each (λ k s. hasParents (n .items) k ≡ true → without (s .stamp) ≡ heardAt n k) (λ k l h. refl) e j (line-sites n inv p j line .1) (line-child (n .items) p j line)
 
   pub moved-tables : new .table ≡ tableAt n i → (j : ℕ) → j < length (n .sites) → getD moved j noSite .table ≡ tableAt n j
   moved-tables e = moved-each (λ j s. s .table ≡ tableAt n j) (λ j l. refl) e
@@ -71,7 +73,7 @@ module _ (n : Network) (inv : Invariant n) (gets : ℕ → Bool) (i : ℕ) (m : 
   mailed = sentTo gets i m sitesMost (n .lines)
 
   child : (p j : ℕ) → isLine (n .items) p j ≡ true → j < sitesMost
-  child p j line = omega (arith, line-up n inv p j line .1, inv .sizes .sites)
+  child p j line = omega (arith, line-sites n inv p j line .1, inv .sizes .sites)
 
   -- to a child that gets one
   pub mail-here : (j : ℕ) → isLine (n .items) i j ≡ true → gets j ≡ true → getD mailed (lineNumber i j) noLine .messages ≡ messagesAt n i j ++ (m ∷ [])
@@ -112,7 +114,7 @@ deliver-keeps n inv p c z =
       sizes = record { lines = size ∙ inv .sizes .lines; sites = inv .sizes .sites; items = inv .sizes .items; tables = inv .sizes .tables };
       shape = keeps-deliver n p c (inv .shape) z;
       many = refl;
-      grows = λ j l. upto-self (stampAt n j);
+      grows = λ j l. timesAt n .upto-self (stampAt n j);
       calm = λ q j line. refl;
       mail = λ q j line. inl (set-each (λ a l. l .messages ≡ getD (n .lines) a noLine .messages) (n .lines) k (delivered (lineAt n p c)) noLine (λ a l. refl) (λ b. refl)
           (lineNumber q j) (omega (arith, size, line-number n inv q j line)));
@@ -126,13 +128,13 @@ unfolding epochNetwork
 epoch-keeps n inv i e z =
     let t = stampAt n i in
     let new = atEpoch e (siteAt n i) in
-    let later : Before t (new .stamp) = epoch-later byNumber t (new .stamp) (z .newer) in
+    let later : Before n t (new .stamp) = epoch-later (placeAt n) t (new .stamp) (z .newer) in
     calm-keeps n inv (moved n inv i new) (n .lines)
     (record {
       sizes = moved-sizes n inv i new (n .lines) (n .history) refl (inv .sizes .tables i (z .there));
       shape = keeps-epoch n i e (inv .shape) z;
       many = moved-many n inv i new;
-      grows = moved-grows n inv i new (upto-before t (new .stamp) later);
+      grows = moved-grows n inv i new (timesAt n .upto-before t (new .stamp) later);
       calm = moved-calm n inv i new (λ h. absurd (true≢false (sym h ∙ z .orphan)));
       mail = λ q j line. inl refl;
       stays = λ q m f. refl;
@@ -141,11 +143,13 @@ epoch-keeps n inv i e z =
 
 -- ---- a site whose own count rises, and what it sends with the new timestamp
 module _ (n : Network) (inv : Invariant n) (i : ℕ) (site : i < length (n .sites)) (few : countAtMost n i ≡ false) where
+  open Times (timesAt n) using (upto-before, without-raised, raised-before)
+
   pub risen : raisedOrSame (stampAt n i) ≡ raised (stampAt n i)
   risen = raise-room (stampAt n i) (leb-false greatest (ownCount (stampAt n i)) few)
 
-  pub risen-before : Before (stampAt n i) (raisedOrSame (stampAt n i))
-  risen-before = subst (Before (stampAt n i)) (sym risen) (raised-before i (stampAt n i) (stamp-made n inv i site))
+  pub risen-before : Before n (stampAt n i) (raisedOrSame (stampAt n i))
+  risen-before = subst (Before n (stampAt n i)) (sym risen) (raised-before i (stampAt n i) (stamp-made n inv i site))
 
   pub risen-without : without (raisedOrSame (stampAt n i)) ≡ heardAt n i
   risen-without = ap without risen ∙ without-raised i (stampAt n i) (stamp-made n inv i site)
@@ -154,8 +158,8 @@ module _ (n : Network) (inv : Invariant n) (i : ℕ) (site : i < length (n .site
     abbrev after : Network
     after = changed n (moved n inv i new) (mailed n inv gets i m) h
 
-    higher : Before (stampAt n i) (new .stamp)
-    higher = subst (Before (stampAt n i)) (sym same) risen-before
+    higher : Before n (stampAt n i) (new .stamp)
+    higher = subst (Before n (stampAt n i)) (sym same) risen-before
 
     here : siteAt after i ≡ new
     here = moved-here n inv i new site
@@ -166,10 +170,10 @@ module _ (n : Network) (inv : Invariant n) (i : ℕ) (site : i < length (n .site
           message = m;
           extends = e;
           stamp = is ∙ ap (λ (x : Site). x .stamp) (sym here) ∙ ap (stampAt after) (sym s);
-          higher = subst (λ (k : ℕ). Before (stampAt n k) (stampAt after k)) (sym s) (subst (λ (x : Site). Before (stampAt n i) (x .stamp)) (sym here) higher);
+          higher = subst (λ (k : ℕ). Before n (stampAt n k) (stampAt after k)) (sym s) (subst (λ (x : Site). Before n (stampAt n i) (x .stamp)) (sym here) higher);
         }
 
-    pub raise-calm : wellShaped after ≡ true → ((p : ℕ) (x : Message) → messageFits (n .history) p x ≡ true → messageStamp h x ≡ messageStamp (n .history) x)
+    pub raise-calm : wellShaped after ≡ true → ((p : ℕ) (x : Message) → messageFits (placeAt n) (n .history) p x ≡ true → messageStamp h x ≡ messageStamp (n .history) x)
         → Calm n (moved n inv i new) (mailed n inv gets i m) h
     raise-calm well stays =
         record {

@@ -3,22 +3,20 @@
 use mathlib.Core.Path.{_≡_, refl, ap, ap₂, sym, _∙_}
 use mathlib.Core.Bool.{Bool, true, false, cond, _||_, false≢true}
 use mathlib.Core.List.{List, [], _∷_, map}
-use mathlib.Core.Logic.{_⊎_, inl, inr}
 use Prim.Native.Nat.{ℕ, suc, _+_, _<_}
 use native.Mathlib.Omega.{arith}
 use lib.IntN.{ℤ, pos}
 use lib.ListN.{length, getD, length-replicate, getD-replicate}
 use lib.Dec.{eqb}
 use Rattle.timestamp.specs.Timestamp.{Stamp}
-use Rattle.timestamp.specs.Order.{byNumber, order, orderBy, notLater, isEarlier, IsEarlier}
-use Rattle.timestamp.proofs.Comparisons.{turned, later-turned, not-later-cases}
-use Rattle.timestamp.proofs.OrderLaws.{by-number-laws}
+use Rattle.timestamp.specs.Order.{orderBy, notLater, isEarlier, IsEarlier}
 use Rattle.site.specs.Operations.{Op, reads, recorded, worked, noOp}
 use Rattle.site.specs.InWords.{tableSize}
 use Rattle.site.proofs.Laws.{work-ops}
 use Rattle.records.specs.Records.{Record}
 use Rattle.lists.specs.Lists.{keep, upTo}
-use Rattle.protocol.specs.Run.{Turn, numbered, comesFirst, inTurn, after, run, startTable, find, shown, valueAt, comesFirst}
+use Rattle.protocol.specs.Run.{Turn, numbered, comesFirst, inTurn, after, run, startTable, find, shown, valueAt}
+use Rattle.protocol.proofs.Times.{Times, times}
 use Rattle.protocol.proofs.Values.{touches, wrote, lastFrom, lastValue, recordAt, untouched}
 use Rattle.protocol.proofs.Works.{worked-length, getD-worked, recorded-other}
 use Rattle.lists.proofs.Chains.{Chain, each-implied, chain-keep, keep-none, keep-turn, map-keep}
@@ -51,85 +49,43 @@ module _ (x : ℕ) where
   last-turns : (v : ℤ) (cs : List Turn) → lastFrom x v (commits cs) ≡ lastFrom x v (commits (keep (λ c. writer (c .commit)) cs))
   last-turns v cs = last-writers v (commits cs) ∙ ap (lastFrom x v) (sym (map-keep (λ c. c .commit) writer cs))
 
-  -- ---- the writers of an item were made by rising timestamp
-  abbrev pub WritersRise : List Record → Type 0
-  WritersRise h = (k m : ℕ) → k < m → m < length h → touches x (recordAt h k .ops) ≡ true → touches x (recordAt h m .ops) ≡ true → IsEarlier byNumber (recordAt h k .stamp) (recordAt h m .stamp)
+-- ---- the writers of an item were made by rising timestamp
+abbrev pub WritersRise : (ℕ → ℕ) → ℕ → List Record → Type 0
+WritersRise place x h =
+    (k m : ℕ) → k < m → m < length h → touches x (recordAt h k .ops) ≡ true → touches x (recordAt h m .ops) ≡ true → IsEarlier place (recordAt h k .stamp) (recordAt h m .stamp)
 
-  module _ (h : List Record) (rise : WritersRise h) (q : Record → Bool) where
-    abbrev writes : Turn → Bool
-    writes c = writer (c .commit)
+module _ (place : ℕ → ℕ) (apart : (a b : ℕ) → place a ≡ place b → a ≡ b) (x : ℕ) (h : List Record) (rise : WritersRise place x h) (q : Record → Bool) where
+  abbrev writes : Turn → Bool
+  writes c = writer x (c .commit)
 
-    abbrev passes : Turn → Bool
-    passes c = q (c .commit)
+  abbrev passes : Turn → Bool
+  passes c = q (c .commit)
 
-    -- so in turn they stand in the order made
-    writers-turn : keep writes (keep passes (inTurn h)) ≡ keep writes (keep passes (numbered 0 h))
-    writers-turn =
-        let rising = chain-number (λ r s. writer r ≡ true → writer s ≡ true → notLater (order (r .stamp) (s .stamp)) ≡ true) 0 h (λ k m a b e f. ap notLater (rise k m a b e f)) in
-        keep-turn writes passes (inTurn h)
-        ∙ ap (keep passes) (keep-sorted comesFirst turns-along turns-either writes (numbered 0 h) ∙ sorted-same comesFirst (keep writes (numbered 0 h)) (chain-keep writes (InOrder comesFirst) (numbered 0 h) rising))
-        ∙ keep-turn passes writes (numbered 0 h)
+  -- so in turn they stand in the order made
+  writers-turn : keep writes (keep passes (inTurn place h)) ≡ keep writes (keep passes (numbered 0 h))
+  writers-turn =
+      let first = comesFirst place in
+      let rising = chain-number (λ r s. writer x r ≡ true → writer x s ≡ true → notLater (orderBy place (r .stamp) (s .stamp)) ≡ true) 0 h (λ k m a b e f. ap notLater (rise k m a b e f)) in
+      keep-turn writes passes (inTurn place h)
+      ∙ ap (keep passes)
+      (keep-sorted first (turns-along place apart) (turns-either place apart) writes (numbered 0 h)
+      ∙ sorted-same first (keep writes (numbered 0 h)) (chain-keep writes (InOrder first) (numbered 0 h) rising))
+      ∙ keep-turn passes writes (numbered 0 h)
 
-    -- the run's value after the commits that pass a test is that of those commits in the order made
-    run-last : x < tableSize → getD (after startTable (keep passes (inTurn h))) x (pos 0) ≡ lastValue x (keep q h)
-    run-last l =
-        after-value startTable (keep passes (inTurn h)) x (omega (arith, length-replicate tableSize (pos 0)))
-        ∙ ap (λ (v : ℤ). lastFrom x v (commits (keep passes (inTurn h)))) (getD-replicate tableSize x (pos 0) (pos 0) l)
-        ∙ last-turns (pos 0) (keep passes (inTurn h))
-        ∙ ap (λ (cs : List Turn). lastFrom x (pos 0) (commits cs)) writers-turn
-        ∙ sym (last-turns (pos 0) (keep passes (numbered 0 h)))
-        ∙ ap (lastFrom x (pos 0)) (map-keep (λ c. c .commit) q (numbered 0 h) ∙ ap (keep q) (commits-numbered 0 h))
-
-pub run-value : (h : List Record) (x : ℕ) → x < tableSize
-    → ((k m : ℕ) → k < m → m < length h → touches x (recordAt h k .ops) ≡ true → touches x (recordAt h m .ops) ≡ true → IsEarlier byNumber (recordAt h k .stamp) (recordAt h m .stamp))
-    → (t : Stamp) → valueAt startTable h t x ≡ lastValue x (keep (λ (r : Record). notLater (order (r .stamp) t)) h)
-unfolding valueAt
-run-value h x l rise t = run-last x h rise (λ r. notLater (order (r .stamp) t)) l
-
--- ---- what each turn sees, where no two turns have one timestamp
-abbrev Before : Turn → Turn → Type 0
-Before c d = IsEarlier byNumber (c .commit .stamp) (d .commit .stamp)
-
-abbrev earlierThan : Record → Turn → Bool
-earlierThan r c = isEarlier (order (c .commit .stamp) (r .stamp))
+  -- the run's value after the commits that pass a test is that of those commits in the order made
+  run-last : x < tableSize → getD (after startTable (keep passes (inTurn place h))) x (pos 0) ≡ lastValue x (keep q h)
+  run-last l =
+      after-value startTable (keep passes (inTurn place h)) x (omega (arith, length-replicate tableSize (pos 0)))
+      ∙ ap (λ (v : ℤ). lastFrom x v (commits (keep passes (inTurn place h)))) (getD-replicate tableSize x (pos 0) (pos 0) l)
+      ∙ last-turns x (pos 0) (keep passes (inTurn place h))
+      ∙ ap (λ (cs : List Turn). lastFrom x (pos 0) (commits cs)) writers-turn
+      ∙ sym (last-turns x (pos 0) (keep passes (numbered 0 h)))
+      ∙ ap (lastFrom x (pos 0)) (map-keep (λ c. c .commit) q (numbered 0 h) ∙ ap (keep q) (commits-numbered 0 h))
 
 -- a commit with the values that its reads get
 abbrev seenRecord : List ℤ → Record → Record
 seenRecord table r = record { site = r .site; stamp = r .stamp; ops = worked table (r .ops) .ops }
 
-not-itself : (c : Turn) → earlierThan (c .commit) c ≡ false
-not-itself c = ap isEarlier (by-number-laws .self (c .commit .stamp))
-
-not-those-after : (c d : Turn) → Before c d → earlierThan (c .commit) d ≡ false
-not-those-after c d e = ap isEarlier (by-number-laws .turn (c .commit .stamp) (d .commit .stamp) ∙ ap turned e)
-
--- the table that the turns earlier than it leave
-run-sees : (table : List ℤ) (cs : List Turn) (k : ℕ) → Chain Before cs → has k cs ≡ true
-    → find (run table cs) k ≡ seenRecord (after table (keep (earlierThan (find cs k)) cs)) (find cs k)
-run-sees table [] k h e = absurd (false≢true e)
-run-sees table (c ∷ cs) k h e = go (eqb (c .number) k) e (run-sees (worked table (c .commit .ops) .table) cs k (h .1))
-  where
-    go : (b : Bool) → (b || has k cs) ≡ true
-        → (has k cs ≡ true → find (run (worked table (c .commit .ops) .table) cs) k
-        ≡ seenRecord (after (worked table (c .commit .ops) .table) (keep (earlierThan (find cs k)) cs)) (find cs k))
-        → cond b (seenRecord table (c .commit)) (find (run (worked table (c .commit .ops) .table) cs) k)
-        ≡ seenRecord (after table (keep (earlierThan (cond b (c .commit) (find cs k))) (c ∷ cs))) (cond b (c .commit) (find cs k))
-    go true f rest =
-        let none = keep-none (earlierThan (c .commit)) (c ∷ cs) (not-itself c, each-implied (Before c) (λ d. earlierThan (c .commit) d ≡ false) (not-those-after c) cs (h .0)) in
-        ap (λ (ds : List Turn). seenRecord (after table ds) (c .commit)) (sym none)
-    go false f rest =
-        let first : earlierThan (find cs k) c ≡ true = ap isEarlier (each-found (λ r. IsEarlier byNumber (c .commit .stamp) (r .stamp)) cs k (h .0) f) in
-        rest f ∙ sym (rw first)
-
--- timestamps that differ: what is not later is earlier
-not-later-apart : (s t : Stamp) → (s ≡ t → ⊥) → notLater (order s t) ≡ true → IsEarlier byNumber s t
-not-later-apart s t n e = go (not-later-cases (orderBy byNumber) by-number-laws s t e)
-  where
-    go : (IsEarlier byNumber s t) ⊎ (s ≡ t) → IsEarlier byNumber s t
-    go (inl f) = f
-    go (inr f) = absurd (n f)
-
--- ---- what the run shows
 -- operations whose reads have the table's values are kept as they are
 ops-kept : (table : List ℤ) (os : List Op)
     → ((a : ℕ) → a < length os → reads (getD os a noOp) ≡ true → getD os a noOp .value ≡ getD table (getD os a noOp .item) (pos 0))
@@ -148,35 +104,77 @@ by-number f j (r ∷ h) g =
     let next : (k : ℕ) → j + suc k ≡ suc j + k = λ k. omega arith in
     ap₂ {C = List Record} (λ p ps. p ∷ ps) (g 0 (omega arith) ∙ ap f first) (by-number f (suc j) h (λ k l. g (suc k) (omega arith) ∙ ap f (next k)))
 
-pub run-shows : (h : List Record)
-    → ((k m : ℕ) → k < m → m < length h → recordAt h k .stamp ≡ recordAt h m .stamp → ⊥)
-    → ((x k m : ℕ) → k < m → m < length h → touches x (recordAt h k .ops) ≡ true → touches x (recordAt h m .ops) ≡ true → IsEarlier byNumber (recordAt h k .stamp) (recordAt h m .stamp))
-    → ((k a : ℕ) → k < length h → a < length (recordAt h k .ops) → reads (getD (recordAt h k .ops) a noOp) ≡ true
-    → (getD (recordAt h k .ops) a noOp .item < tableSize)
-    × (getD (recordAt h k .ops) a noOp .value ≡ lastValue (getD (recordAt h k .ops) a noOp .item) (keep (λ (r : Record). isEarlier (order (r .stamp) (recordAt h k .stamp))) h)))
-    → h ≡ shown startTable h
-unfolding shown
-run-shows h apart rise right = by-number (find (run startTable (inTurn h))) 0 h each
-  where
-    strict : Chain Before (inTurn h)
-    strict =
-        let cmp = orderBy byNumber in
-        let placed : (r s : Record) → (r .stamp ≡ s .stamp → ⊥)
-        → (notLater (order (r .stamp) (s .stamp)) ≡ true → IsEarlier byNumber (r .stamp) (s .stamp)) × (notLater (order (r .stamp) (s .stamp)) ≡ false → IsEarlier byNumber (s .stamp) (r .stamp))
-        = λ r s n. (λ e. not-later-apart (r .stamp) (s .stamp) n e, later-turned cmp by-number-laws (r .stamp) (s .stamp)) in
-        chain-sorted comesFirst Before (λ c d e. by-number-laws .trans (c .commit .stamp) (d .commit .stamp) (e .commit .stamp)) (numbered 0 h)
-        (chain-number (λ r s. (notLater (order (r .stamp) (s .stamp)) ≡ true → IsEarlier byNumber (r .stamp) (s .stamp)) × (notLater (order (r .stamp) (s .stamp)) ≡ false → IsEarlier byNumber (s .stamp) (r .stamp))) 0 h
-        (λ k m a b. placed (recordAt h k) (recordAt h m) (apart k m a b)))
+module _ (place : ℕ → ℕ) (apart : (a b : ℕ) → place a ≡ place b → a ≡ b) where
+  open Times (times place apart) using (upto-self, upto-before, upto-other, before-trans, fails-later, test-fails)
 
-    each : (k : ℕ) → k < length h → recordAt h k ≡ find (run startTable (inTurn h)) (0 + k)
-    each k l =
-        let r = recordAt h k in
-        let table : List ℤ = after startTable (keep (earlierThan r) (inTurn h)) in
-        let same : k ≡ 0 + k = omega arith in
-        let kept : r .ops ≡ worked table (r .ops) .ops
-        = ops-kept table (r .ops) (λ a b e. right k a l b e .1 ∙ sym (run-last (getD (r .ops) a noOp .item) h (rise (getD (r .ops) a noOp .item)) (λ s. isEarlier (order (s .stamp) (r .stamp))) (right k a l b e .0)))
-        ∙ sym (work-ops table table (r .ops)) in
-        (λ i. record { site = r .site; stamp = r .stamp; ops = kept i })
-        ∙ ap (λ (s : Record). seenRecord (after startTable (keep (earlierThan s) (inTurn h))) s) (sym (find-turn h k))
-        ∙ sym (run-sees startTable (inTurn h) k strict (has-turn h k l))
-        ∙ ap (find (run startTable (inTurn h))) same
+  pub run-value : (h : List Record) (x : ℕ) → x < tableSize → WritersRise place x h → (t : Stamp) → valueAt place startTable h t x ≡ lastValue x (keep (λ (r : Record). notLater (orderBy place (r .stamp) t)) h)
+  unfolding valueAt
+  run-value h x l rise t = run-last place apart x h rise (λ r. notLater (orderBy place (r .stamp) t)) l
+
+  -- ---- what each turn sees, where no two turns have one timestamp
+  abbrev Before : Turn → Turn → Type 0
+  Before c d = IsEarlier place (c .commit .stamp) (d .commit .stamp)
+
+  abbrev earlierThan : Record → Turn → Bool
+  earlierThan r c = isEarlier (orderBy place (c .commit .stamp) (r .stamp))
+
+  not-itself : (c : Turn) → earlierThan (c .commit) c ≡ false
+  not-itself c = test-fails (c .commit .stamp) (c .commit .stamp) (upto-self (c .commit .stamp))
+
+  not-those-after : (c d : Turn) → Before c d → earlierThan (c .commit) d ≡ false
+  not-those-after c d e = test-fails (d .commit .stamp) (c .commit .stamp) (upto-before (c .commit .stamp) (d .commit .stamp) e)
+
+  -- the table that the turns earlier than it leave
+  run-sees : (table : List ℤ) (cs : List Turn) (k : ℕ) → Chain Before cs → has k cs ≡ true
+      → find (run table cs) k ≡ seenRecord (after table (keep (earlierThan (find cs k)) cs)) (find cs k)
+  run-sees table [] k h e = absurd (false≢true e)
+  run-sees table (c ∷ cs) k h e = go (eqb (c .number) k) e (run-sees (worked table (c .commit .ops) .table) cs k (h .1))
+    where
+      go : (b : Bool) → (b || has k cs) ≡ true
+          → (has k cs ≡ true → find (run (worked table (c .commit .ops) .table) cs) k
+          ≡ seenRecord (after (worked table (c .commit .ops) .table) (keep (earlierThan (find cs k)) cs)) (find cs k))
+          → cond b (seenRecord table (c .commit)) (find (run (worked table (c .commit .ops) .table) cs) k)
+          ≡ seenRecord (after table (keep (earlierThan (cond b (c .commit) (find cs k))) (c ∷ cs))) (cond b (c .commit) (find cs k))
+      go true f rest =
+          let none = keep-none (earlierThan (c .commit)) (c ∷ cs) (not-itself c, each-implied (Before c) (λ d. earlierThan (c .commit) d ≡ false) (not-those-after c) cs (h .0)) in
+          ap (λ (ds : List Turn). seenRecord (after table ds) (c .commit)) (sym none)
+      go false f rest =
+          let first : earlierThan (find cs k) c ≡ true = ap isEarlier (each-found (λ r. IsEarlier place (c .commit .stamp) (r .stamp)) cs k (h .0) f) in
+          rest f ∙ sym (rw first)
+
+  -- ---- what the run shows
+  -- two commits that do not have one timestamp, by the test that sorts them
+  abbrev Sorted : Record → Record → Type 0
+  Sorted r s =
+      (notLater (orderBy place (r .stamp) (s .stamp)) ≡ true → IsEarlier place (r .stamp) (s .stamp))
+      × (notLater (orderBy place (r .stamp) (s .stamp)) ≡ false → IsEarlier place (s .stamp) (r .stamp))
+
+  pub run-shows : (h : List Record)
+      → ((k m : ℕ) → k < m → m < length h → recordAt h k .stamp ≡ recordAt h m .stamp → ⊥)
+      → ((x : ℕ) → WritersRise place x h)
+      → ((k a : ℕ) → k < length h → a < length (recordAt h k .ops) → reads (getD (recordAt h k .ops) a noOp) ≡ true
+      → (getD (recordAt h k .ops) a noOp .item < tableSize)
+      × (getD (recordAt h k .ops) a noOp .value ≡ lastValue (getD (recordAt h k .ops) a noOp .item) (keep (λ (r : Record). isEarlier (orderBy place (r .stamp) (recordAt h k .stamp))) h)))
+      → h ≡ shown place startTable h
+  unfolding shown
+  run-shows h differ rise right = by-number (find (run startTable (inTurn place h))) 0 h each
+    where
+      strict : Chain Before (inTurn place h)
+      strict =
+          let sorted : (r s : Record) → (r .stamp ≡ s .stamp → ⊥) → Sorted r s = λ r s n. (λ e. upto-other (r .stamp) (s .stamp) e n, fails-later (r .stamp) (s .stamp)) in
+          chain-sorted (comesFirst place) Before (λ c d e. before-trans (c .commit .stamp) (d .commit .stamp) (e .commit .stamp)) (numbered 0 h)
+          (chain-number Sorted 0 h (λ k m a b. sorted (recordAt h k) (recordAt h m) (differ k m a b)))
+
+      each : (k : ℕ) → k < length h → recordAt h k ≡ find (run startTable (inTurn place h)) (0 + k)
+      each k l =
+          let r = recordAt h k in
+          let table : List ℤ = after startTable (keep (earlierThan r) (inTurn place h)) in
+          let same : k ≡ 0 + k = omega arith in
+          let kept : r .ops ≡ worked table (r .ops) .ops
+          = ops-kept table (r .ops)
+          (λ a b e. right k a l b e .1 ∙ sym (run-last place apart (getD (r .ops) a noOp .item) h (rise (getD (r .ops) a noOp .item)) (λ s. isEarlier (orderBy place (s .stamp) (r .stamp))) (right k a l b e .0)))
+          ∙ sym (work-ops table table (r .ops)) in
+          (λ i. record { site = r .site; stamp = r .stamp; ops = kept i })
+          ∙ ap (λ (s : Record). seenRecord (after startTable (keep (earlierThan s) (inTurn place h))) s) (sym (find-turn place h k))
+          ∙ sym (run-sees startTable (inTurn place h) k strict (has-turn place h k l))
+          ∙ ap (find (run startTable (inTurn place h))) same

@@ -6,18 +6,16 @@ use Prim.Native.Nat.{ℕ, _+_, _<_, _≤_}
 use native.Mathlib.Omega.{arith}
 use lib.IntN.{pos}
 use lib.ListN.{length, getD, length-replicate, getD-replicate}
-use Rattle.timestamp.specs.Order.{byNumber}
 use Rattle.timestamp.proofs.OrderLaws.{bare-not-later}
 use Rattle.timestamp.proofs.Made.{without}
 use Rattle.site.specs.Site.{Site}
 use Rattle.site.specs.InWords.{tableSize}
 use Rattle.placement.specs.Placement.{isLine}
-use Rattle.placement.proofs.Laws.{line-upward}
 use Rattle.lines.specs.Lines.{Line, noLine}
 use Rattle.protocol.specs.Network.{linesMost, Network, siteAt, lineNumber}
 use Rattle.protocol.specs.Steps.{itemsOf, startSite, setUpNetwork}
 use Rattle.protocol.proofs.Keeps.{start-length, start-at, keeps-set-up}
-use Rattle.protocol.proofs.Times.{UpTo}
+use Rattle.protocol.proofs.Places.{line-ends, placeAt, UpTo}
 use Rattle.protocol.proofs.Invariant.{stampAt, heardAt, tableAt, messagesAt, Sizes, Invariant}
 use Rattle.protocol.specs.Allowed.{SetUpAllowed}
 
@@ -40,19 +38,19 @@ module _ (sites items : ℕ) (ps ms : List ℕ) (z : SetUpAllowed sites items ps
   start-line : (p j : ℕ) → isLine (itemsOf ps ms) p j ≡ true → (p < sites) × (j < sites) × (messagesAt start p j ≡ [])
   unfolding setUpNetwork
   start-line p j line =
-      let up = line-upward sites (itemsOf ps ms) p j (z .placed) line in
-      let near : lineNumber p j < linesMost = omega (arith, up .0, up .1, z .few-sites) in
-      (omega (arith, up .0, up .1), up .1, ap (λ (l : Line). l .messages) (getD-replicate linesMost (lineNumber p j) noLine noLine near))
+      let ends = line-ends sites (itemsOf ps ms) p j (z .placed) line in
+      let near : lineNumber p j < linesMost = omega (arith, ends .0, ends .1, z .few-sites) in
+      (ends .0, ends .1, ap (λ (l : Line). l .messages) (getD-replicate linesMost (lineNumber p j) noLine noLine near))
 
   -- nothing is on the way
   none-sent : (p j a : ℕ) → isLine (itemsOf ps ms) p j ≡ true → a < length (messagesAt start p j) → ⊥
   none-sent p j a line l = let none : length (messagesAt start p j) ≡ 0 = ap length (start-line p j line .2) in omega arith
 
-  start-heard : (p j : ℕ) → isLine (itemsOf ps ms) p j ≡ true → UpTo (heardAt start j) (stampAt start p)
+  start-heard : (p j : ℕ) → isLine (itemsOf ps ms) p j ≡ true → UpTo start (heardAt start j) (stampAt start p)
   start-heard p j line =
       let at = start-line p j line in
-      subst (λ (s : Site). UpTo (without (s .stamp)) (stampAt start p)) (sym (start-site j (at .1)))
-      (bare-not-later byNumber 0 (stampAt start p) (omega arith))
+      subst (λ (s : Site). UpTo start (without (s .stamp)) (stampAt start p)) (sym (start-site j (at .1)))
+      (bare-not-later (placeAt start) 0 (stampAt start p) (omega arith))
 
   start-copy : (j x : ℕ) → j < sites → x < length (itemsOf ps ms) → getD (tableAt start j) x (pos 0) ≡ pos 0
   start-copy j x l b =

@@ -11,39 +11,42 @@ use borrow.Author.Tests.{eqb-true, eqb-false}
 use Rattle.timestamp.specs.Timestamp.{Stamp}
 use Rattle.site.specs.Site.{Site}
 use Rattle.placement.specs.Placement.{Item, owns}
-use Rattle.protocol.specs.Network.{Network}
+use Rattle.protocol.specs.Network.{Network, placeOf}
 use Rattle.protocol.specs.Run.{startTable, shown, valueAt}
 use Rattle.protocol.specs.Agreement.{Known, holds, Agreement, OneCopyAgreement}
 use Rattle.protocol.proofs.Values.{touches}
 use Rattle.protocol.proofs.Runs.{run-value, run-shows}
 use Rattle.protocol.proofs.Alike.{alike-shown, alike-value}
-use Rattle.protocol.proofs.Times.{Before, never-before, made-apart}
+use Rattle.protocol.proofs.Times.{Times}
+use Rattle.protocol.proofs.Places.{places-apart, placeAt, Before, timesAt}
 use Rattle.protocol.proofs.Invariant.{stampAt, tableAt, nthRecord, Invariant, one-owner, touch-owns, record-made}
 use Rattle.protocol.proofs.Follows.{readsOf, Follows, always}
 
 -- ---- the commits of a network
 module _ (n : Network) (inv : Invariant n) where
+  open Times (timesAt n) using (never-before, made-apart)
+
   -- no two have one timestamp: those of one site rise, those of two end differently
   pub stamps-apart : (k m : ℕ) → k < m → m < length (n .history) → nthRecord n k .stamp ≡ nthRecord n m .stamp → ⊥
   stamps-apart k m l h e = go (eqb (nthRecord n k .site) (nthRecord n m .site)) refl
     where
       go : (b : Bool) → eqb (nthRecord n k .site) (nthRecord n m .site) ≡ b → ⊥
       go true s =
-          never-before (nthRecord n m .stamp) (subst (λ (t : Stamp). Before t (nthRecord n m .stamp)) e (inv .rise k m l h (eqb-true (nthRecord n k .site) (nthRecord n m .site) s)))
+          never-before (nthRecord n m .stamp) (subst (λ (t : Stamp). Before n t (nthRecord n m .stamp)) e (inv .rise k m l h (eqb-true (nthRecord n k .site) (nthRecord n m .site) s)))
       go false s =
           made-apart (nthRecord n k .site) (nthRecord n m .site) (nthRecord n k .stamp) (nthRecord n m .stamp) (record-made n inv k (omega arith)) (record-made n inv m h)
           (eqb-false (nthRecord n k .site) (nthRecord n m .site) s) e
 
   -- those that write an item are its owner's, and rise
-  writers-rise : (x k m : ℕ) → k < m → m < length (n .history) → touches x (nthRecord n k .ops) ≡ true → touches x (nthRecord n m .ops) ≡ true → Before (nthRecord n k .stamp) (nthRecord n m .stamp)
+  writers-rise : (x k m : ℕ) → k < m → m < length (n .history) → touches x (nthRecord n k .ops) ≡ true → touches x (nthRecord n m .ops) ≡ true → Before n (nthRecord n k .stamp) (nthRecord n m .stamp)
   writers-rise x k m l h t u =
       let owner : (a : ℕ) → a < length (n .history) → touches x (nthRecord n a .ops) ≡ true → owns (n .items) (nthRecord n a .site) x ≡ true
       = λ a b. touch-owns (n .items) (nthRecord n a .site) (nthRecord n a .ops) (inv .allowed a b) x in
       inv .rise k m l h (one-owner (n .items) (nthRecord n k .site) (nthRecord n m .site) x (owner k (omega arith) t) (owner m h u))
 
-  run-history : n .history ≡ shown startTable (n .history)
+  run-history : n .history ≡ shown (placeAt n) startTable (n .history)
   run-history =
-      run-shows (n .history) stamps-apart writers-rise
+      run-shows (placeAt n) (places-apart (n .items)) (n .history) stamps-apart writers-rise
       (λ k a l b e. let item = inv .allowed k l a b .item in (omega (arith, inv .sizes .items), inv .read k l a b e))
 
 -- ---- what follows from the calls agrees with the run
@@ -51,8 +54,11 @@ module _ (k : Known) (f : Follows k) where
   abbrev n : Network
   n = f .network
 
-  history-shown : n .history ≡ shown startTable (k .book .commits)
-  history-shown = run-history n (f .inv) ∙ alike-shown (n .history) (k .book .commits) (f .commits-alike)
+  history-shown : n .history ≡ shown (placeOf (k .items)) startTable (k .book .commits)
+  history-shown =
+      run-history n (f .inv)
+      ∙ alike-shown (placeAt n) (n .history) (k .book .commits) (f .commits-alike)
+      ∙ ap (λ (xs : List Item). shown (placeOf xs) startTable (k .book .commits)) (sym (f .items-are))
 
   -- the sites and items of the calls are the network's
   site-there : (i : ℕ) → i < length (k .book .stamps) → i < length (n .sites)
@@ -65,14 +71,15 @@ module _ (k : Known) (f : Follows k) where
   table-reaches i x l b = omega (arith, item-there x b, f .inv .sizes .items, f .inv .sizes .tables i (site-there i l))
 
   copy-agrees : (i x : ℕ) → i < length (k .book .stamps) → x < length (k .items) → holds (k .items) i x ≡ true
-      → getD (tableAt n i) x (pos 0) ≡ valueAt startTable (k .book .commits) (stampAt n i) x
+      → getD (tableAt n i) x (pos 0) ≡ valueAt (placeOf (k .items)) startTable (k .book .commits) (stampAt n i) x
   copy-agrees i x l b e =
       let site = site-there i l in
       let item = item-there x b in
       let held : holds (n .items) i x ≡ true = ap (λ (xs : List Item). holds xs i x) (sym (f .items-are)) ∙ e in
       f .inv .copy i x site item held
-      ∙ sym (run-value (n .history) x (omega (arith, f .inv .sizes .items)) (writers-rise n (f .inv) x) (stampAt n i))
-      ∙ alike-value (n .history) (k .book .commits) (f .commits-alike) (stampAt n i) x
+      ∙ sym (run-value (placeAt n) (places-apart (n .items)) (n .history) x (omega (arith, f .inv .sizes .items)) (writers-rise n (f .inv) x) (stampAt n i))
+      ∙ alike-value (placeAt n) (n .history) (k .book .commits) (f .commits-alike) (stampAt n i) x
+      ∙ ap (λ (xs : List Item). valueAt (placeOf xs) startTable (k .book .commits) (stampAt n i) x) (sym (f .items-are))
 
   agreement-of : Agreement k
   agreement-of =

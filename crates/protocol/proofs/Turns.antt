@@ -7,9 +7,9 @@ use native.Mathlib.Omega.{arith}
 use lib.ListN.{length}
 use lib.Dec.{eqb}
 use borrow.Author.Tests.{eqb-true, eq-eqb, ne-eqb}
-use Rattle.timestamp.specs.Order.{byNumber, orderBy, notLater}
+use Rattle.timestamp.specs.Order.{orderBy, notLater}
 use Rattle.timestamp.proofs.Comparisons.{not-later-trans, later-turned}
-use Rattle.timestamp.proofs.OrderLaws.{by-number-laws}
+use Rattle.timestamp.proofs.OrderLaws.{order-laws}
 use Rattle.lists.specs.Lists.{any}
 use Rattle.records.specs.Records.{Record}
 use Rattle.lists.specs.Sorting.{sorted, insert}
@@ -19,11 +19,12 @@ use Rattle.protocol.specs.Run.{Turn, numbered, comesFirst, inTurn, find}
 use Rattle.protocol.proofs.Values.{recordAt}
 
 -- ---- by rising timestamp, equal ones in the order made
-pub turns-along : (c d e : Turn) → comesFirst c d ≡ true → comesFirst d e ≡ true → comesFirst c e ≡ true
-turns-along c d e = not-later-trans (orderBy byNumber) by-number-laws (c .commit .stamp) (d .commit .stamp) (e .commit .stamp)
+module _ (place : ℕ → ℕ) (apart : (a b : ℕ) → place a ≡ place b → a ≡ b) where
+  pub turns-along : (c d e : Turn) → comesFirst place c d ≡ true → comesFirst place d e ≡ true → comesFirst place c e ≡ true
+  turns-along c d e = not-later-trans (orderBy place) (order-laws place apart) (c .commit .stamp) (d .commit .stamp) (e .commit .stamp)
 
-pub turns-either : (c d : Turn) → comesFirst c d ≡ false → comesFirst d c ≡ true
-turns-either c d h = ap notLater (later-turned (orderBy byNumber) by-number-laws (c .commit .stamp) (d .commit .stamp) h)
+  pub turns-either : (c d : Turn) → comesFirst place c d ≡ false → comesFirst place d c ≡ true
+  turns-either c d h = ap notLater (later-turned (orderBy place) (order-laws place apart) (c .commit .stamp) (d .commit .stamp) h)
 
 -- ---- a turn found by its number
 abbrev pub has : ℕ → List Turn → Bool
@@ -37,11 +38,12 @@ each-found P (c ∷ cs) k h e = go (eqb (c .number) k) e (each-found P cs k (h .
     go true f r = h .0
     go false f r = r f
 
-module _ (k : ℕ) where
+-- sorted by any test
+module _ (first : Turn → Turn → Bool) (k : ℕ) where
   -- one that shares its number with none
-  find-insert : (c : Turn) (ds : List Turn) → Each (λ d. c .number < d .number) ds → find (insert comesFirst c ds) k ≡ find (c ∷ ds) k
+  find-insert : (c : Turn) (ds : List Turn) → Each (λ d. c .number < d .number) ds → find (insert first c ds) k ≡ find (c ∷ ds) k
   find-insert c [] h = refl
-  find-insert c (d ∷ ds) h = go (comesFirst c d) (find-insert c ds (h .1))
+  find-insert c (d ∷ ds) h = go (first c d) (find-insert c ds (h .1))
     where
       turn : (a b : Bool) → eqb (c .number) k ≡ a → eqb (d .number) k ≡ b
           → cond b (d .commit) (cond a (c .commit) (find ds k)) ≡ cond a (c .commit) (cond b (d .commit) (find ds k))
@@ -51,14 +53,14 @@ module _ (k : ℕ) where
       turn true false e f = refl
       turn false b e f = refl
 
-      go : (b : Bool) → find (insert comesFirst c ds) k ≡ find (c ∷ ds) k → find (cond b (c ∷ (d ∷ ds)) (d ∷ insert comesFirst c ds)) k ≡ find (c ∷ (d ∷ ds)) k
+      go : (b : Bool) → find (insert first c ds) k ≡ find (c ∷ ds) k → find (cond b (c ∷ (d ∷ ds)) (d ∷ insert first c ds)) k ≡ find (c ∷ (d ∷ ds)) k
       go true r = refl
       go false r = ap (λ (x : Record). cond (eqb (d .number) k) (d .commit) x) r ∙ turn (eqb (c .number) k) (eqb (d .number) k) refl refl
 
-  find-sorted : (cs : List Turn) → Chain (λ c d. c .number < d .number) cs → find (sorted comesFirst cs) k ≡ find cs k
+  find-sorted : (cs : List Turn) → Chain (λ c d. c .number < d .number) cs → find (sorted first cs) k ≡ find cs k
   find-sorted [] h = refl
   find-sorted (c ∷ cs) h =
-      find-insert c (sorted comesFirst cs) (each-sorted comesFirst (λ d. c .number < d .number) cs (h .0))
+      find-insert c (sorted first cs) (each-sorted first (λ d. c .number < d .number) cs (h .0))
       ∙ ap (λ (x : Record). cond (eqb (c .number) k) (c .commit) x) (find-sorted cs (h .1))
 
 -- ---- the commits numbered in the order made
@@ -99,13 +101,13 @@ has-numbered j (suc k) (r ∷ h) l =
     rw (ne-eqb j (j + suc k) (λ e. omega arith)) (ap (λ (m : ℕ). has m (numbered (suc j) h)) next ∙ has-numbered (suc j) k h (omega arith))
 
 -- ---- and in turn: every number is there, with its commit
-module _ (h : List Record) (k : ℕ) where
-  pub has-turn : k < length h → has k (inTurn h) ≡ true
+module _ (place : ℕ → ℕ) (h : List Record) (k : ℕ) where
+  pub has-turn : k < length h → has k (inTurn place h) ≡ true
   has-turn l =
       let same : k ≡ 0 + k = omega arith in
-      any-sorted comesFirst (λ (c : Turn). eqb (c .number) k) (numbered 0 h) ∙ ap (λ (m : ℕ). has m (numbered 0 h)) same ∙ has-numbered 0 k h l
+      any-sorted _ (λ (c : Turn). eqb (c .number) k) (numbered 0 h) ∙ ap (λ (m : ℕ). has m (numbered 0 h)) same ∙ has-numbered 0 k h l
 
-  pub find-turn : find (inTurn h) k ≡ recordAt h k
+  pub find-turn : find (inTurn place h) k ≡ recordAt h k
   find-turn =
       let same : k ≡ 0 + k = omega arith in
-      find-sorted k (numbered 0 h) (chain-numbered 0 h) ∙ ap (find (numbered 0 h)) same ∙ find-numbered 0 k h
+      find-sorted _ k (numbered 0 h) (chain-numbered 0 h) ∙ ap (find (numbered 0 h)) same ∙ find-numbered 0 k h

@@ -11,15 +11,15 @@ use borrow.Author.Tests.{le-leb, leb-true, lt-ltb, ltb-true, eq-eqb, eqb-true, l
 use Rattle.lists.proofs.Lists.{set-each}
 use Rattle.lists.specs.Lists.{every, everyFrom, isEmpty}
 use Rattle.lists.proofs.Every.{and-true, every-at, every-all, from-all, from-at}
-use Rattle.timestamp.specs.Order.{byNumber}
 use Rattle.timestamp.specs.Made.{madeBy}
 use Rattle.site.specs.Site.{Site}
 use Rattle.placement.specs.Placement.{Item, itemsNumber, isLine}
 use Rattle.limits.specs.Limits.{sitesMost}
 use Rattle.lines.specs.Lines.{Message, Line, noLine, sent}
 use Rattle.records.specs.Records.{Record, opFits, recordFits}
-use Rattle.protocol.specs.Network.{Network, noSite, noRecord, siteAt, lineNumber, messageFits, lineFits, wellShaped}
+use Rattle.protocol.specs.Network.{Network, noSite, noRecord, siteAt, lineNumber, placeOf, messageFits, lineFits, wellShaped}
 use Rattle.protocol.specs.Steps.{sentTo}
+use Rattle.protocol.proofs.Places.{placeAt}
 
 -- ---- a message sent from i to some of the sites
 -- one line, where it is addressed
@@ -83,14 +83,14 @@ module _ (gets : ℕ → Bool) (i : ℕ) (m : Message) (ls : List Line) where
 pub record LineShape (xs : List Item) (h : List Record) (k : ℕ) (l : Line) : Type 0 where
   pub held : l .arrived ≤ length (l .messages)
   pub placed : (isEmpty (l .messages) || isLine xs (k / sitesMost) (k % sitesMost)) ≡ true
-  pub fitting : every (messageFits h (k / sitesMost)) (l .messages) ≡ true
+  pub fitting : every (messageFits (placeOf xs) h (k / sitesMost)) (l .messages) ≡ true
 
 module _ (xs : List Item) (h : List Record) (k : ℕ) (l : Line) where
   pub line-parts : lineFits xs h k l ≡ true → LineShape xs h k l
   unfolding lineFits
   line-parts e =
       let near = isEmpty (l .messages) || isLine xs (k / sitesMost) (k % sitesMost) in
-      let each = every (messageFits h (k / sitesMost)) (l .messages) in
+      let each = every (messageFits (placeOf xs) h (k / sitesMost)) (l .messages) in
       let a = and-true (leb (l .arrived) (length (l .messages))) (near && each) e in
       let b = and-true near each (a .1) in
       record { held = leb-true (l .arrived) (length (l .messages)) (a .0); placed = b .0; fitting = b .1 }
@@ -100,42 +100,42 @@ module _ (xs : List Item) (h : List Record) (k : ℕ) (l : Line) where
   line-whole s = rw (le-leb (l .arrived) (length (l .messages)) (s .held), s .placed) (s .fitting)
 
 -- ---- the parts of a record that fits
-pub record RecordShape (sites items : ℕ) (r : Record) : Type 0 where
+pub record RecordShape (place : ℕ → ℕ) (sites items : ℕ) (r : Record) : Type 0 where
   pub at : r .site < sites
-  pub made : madeBy byNumber (r .site) (r .stamp) ≡ true
+  pub made : madeBy place (r .site) (r .stamp) ≡ true
   pub fitting : every (opFits items) (r .ops) ≡ true
 
-module _ (sites items : ℕ) (r : Record) where
-  pub record-parts : recordFits sites items r ≡ true → RecordShape sites items r
+module _ (place : ℕ → ℕ) (sites items : ℕ) (r : Record) where
+  pub record-parts : recordFits place sites items r ≡ true → RecordShape place sites items r
   unfolding recordFits
   record-parts e =
-      let made = madeBy byNumber (r .site) (r .stamp) in
+      let made = madeBy place (r .site) (r .stamp) in
       let each = every (opFits items) (r .ops) in
       let a = and-true (ltb (r .site) sites) (made && each) e in
       let b = and-true made each (a .1) in
       record { at = ltb-true (r .site) sites (a .0); made = b .0; fitting = b .1 }
 
-  pub record-whole : RecordShape sites items r → recordFits sites items r ≡ true
+  pub record-whole : RecordShape place sites items r → recordFits place sites items r ≡ true
   unfolding recordFits
   record-whole s = rw (lt-ltb (r .site) sites (s .at), s .made) (s .fitting)
 
 -- ---- the parts of a well-shaped network
 pub record Shape (n : Network) : Type 0 where
   pub placed : itemsNumber (length (n .sites)) (n .items) ≡ 0
-  pub stamps : (i : ℕ) → i < length (n .sites) → madeBy byNumber i (siteAt n i .stamp) ≡ true
-  pub records : (k : ℕ) → k < length (n .history) → RecordShape (length (n .sites)) (length (n .items)) (getD (n .history) k noRecord)
+  pub stamps : (i : ℕ) → i < length (n .sites) → madeBy (placeAt n) i (siteAt n i .stamp) ≡ true
+  pub records : (k : ℕ) → k < length (n .history) → RecordShape (placeAt n) (length (n .sites)) (length (n .items)) (getD (n .history) k noRecord)
   pub lined : (k : ℕ) → k < length (n .lines) → LineShape (n .items) (n .history) k (getD (n .lines) k noLine)
 
 module _ (n : Network) where
   abbrev ownStamp : ℕ → Site → Bool
-  ownStamp i s = madeBy byNumber i (s .stamp)
+  ownStamp i s = madeBy (placeAt n) i (s .stamp)
 
   pub shape-parts : wellShaped n ≡ true → Shape n
   unfolding wellShaped
   shape-parts e =
       let placement = eqb (itemsNumber (length (n .sites)) (n .items)) 0 in
       let stamps = everyFrom ownStamp 0 (n .sites) in
-      let records = every (recordFits (length (n .sites)) (length (n .items))) (n .history) in
+      let records = every (recordFits (placeAt n) (length (n .sites)) (length (n .items))) (n .history) in
       let lines = everyFrom (lineFits (n .items) (n .history)) 0 (n .lines) in
       let a = and-true placement (stamps && (records && lines)) e in
       let b = and-true stamps (records && lines) (a .1) in
@@ -145,8 +145,8 @@ module _ (n : Network) where
         placed = eqb-true (itemsNumber (length (n .sites)) (n .items)) 0 (a .0);
         stamps = λ i h. ap (λ (k : ℕ). ownStamp k (siteAt n i)) (number i) ∙ from-at ownStamp 0 (n .sites) i noSite (b .0) h;
         records = λ k h.
-            record-parts (length (n .sites)) (length (n .items)) (getD (n .history) k noRecord)
-            (every-at (recordFits (length (n .sites)) (length (n .items))) (n .history) k noRecord (c .0) h);
+            record-parts (placeAt n) (length (n .sites)) (length (n .items)) (getD (n .history) k noRecord)
+            (every-at (recordFits (placeAt n) (length (n .sites)) (length (n .items))) (n .history) k noRecord (c .0) h);
         lined = λ k h.
             line-parts (n .items) (n .history) k (getD (n .lines) k noLine)
             (ap (λ (j : ℕ). lineFits (n .items) (n .history) j (getD (n .lines) k noLine)) (number k) ∙ from-at (lineFits (n .items) (n .history)) 0 (n .lines) k noLine (c .1) h);
@@ -159,5 +159,5 @@ module _ (n : Network) where
       let fits = lineFits (n .items) (n .history) in
       rw (eq-eqb (itemsNumber (length (n .sites)) (n .items)) 0 (s .placed))
       (rw (from-all ownStamp 0 (n .sites) noSite (λ i h. ap (λ (k : ℕ). ownStamp k (siteAt n i)) (number i) ∙ s .stamps i h))
-      (rw (every-all (recordFits (length (n .sites)) (length (n .items))) (n .history) noRecord (λ k h. record-whole (length (n .sites)) (length (n .items)) (getD (n .history) k noRecord) (s .records k h)))
+      (rw (every-all (recordFits (placeAt n) (length (n .sites)) (length (n .items))) (n .history) noRecord (λ k h. record-whole (placeAt n) (length (n .sites)) (length (n .items)) (getD (n .history) k noRecord) (s .records k h)))
       (from-all fits 0 (n .lines) noLine (λ k h. ap (λ (j : ℕ). fits j (getD (n .lines) k noLine)) (number k) ∙ line-whole (n .items) (n .history) k (getD (n .lines) k noLine) (s .lined k h)))))

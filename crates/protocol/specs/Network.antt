@@ -6,7 +6,6 @@ use lib.ListN.{length, getD, set}
 use lib.Dec.{eqb, ltb, leb}
 use Rattle.lists.specs.Lists.{every, everyFrom, isEmpty}
 use Rattle.timestamp.specs.Timestamp.{Stamp}
-use Rattle.timestamp.specs.Order.{byNumber}
 use Rattle.timestamp.specs.Made.{madeBy}
 use Rattle.site.specs.Operations.{Op}
 use Rattle.site.specs.Site.{Site}
@@ -67,22 +66,28 @@ abbrev pub messageOps : List Record → Message → List Op
 messageOps h (commit k) = getD h k noRecord .ops
 messageOps h (dummy t) = []
 
+-- ---- the order of sites
+-- a site's place in the order that a placement gives: its number, as every copy site has a higher number than the primary
+unfoldable pub placeOf : List Item → ℕ → ℕ
+placeOf xs k = k
+
 -- ---- well shaped
 -- a message on a line from p names a recorded commit of p, or is a dummy that p made
-abbrev pub messageFits : List Record → ℕ → Message → Bool
-messageFits h p (commit k) = ltb k (length h) && eqb (getD h k noRecord .site) p
-messageFits h p (dummy t) = madeBy byNumber p t
+abbrev pub messageFits : (ℕ → ℕ) → List Record → ℕ → Message → Bool
+messageFits place h p (commit k) = ltb k (length h) && eqb (getD h k noRecord .site) p
+messageFits place h p (dummy t) = madeBy place p t
 
 -- the line of a number: arrived not above held, nothing held where the placement gives no line, and every message fits
 unfoldable pub lineFits : List Item → List Record → ℕ → Line → Bool
 lineFits xs h k l =
     leb (l .arrived) (length (l .messages))
-    && ((isEmpty (l .messages) || isLine xs (k / sitesMost) (k % sitesMost)) && every (messageFits h (k / sitesMost)) (l .messages))
+    && ((isEmpty (l .messages) || isLine xs (k / sitesMost) (k % sitesMost)) && every (messageFits (placeOf xs) h (k / sitesMost)) (l .messages))
 
 -- the placement as set-up demands; every site's timestamp its own; every record and every line fitting
 unfoldable pub wellShaped : Network → Bool
 wellShaped n =
+    let place = placeOf (n .items) in
     eqb (itemsNumber (length (n .sites)) (n .items)) 0
-    && (everyFrom (λ i s. madeBy byNumber i (s .stamp)) 0 (n .sites)
-    && (every (recordFits (length (n .sites)) (length (n .items))) (n .history)
+    && (everyFrom (λ i s. madeBy place i (s .stamp)) 0 (n .sites)
+    && (every (recordFits place (length (n .sites)) (length (n .items))) (n .history)
     && everyFrom (lineFits (n .items) (n .history)) 0 (n .lines)))

@@ -1,4 +1,5 @@
--- The one-copy run: the commits one after another by rising timestamp, equal ones in the order made, on one copy of each item.
+-- The one-copy run: the commits one after another by rising timestamp, equal ones in the order made, on one copy of each item. Each
+-- site's `place` in the order of sites is given.
 use mathlib.Core.Bool.{Bool, cond}
 use mathlib.Core.List.{List, [], _∷_, map}
 use Prim.Native.Nat.{ℕ, suc}
@@ -6,7 +7,7 @@ use lib.IntN.{ℤ, pos}
 use lib.ListN.{length, getD, replicate}
 use lib.Dec.{eqb}
 use Rattle.timestamp.specs.Timestamp.{Stamp}
-use Rattle.timestamp.specs.Order.{order, notLater}
+use Rattle.timestamp.specs.Order.{orderBy, notLater}
 use Rattle.site.specs.Operations.{worked}
 use Rattle.site.specs.InWords.{tableSize}
 use Rattle.records.specs.Records.{Record}
@@ -24,11 +25,11 @@ numbered k [] = []
 numbered k (c ∷ cs) = record { number = k; commit = c } ∷ numbered (suc k) cs
 
 -- ---- by rising timestamp; a commit made before others goes before those that equal it
-abbrev pub comesFirst : Turn → Turn → Bool
-comesFirst c d = notLater (order (c .commit .stamp) (d .commit .stamp))
+abbrev pub comesFirst : (ℕ → ℕ) → Turn → Turn → Bool
+comesFirst place c d = notLater (orderBy place (c .commit .stamp) (d .commit .stamp))
 
-abbrev pub inTurn : List Record → List Turn
-inTurn cs = sorted comesFirst (numbered 0 cs)
+abbrev pub inTurn : (ℕ → ℕ) → List Record → List Turn
+inTurn place cs = sorted (comesFirst place) (numbered 0 cs)
 
 -- ---- the run: the reads of each commit get the table before it, then its writes go in
 abbrev pub after : List ℤ → List Turn → List ℤ
@@ -56,9 +57,13 @@ find [] k = noRecord
 find (c ∷ cs) k = cond (eqb (c .number) k) (c .commit) (find cs k)
 
 -- the commits in the order made, each read with the value that the run has there
-unfoldable pub shown : List ℤ → List Record → List Record
-shown start cs = map (find (run start (inTurn cs))) (upTo 0 (length cs))
+unfoldable pub shown : (ℕ → ℕ) → List ℤ → List Record → List Record
+shown place start cs = map (find (run start (inTurn place cs))) (upTo 0 (length cs))
+
+-- the commit is not later than a timestamp
+abbrev pub isUpTo : (ℕ → ℕ) → Stamp → Turn → Bool
+isUpTo place t c = notLater (orderBy place (c .commit .stamp) t)
 
 -- the run's value of an item after exactly the commits not later than a timestamp
-unfoldable pub valueAt : List ℤ → List Record → Stamp → ℕ → ℤ
-valueAt start cs t x = getD (after start (keep (λ c. notLater (order (c .commit .stamp) t)) (inTurn cs))) x (pos 0)
+unfoldable pub valueAt : (ℕ → ℕ) → List ℤ → List Record → Stamp → ℕ → ℤ
+valueAt place start cs t x = getD (after start (keep (isUpTo place t) (inTurn place cs))) x (pos 0)

@@ -6,7 +6,7 @@ use lib.IntN.{ℤ, pos}
 use lib.ListN.{length, getD, set, replicate}
 use lib.Dec.{eqb, ltb, leb}
 use Rattle.timestamp.specs.Timestamp.{Stamp, ownCount, greatest}
-use Rattle.timestamp.specs.Order.{order, isEarlier}
+use Rattle.timestamp.specs.Order.{orderBy, isEarlier}
 use Rattle.site.specs.Operations.{Op, reads, writes, worked}
 use Rattle.site.specs.Site.{Site, committed, dummied, atEpoch, received}
 use Rattle.limits.specs.Limits.{opsMost, sitesMost, itemsMost, heldMost, recordsMost}
@@ -16,7 +16,7 @@ use Rattle.lists.specs.Numbers.{firstNumber, numberIf, outside}
 use Rattle.lists.specs.Lists.{any, someBelow, keep}
 use Rattle.lines.specs.Lines.{Message, commit, dummy, Line, noLine, sent, delivered, taken}
 use Rattle.records.specs.Records.{Record}
-use Rattle.protocol.specs.Network.{linesMost, Network, withSite, withLine, siteAt, lineAt, lineNumber, messageStamp, messageOps, withLines, withRecord}
+use Rattle.protocol.specs.Network.{linesMost, Network, placeOf, withSite, withLine, siteAt, lineAt, lineNumber, messageStamp, messageOps, withLines, withRecord}
 
 -- ---- set-up (sites, items, a primary and a mask for each item)
 abbrev pub itemsOf : List ℕ → List ℕ → List Item
@@ -171,9 +171,13 @@ head n p j = getD (lineAt n p j .messages) 0 (commit 0)
 abbrev pub headStamp : Network → ℕ → ℕ → Stamp
 headStamp n p j = messageStamp (n .history) (head n p j)
 
+-- the oldest message on the line from p is earlier than that on the line from q
+abbrev pub headEarlier : Network → ℕ → ℕ → ℕ → Bool
+headEarlier n j p q = isEarlier (orderBy (placeOf (n .items)) (headStamp n p j) (headStamp n q j))
+
 -- q, unless p's oldest message is earlier; q is no parent where it is no site
 abbrev pub earlierOf : Network → ℕ → ℕ → ℕ → ℕ
-earlierOf n j p q = cond (leb sitesMost q || isEarlier (order (headStamp n p j) (headStamp n q j))) p q
+earlierOf n j p q = cond (leb sitesMost q || headEarlier n j p q) p q
 
 -- of the parents below k the one whose oldest message is the earliest, the lowest of equal ones; 8 where there is none
 unfoldable pub earliest : Network → ℕ → ℕ → ℕ

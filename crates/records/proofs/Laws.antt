@@ -149,7 +149,7 @@ turned false false c d = refl
 
 module _ (w : List ℕ) (sites items : ℕ) where
   abbrev pub shape : Bool
-  shape = eqb (length w) recordSize && (recordRange w && recordFits sites items (recordIn w))
+  shape = eqb (length w) recordSize && (recordRange w && recordFits byNumber sites items (recordIn w))
 
   pub shape-unsized : (length w ≡ recordSize → ⊥) → false ≡ shape
   shape-unsized h = sym (rw (ne-eqb (length w) recordSize h))

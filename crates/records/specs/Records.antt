@@ -5,7 +5,6 @@ use Prim.Native.Nat.{ℕ}
 use lib.Dec.{ltb, leb}
 use Rattle.lists.specs.Lists.{every}
 use Rattle.timestamp.specs.Timestamp.{Stamp}
-use Rattle.timestamp.specs.Order.{byNumber}
 use Rattle.timestamp.specs.Made.{madeBy}
 use Rattle.site.specs.Operations.{Op}
 
@@ -18,6 +17,7 @@ pub record Record : Type 0 where
 abbrev pub opFits : ℕ → Op → Bool
 opFits items o = leb (o .kind) 1 && ltb (o .item) items
 
--- a record of a group of that many sites and items: its site is one of them and made its timestamp, and its operations fit
-unfoldable pub recordFits : ℕ → ℕ → Record → Bool
-recordFits sites items r = ltb (r .site) sites && (madeBy byNumber (r .site) (r .stamp) && every (opFits items) (r .ops))
+-- a record of a group of that many sites and items, each site at its `place`: its site is one of them and made its timestamp, and its
+-- operations fit
+unfoldable pub recordFits : (ℕ → ℕ) → ℕ → ℕ → Record → Bool
+recordFits place sites items r = ltb (r .site) sites && (madeBy place (r .site) (r .stamp) && every (opFits items) (r .ops))

@@ -7,6 +7,7 @@ ghost use lib.ListN.{length};
 ghost use lib.Dec.{eqb};
 ghost use Rattle.lists.specs.Lists.{every};
 ghost use Rattle.timestamp.specs.Timestamp.{stampOf};
+ghost use Rattle.timestamp.specs.Order.{byNumber};
 ghost use Rattle.site.specs.InWords.{opsIn};
 ghost use Rattle.limits.specs.Limits.{opsMost};
 ghost use Rattle.records.specs.Records.{recordFits, opFits};
@@ -55,7 +56,7 @@ pub fn count(w: &[u32]) -> usize
 
 // Whether the words are those of a record of a group of that many sites and items.
 pub fn shaped(w: &[u32], sites: u32, items: u32) -> bool
-    ensures { λ r. ⌜ r ≡ (eqb (length (now (w .entry))) recordSize && (recordRange (now (w .entry)) && recordFits sites items (recordIn (now (w .entry))))) ⌝ }
+    ensures { λ r. ⌜ r ≡ (eqb (length (now (w .entry))) recordSize && (recordRange (now (w .entry)) && recordFits byNumber sites items (recordIn (now (w .entry))))) ⌝ }
 {
     if w.len() != RECORD {
         return false;

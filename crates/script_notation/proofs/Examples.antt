@@ -6,6 +6,7 @@ use Rattle.timestamp.specs.Order.{orderBy, tuplesOrder, pairOrder, numberOrder}
 use Rattle.timestamp.proofs.Examples.{comparisons-hold}
 use Rattle.site.specs.Operations.{work}
 use Rattle.placement.specs.Placement.{itemNumber, isLine, hasParents}
+use Rattle.protocol.specs.Network.{placeOf}
 use Rattle.protocol.specs.Steps.{setUpNumber, setUpNetwork, commitNumber, commitNetwork, deliverNumber, deliverNetwork, scheduleNumber, scheduleNetwork, earliest}
 use Rattle.protocol.specs.Calls.{perform}
 use Rattle.script_notation.specs.Fields.{position, fields}
@@ -15,5 +16,5 @@ use Rattle.script_notation.specs.Answers.{answer, answers}
 use Rattle.script_notation.specs.Examples.{Holds, table}
 
 pub examples-hold : Holds table
-unfolding lastDigits digits valueFrom natural signed appendedOrSame raisedOrSame orderBy tuplesOrder pairOrder numberOrder work itemNumber isLine hasParents setUpNumber setUpNetwork commitNumber commitNetwork deliverNumber deliverNetwork scheduleNumber scheduleNetwork earliest perform position fields all operation placed called parse tuplesText spaced print answer answers
+unfolding lastDigits digits valueFrom natural signed appendedOrSame raisedOrSame orderBy tuplesOrder pairOrder numberOrder work itemNumber isLine hasParents placeOf setUpNumber setUpNetwork commitNumber commitNetwork deliverNumber deliverNetwork scheduleNumber scheduleNetwork earliest perform position fields all operation placed called parse tuplesText spaced print answer answers
 examples-hold = record { lines-hold = refl; pairs-hold = comparisons-hold }

@@ -217,16 +217,17 @@ made-split place j s e =
     ap (λ (ps : List Pair). record { epoch = s .epoch; tuples = ps }) (last-split (s .tuples) (m .some))
     ∙ ap (λ (i : ℕ). appended (without s) i (lastPair (s .tuples) .count)) (m .last)
 
--- ---- no more tuples than sites up to the last
-rising-from : (x : Pair) (ps : List Pair) → rising byNumber (x ∷ ps) ≡ true → x .site + length ps ≤ lastPair (x ∷ ps) .site
-rising-from x [] r = omega arith
-rising-from x (y ∷ ys) r =
-    let p = rising-first byNumber x y ys r in
-    omega (arith, p .0, rising-from y ys (p .1))
+-- ---- no more tuples than places up to the last
+module _ (place : ℕ → ℕ) where
+  rising-from : (x : Pair) (ps : List Pair) → rising place (x ∷ ps) ≡ true → place (x .site) + length ps ≤ place (lastPair (x ∷ ps) .site)
+  rising-from x [] r = omega arith
+  rising-from x (y ∷ ys) r =
+      let p = rising-first place x y ys r in
+      omega (arith, p .0, rising-from y ys (p .1))
 
-pub made-length : (j : ℕ) (s : Stamp) → madeBy byNumber j s ≡ true → length (s .tuples) ≤ suc j
-made-length j s e = go (s .tuples) (made-parts byNumber j s e)
-  where
-    go : (ps : List Pair) → Made byNumber j ps → length ps ≤ suc j
-    go [] m = omega arith
-    go (x ∷ ps) m = omega (arith, rising-from x ps (m .rises), m .last)
+  pub made-length : (j : ℕ) (s : Stamp) → madeBy place j s ≡ true → length (s .tuples) ≤ suc (place j)
+  made-length j s e = go (s .tuples) (made-parts place j s e)
+    where
+      go : (ps : List Pair) → Made place j ps → length ps ≤ suc (place j)
+      go [] m = omega arith
+      go (x ∷ ps) m = omega (arith, rising-from x ps (m .rises), ap place (m .last))

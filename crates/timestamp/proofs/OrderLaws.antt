@@ -10,7 +10,7 @@ use borrow.Author.Tests.{ltb-true, ltb-false}
 use Rattle.timestamp.specs.declared.Order.{Order}
 use Rattle.timestamp.specs.declared.Order.the-variants.{Earlier, Equal, Later}
 use Rattle.timestamp.specs.Timestamp.{Pair, Stamp, appended, lastPair, raisedLast, raised}
-use Rattle.timestamp.specs.Order.{thenBy, numberOrder, pairOrder, tuplesOrder, orderBy, notLater, IsEarlier, NotLater, Below, byNumber}
+use Rattle.timestamp.specs.Order.{thenBy, numberOrder, pairOrder, tuplesOrder, orderBy, notLater, IsEarlier, NotLater, Below}
 use Rattle.timestamp.proofs.Steps.{number-earlier, number-later, number-equal}
 use Rattle.timestamp.proofs.Comparisons.{Laws, turned, later≢earlier, equal≢earlier, later≢equal, both-laws, split-same, turn-then, linked, then-trans}
 use Rattle.timestamp.proofs.Value.{last-snoc, raised-snoc}
@@ -107,10 +107,6 @@ module _ (place : ℕ → ℕ) (apart : (a b : ℕ) → place a ≡ place b → 
   pub order-laws : Laws Stamp (orderBy place)
   unfolding orderBy
   order-laws = both-laws Stamp ℕ (List Pair) (λ s. s .epoch) (λ s. s .tuples) numberOrder (tuplesOrder place) number-laws tuples-laws (λ x y p q i. record { epoch = p i; tuples = q i })
-
--- sites placed by their numbers
-pub by-number-laws : Laws Stamp (orderBy byNumber)
-by-number-laws = order-laws byNumber (λ a b e. e)
 
 -- ---- what makes a timestamp later; no place need be a site's own here
 module _ (place : ℕ → ℕ) where
