@@ -1,11 +1,13 @@
 -- `commit_cause` asks for the causes from 9 on in the order of their numbers.
 use mathlib.Core.Path.{_≡_, refl, sym, ap, _∙_}
+use mathlib.Core.List.{map}
 use Prim.Native.Nat.{ℕ, _<_}
 use native.Mathlib.Omega.{arith}
 use lib.ListN.{length}
 use Rattle.limits.specs.Limits.{recordsMost}
 use Rattle.site.specs.InWords.{opsIn}
-use Rattle.protocol.specs.Steps.{due, countAtMost, someLineFull}
+use Rattle.lists.specs.Numbers.{firstNumber}
+use Rattle.protocol.specs.Steps.{due, countAtMost, someLineFull, opNumber}
 use Rattle.network_layout.specs.InWords.{networkIn}
 use Rattle.network_layout.specs.At.{AtSite}
 use Rattle.network_layout.proofs.Performs.{records-count}
@@ -20,7 +22,7 @@ at : (c : tie.Start) (k : ℕ) → k ≡ c .args .site → AtSite (c .args .stat
 at c k same = at-site (c .args .state .now) (c .pre .at .net) (c .args .site) k same (c .pre .at .there)
 
 -- none of the operations is refused
-pass : (c : tie.Else1) → _
+pass : (c : tie.Else1) → firstNumber (map (opNumber (networkIn (c .before .before .before .before .args .state .now) .items) (c .before .before .before .before .args .site)) (opsIn (c .before .before .before .before .args .n) (c .before .before .before .before .args .ops .now))) ≡ 0
 pass c = sym (c .before .ops-number .ensures) ∙ c .if1 .left
 
 -- the history has room

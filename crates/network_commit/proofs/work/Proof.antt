@@ -10,7 +10,7 @@ use Rattle.site.specs.Operations.{worked}
 use Rattle.site.specs.Site.{committed}
 use Rattle.site.specs.InWords.{opsIn}
 use Rattle.records.specs.Records.{Record}
-use Rattle.protocol.specs.Network.{Network, siteAt, withRecord}
+use Rattle.protocol.specs.Network.{Network, siteAt, withSite, withRecord}
 use Rattle.protocol.specs.Steps.{recordOf}
 use Rattle.network_layout.specs.InWords.{networkIn, SiteStep}
 use Rattle.network_layout.specs.At.{AtSite}
@@ -103,10 +103,11 @@ returns c =
     let n = networkIn (A .state .now) in
     let count : min (added .before .before .short .result) opsMost ≡ A .n = omega (arith, added .before .before .short .ensures, start .pre .few-ops) in
     let ops = ap (λ (m : ℕ). opsIn m (done .site-commit .result)) count ∙ recorded done in
-    let same : _≡_ {A = Record} (record { site = A .site; stamp = stampOf (read .site-stamp .result); ops = opsIn (min (added .before .before .short .result) opsMost) (done .site-commit .result) }) (recordOf n (A .site) os)
-    = λ j. record { site = A .site; stamp = stamped read j; ops = ops j } in
+    let added-record : Record = record { site = A .site; stamp = stampOf (read .site-stamp .result); ops = opsIn (min (added .before .before .short .result) opsMost) (done .site-commit .result) } in
+    let same : added-record ≡ recordOf n (A .site) os = λ j. record { site = A .site; stamp = stamped read j; ops = ops j } in
+    let middle : Network = withSite n (A .site) (committed os (siteAt n (A .site))) in
     record {
-      network-is = added .add-record .ensures .meant ∙ ap (λ (m : Network). withRecord m _) (stepped done .meant) ∙ ap (withRecord _) same;
+      network-is = added .add-record .ensures .meant ∙ ap (λ (m : Network). withRecord m added-record) (stepped done .meant) ∙ ap (withRecord middle) same;
       ranged = added .add-record .ensures .ranged;
       stamp-is = stamped read;
       ops-are = recorded done;
