@@ -1,72 +1,56 @@
 -- Which message a schedule takes: its number, cause by cause, and the parent that is chosen.
 use mathlib.Core.Path.{_≡_, refl, sym, ap, ap₂, _∙_}
-use mathlib.Core.Bool.{Bool, true, false, not, cond, _&&_, _||_}
-use mathlib.Core.List.{List, [], _∷_}
+use mathlib.Core.Bool.{Bool, true, false, cond, _||_}
+use mathlib.Core.List.{List}
 use Prim.Native.Nat.{ℕ, _+_, _≤_, _<_}
 use native.Mathlib.Omega.{arith}
 use native.Mathlib.Numerals.{add-one}
 use lib.ListN.{length, getD}
 use lib.Dec.{eqb, ltb, leb}
 use borrow.Author.Tests.{ltb-true, lt-ltb, le-ltb, le-leb, lt-leb}
-use Rattle.lists.specs.Lists.{every, someBelow}
+use Rattle.lists.specs.Lists.{someBelow}
 use Rattle.lists.proofs.Every.{and-true}
-use Rattle.timestamp.specs.Timestamp.{Stamp}
+use Rattle.timestamp.specs.Timestamp.{Stamp, stampOf}
 use Rattle.timestamp.specs.Order.{order, isEarlier}
 use Rattle.limits.specs.Limits.{sitesMost, recordsMost}
-use Rattle.placement.specs.Masks.{bit, maskOf}
+use Rattle.placement.specs.Masks.{bit}
 use Rattle.placement.specs.Placement.{Item, isLine, hasParents}
 use Rattle.placement.proofs.Laws.{bit-mask-of}
+use Rattle.lines.specs.declared.Message.{Message as MessageValue}
 use Rattle.lines.specs.Lines.{commit, dummy, noLine}
-use Rattle.records.specs.Records.{opFits}
-use Rattle.protocol.specs.Network.{linesMost, Network, noRecord, lineAt, lineNumber, messageStamp, placeOf, messageFits}
-use Rattle.lists.specs.Numbers.{numberIf}
-use Rattle.protocol.specs.Steps.{noSuchSite, scheduleNumber, head, headStamp, headEarlier, earlierOf, earliest, chosen}
-use Rattle.network_layout.specs.InWords.{networkIn, inRange, numberIn}
-use Rattle.network_choice.specs.Choice.{Best}
-use Rattle.network_layout.proofs.Assembled.{partsOf, range-parts}
-use Rattle.lists.proofs.Numbers.{first-holds, first-fails}
-use Rattle.network_layout.proofs.Performs.{sites-count, records-count, shaped-range, shaped-well, number-none}
+use Rattle.lines.specs.InWords.{messageOf}
+use Rattle.protocol.specs.Network.{Network, noRecord, lineNumber, messageStamp, placeOf, messageFits}
+use Rattle.protocol.specs.Steps.{noSuchSite, lacksArrived, scheduleNumber, head, headStamp, headEarlier, earlierOf, earliest}
+use Rattle.network_layout.specs.InWords.{networkIn}
+use Rattle.network_layout.specs.At.{AtSite, AtLine, AtRecord}
+use Rattle.network_choice.specs.Choice.{Best, parentsMask, Choosing}
+use Rattle.network_layout.proofs.OnNetwork.{well-on, few-on, at-site, at-line, at-record}
 use Rattle.protocol.proofs.WellShaped.{Shape, shape-parts}
+use Rattle.protocol.proofs.Allowed.{schedule-allowed}
 use Rattle.protocol.proofs.Chosen.{parent-ends, parent-fits, chosen-line}
 
 -- ---- the number
 module _ (n : Network) (j : ℕ) where
-  -- the line from p to j lacks a message that has arrived
-  abbrev pub lacks : ℕ → Bool
-  lacks p = isLine (n .items) p j && eqb (lineAt n p j .arrived) 0
-
-  abbrev second : List ℕ
-  second = numberIf (not (hasParents (n .items) j)) 19 ∷ (numberIf (someBelow lacks sitesMost) 20 ∷ [])
-
   pub no-site : noSuchSite n j ≡ true → scheduleNumber n j ≡ 7
   unfolding scheduleNumber
-  no-site e = first-holds (noSuchSite n j) 6 second e
+  no-site a = rw a
 
   module _ (a : noSuchSite n j ≡ false) where
     pub no-parents : hasParents (n .items) j ≡ false → scheduleNumber n j ≡ 19
     unfolding scheduleNumber
-    no-parents e = first-fails (noSuchSite n j) 7 second a ∙ first-holds (not (hasParents (n .items) j)) 18 (numberIf (someBelow lacks sitesMost) 20 ∷ []) (ap not e)
+    no-parents b = rw (a, b)
 
     module _ (b : hasParents (n .items) j ≡ true) where
-      parented : scheduleNumber n j ≡ numberIf (someBelow lacks sitesMost) 20
+      pub some-lack : someBelow (lacksArrived n j) sitesMost ≡ true → scheduleNumber n j ≡ 20
       unfolding scheduleNumber
-      parented =
-          first-fails (noSuchSite n j) 7 second a
-          ∙ first-fails (not (hasParents (n .items) j)) 19 (numberIf (someBelow lacks sitesMost) 20 ∷ []) (ap not b)
-          ∙ alone (someBelow lacks sitesMost)
-        where
-          alone : (x : Bool) → cond (eqb (numberIf x 20) 0) 0 (numberIf x 20) ≡ numberIf x 20
-          alone true = refl
-          alone false = refl
+      some-lack c = rw (a, b, c)
 
-      pub some-lack : someBelow lacks sitesMost ≡ true → scheduleNumber n j ≡ 20
-      some-lack e = parented ∙ ap (λ (x : Bool). numberIf x 20) e
-
-      pub none-lack : someBelow lacks sitesMost ≡ false → scheduleNumber n j ≡ 0
-      none-lack e = parented ∙ ap (λ (x : Bool). numberIf x 20) e
+      pub none-lack : someBelow (lacksArrived n j) sitesMost ≡ false → scheduleNumber n j ≡ 0
+      unfolding scheduleNumber
+      none-lack c = rw (a, b, c)
 
 -- a bit of the mask of the parents
-pub parent-bit : (xs : List Item) (j mask p : ℕ) → mask ≡ maskOf (λ q. isLine xs q j) sitesMost → p < sitesMost → bit mask p ≡ isLine xs p j
+pub parent-bit : (xs : List Item) (j mask p : ℕ) → mask ≡ parentsMask xs j → p < sitesMost → bit mask p ≡ isLine xs p j
 parent-bit xs j mask p e h = ap (λ (m : ℕ). bit m p) e ∙ bit-mask-of (λ q. isLine xs q j) sitesMost p h
 
 -- ---- the best parent so far, and one more
@@ -104,59 +88,50 @@ unfolding earliest
 best-none n j t = record { is = refl; stamped = λ h. absurd (omega arith) }
 
 -- ---- a schedule that is not refused, on words
-module _ (w : List ℕ) (j : ℕ) (zero-number : numberIn w (λ n. scheduleNumber n j) ≡ 0) where
-  abbrev pub net : Network
+module _ (w : List ℕ) (j : ℕ) (free : Choosing w j) where
+  abbrev net : Network
   net = networkIn w
 
-  pub zero-is : scheduleNumber net j ≡ 0
-  zero-is = number-none w (λ n. scheduleNumber n j) zero-number .1
-
   pub well : Shape net
-  well = shape-parts net (shaped-well w (number-none w (λ n. scheduleNumber n j) zero-number .0))
+  well = shape-parts net (well-on w (free .net))
 
-  pub schedule-range : inRange w ≡ true
-  schedule-range = shaped-range w (number-none w (λ n. scheduleNumber n j) zero-number .0)
-
-  pub few : length (net .sites) ≤ sitesMost
-  unfolding partsOf
-  few = omega (arith, sites-count w, range-parts w schedule-range .few-sites)
-
-  -- a parent and the child are sites
-  module _ (p : ℕ) (line : isLine (net .items) p j ≡ true) where
-    pub line-sites : (p < sitesMost) × (j < sitesMost) × (j < getD w 0 0)
-    line-sites =
-        let ends = parent-ends net j few well zero-is p line in
-        (omega (arith, ends .0, few), omega (arith, ends .1, few), omega (arith, ends .1, sites-count w))
-
-    pub line-there : (k : ℕ) → k ≡ lineNumber p j → k < linesMost
-    line-there k e = omega (arith, line-sites)
-
-    -- its oldest message, as the code reads it
-    module _ (k : ℕ) (at : k ≡ lineNumber p j) (name : ℕ) (t : Stamp) (is : cond (ltb name recordsMost) (commit name) (dummy t) ≡ getD (getD (net .lines) k noLine .messages) 0 (commit 0)) where
-      read : cond (ltb name recordsMost) (commit name) (dummy t) ≡ head net p j
-      read = is ∙ ap (λ (i : ℕ). getD (getD (net .lines) i noLine .messages) 0 (commit 0)) at
-
-      pub head-dummy : recordsMost ≤ name → dummy t ≡ head net p j
-      head-dummy h = sym (ap (λ (b : Bool). cond b (commit name) (dummy t)) (le-ltb name recordsMost h)) ∙ read
-
-      module _ (h : name < recordsMost) where
-        pub head-commit : commit name ≡ head net p j
-        head-commit = sym (ap (λ (b : Bool). cond b (commit name) (dummy t)) (lt-ltb name recordsMost h)) ∙ read
-
-        pub head-recorded : name < getD w 2 0
-        head-recorded =
-            let fits : messageFits (placeOf (net .items)) (net .history) p (commit name) ≡ true = ap (messageFits (placeOf (net .items)) (net .history) p) head-commit ∙ parent-fits net j few well zero-is p line in
-            omega (arith, records-count w, ltb-true name (length (net .history)) (and-true (ltb name (length (net .history))) (eqb (getD (net .history) name noRecord .site) p) fits .0))
-
-        pub head-fitting : every (opFits (length (net .items))) (getD (net .history) name noRecord .ops) ≡ true
-        head-fitting = well .records name (omega (arith, records-count w, head-recorded)) .fitting
-
-        pub stamp-commit : (s : Stamp) → s ≡ getD (net .history) name noRecord .stamp → s ≡ headStamp net p j
-        stamp-commit s e = e ∙ ap (messageStamp (net .history)) head-commit
-
-      pub stamp-dummy : recordsMost ≤ name → t ≡ headStamp net p j
-      stamp-dummy h = ap (messageStamp (net .history)) (head-dummy h)
+  pub child-site : (k : ℕ) → k ≡ j → AtSite w k
+  child-site k same = at-site w (free .net) j k same (schedule-allowed net j (free .none) .there)
 
   -- the parent that is chosen
   pub best-line : (p : ℕ) (t : Stamp) → Best net j sitesMost p t → isLine (net .items) p j ≡ true
-  best-line p t b = ap (λ (q : ℕ). isLine (net .items) q j) (b .is) ∙ chosen-line net j few well zero-is
+  best-line p t b = ap (λ (q : ℕ). isLine (net .items) q j) (b .is) ∙ chosen-line net j (few-on w (free .net)) well (free .none)
+
+  -- a parent's line
+  module _ (p : ℕ) (line : isLine (net .items) p j ≡ true) where
+    pub parent-few : p < sitesMost
+    parent-few = let up = parent-ends net j (few-on w (free .net)) well (free .none) p line in omega (arith, up .0, up .1, few-on w (free .net))
+
+    pub parent-line : (k : ℕ) → k ≡ lineNumber p j → AtLine w k
+    parent-line k same =
+        let up = parent-ends net j (few-on w (free .net)) well (free .none) p line in
+        at-line w (free .net) p j k same parent-few (omega (arith, up .1, few-on w (free .net)))
+
+    -- its oldest message, as the code reads it
+    module _ (k : ℕ) (at : k ≡ lineNumber p j) (m : MessageValue) (is : messageOf m ≡ getD (getD (net .lines) k noLine .messages) 0 (commit 0)) where
+      read : messageOf m ≡ head net p j
+      read = is ∙ ap (λ (i : ℕ). getD (getD (net .lines) i noLine .messages) 0 (commit 0)) at
+
+      pub head-dummy : recordsMost ≤ m .name → dummy (stampOf (m .stamp)) ≡ head net p j
+      head-dummy h = sym (ap (λ (b : Bool). cond b (commit (m .name)) (dummy (stampOf (m .stamp)))) (le-ltb (m .name) recordsMost h)) ∙ read
+
+      pub stamp-dummy : recordsMost ≤ m .name → stampOf (m .stamp) ≡ headStamp net p j
+      stamp-dummy h = ap (messageStamp (net .history)) (head-dummy h)
+
+      module _ (h : m .name < recordsMost) where
+        pub head-commit : commit (m .name) ≡ head net p j
+        head-commit = sym (ap (λ (b : Bool). cond b (commit (m .name)) (dummy (stampOf (m .stamp)))) (lt-ltb (m .name) recordsMost h)) ∙ read
+
+        pub head-record : (i : ℕ) → i ≡ m .name → AtRecord w i
+        head-record i same =
+            let held = ltb (m .name) (length (net .history)) in
+            let fits : messageFits (placeOf (net .items)) (net .history) p (commit (m .name)) ≡ true = ap (messageFits (placeOf (net .items)) (net .history) p) head-commit ∙ parent-fits net j (few-on w (free .net)) well (free .none) p line in
+            at-record w (free .net) (m .name) i same (ltb-true (m .name) (length (net .history)) (and-true held (eqb (getD (net .history) (m .name) noRecord .site) p) fits .0))
+
+        pub stamp-commit : (t : Stamp) (i : ℕ) → i ≡ m .name → t ≡ getD (net .history) i noRecord .stamp → t ≡ headStamp net p j
+        stamp-commit t i same e = e ∙ ap (λ (x : ℕ). getD (net .history) x noRecord .stamp) same ∙ ap (messageStamp (net .history)) head-commit

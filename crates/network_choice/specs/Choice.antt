@@ -1,12 +1,52 @@
--- What the parts of a schedule's code say: the best parent so far, and operations of which only some are kept as writes.
+-- Which message a schedule takes: the best parent so far, and what the functions that look for it ask.
 use mathlib.Core.Path.{_≡_}
+use mathlib.Core.Bool.{true}
+use mathlib.Core.List.{List}
 use Prim.Native.Nat.{ℕ, _<_}
+use lib.ListN.{length}
 use Rattle.timestamp.specs.Timestamp.{Stamp}
 use Rattle.limits.specs.Limits.{sitesMost}
+use Rattle.placement.specs.Masks.{maskOf}
+use Rattle.placement.specs.Placement.{Item, isLine}
 use Rattle.protocol.specs.Network.{Network}
-use Rattle.protocol.specs.Steps.{headStamp, earliest}
+use Rattle.protocol.specs.Steps.{scheduleNumber, headStamp, earliest}
+use Rattle.network_layout.specs.InWords.{networkIn}
+use Rattle.network_layout.specs.At.{AtNetwork}
 
 -- of the parents of j below k the earliest, and the timestamp of its oldest message
 pub record Best (n : Network) (j k parent : ℕ) (stamp : Stamp) : Type 0 where
   pub is : parent ≡ earliest n j k
   pub stamped : parent < sitesMost → stamp ≡ headStamp n parent j
+
+-- the parents of j, a bit for each
+abbrev pub parentsMask : List Item → ℕ → ℕ
+parentsMask xs j = maskOf (λ p. isLine xs p j) sitesMost
+
+-- ---- what is asked: the words of a network, with
+-- site j
+pub record AtChild (w : List ℕ) (j : ℕ) : Type 0 where
+  pub net : AtNetwork w
+  pub there : j < length (networkIn w .sites)
+
+-- site j, the mask of its parents, and a number p that may be one of them
+pub record AtParent (w : List ℕ) (mask p j : ℕ) : Type 0 where
+  pub child : AtChild w j
+  pub few : p < sitesMost
+  pub parents : mask ≡ parentsMask (networkIn w .items) j
+
+-- site j, whose schedule no cause refuses
+pub record Choosing (w : List ℕ) (j : ℕ) : Type 0 where
+  pub net : AtNetwork w
+  pub none : scheduleNumber (networkIn w) j ≡ 0
+
+-- the same and a parent p
+pub record ChoosingFrom (w : List ℕ) (p j : ℕ) : Type 0 where
+  pub free : Choosing w j
+  pub line : isLine (networkIn w .items) p j ≡ true
+
+-- the same, a number p that may be a parent, and the best parent below it
+pub record Comparing (w : List ℕ) (mask p j parent : ℕ) (stamp : Stamp) : Type 0 where
+  pub free : Choosing w j
+  pub few : p < sitesMost
+  pub parents : mask ≡ parentsMask (networkIn w .items) j
+  pub best : Best (networkIn w) j p parent stamp

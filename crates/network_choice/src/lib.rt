@@ -2,21 +2,16 @@
 use timestamp::Order;
 use timestamp::Timestamp;
 ghost use mathlib.Core.Path.{_≡_};
-ghost use mathlib.Core.Bool.{true, _&&_};
-ghost use Prim.Native.Nat.{_+_, _<_};
-ghost use lib.ListN.{length};
-ghost use lib.Dec.{eqb};
+ghost use Prim.Native.Nat.{_+_};
 ghost use Rattle.timestamp.specs.Timestamp.{stampOf};
 ghost use Rattle.timestamp.specs.Order.{order, isEarlier};
 ghost use Rattle.limits.specs.Limits.{sitesMost};
-ghost use Rattle.placement.specs.Masks.{maskOf};
-ghost use Rattle.placement.specs.Placement.{isLine};
-ghost use Rattle.network_layout.specs.Layout.{stateSize};
-ghost use Rattle.protocol.specs.Network.{lineAt};
 ghost use Rattle.lists.specs.Lists.{someBelow};
-ghost use Rattle.protocol.specs.Steps.{scheduleNumber, headStamp};
-ghost use Rattle.network_layout.specs.InWords.{networkIn, inRange, numberIn};
-ghost use Rattle.network_choice.specs.Choice.{Best};
+ghost use Rattle.protocol.specs.Network.{lineNumber};
+ghost use Rattle.protocol.specs.Steps.{scheduleNumber, lacksArrived, headStamp};
+ghost use Rattle.network_layout.specs.InWords.{networkIn};
+ghost use Rattle.network_layout.specs.At.{AtNetwork};
+ghost use Rattle.network_choice.specs.Choice.{Best, AtChild, AtParent, Choosing, ChoosingFrom, Comparing};
 
 // A parent and the timestamp of its oldest message; the parent is 8 where there is none.
 pub struct Head {
@@ -26,12 +21,9 @@ pub struct Head {
 
 // The number of the first cause that refuses the step, or 0.
 pub fn schedule_number(state: &[u32], j: u32) -> u32
-    requires { ⌜ length (now state) ≡ stateSize ⌝ }
-    ensures { λ r. ⌜ r ≡ numberIn (now (state .entry)) (λ n. scheduleNumber n j) ⌝ }
+    requires { ⌜ AtNetwork (now state) ⌝ }
+    ensures { λ r. ⌜ r ≡ scheduleNumber (networkIn (now (state .entry))) j ⌝ }
 {
-    if !network_shape::shaped(state) {
-        return 6;
-    }
     if !network_shape::is_site(state, j) {
         return 7;
     }
@@ -46,8 +38,8 @@ pub fn schedule_number(state: &[u32], j: u32) -> u32
 
 // Whether the line from some parent has no message that has arrived.
 fn lacks_arrived(state: &[u32], j: u32) -> bool
-    requires { ⌜ (length (now state) ≡ stateSize) × (inRange (now state) ≡ true) × (j < sitesMost) ⌝ }
-    ensures { λ r. ⌜ r ≡ someBelow (λ p. isLine (networkIn (now (state .entry)) .items) p j && eqb (lineAt (networkIn (now (state .entry))) p j .arrived) 0) sitesMost ⌝ }
+    requires { ⌜ AtChild (now state) j ⌝ }
+    ensures { λ r. ⌜ r ≡ someBelow (lacksArrived (networkIn (now (state .entry))) j) sitesMost ⌝ }
 {
     let mask = network_access::parents(state, j);
     let mut p = 0;
@@ -62,19 +54,25 @@ fn lacks_arrived(state: &[u32], j: u32) -> bool
 
 // Whether p is one of the parents, whose mask is given, and its line has no message that has arrived.
 fn lacks_from(state: &[u32], mask: u32, p: u32, j: u32) -> bool
-    requires { ⌜ (length (now state) ≡ stateSize) × (j < sitesMost) × (p < sitesMost) × (mask ≡ maskOf (λ q. isLine (networkIn (now state) .items) q j) sitesMost) ⌝ }
-    ensures { λ r. ⌜ r ≡ (isLine (networkIn (now (state .entry)) .items) p j && eqb (lineAt (networkIn (now (state .entry))) p j .arrived) 0) ⌝ }
+    requires { ⌜ AtParent (now state) mask p j ⌝ }
+    ensures { λ r. ⌜ r ≡ lacksArrived (networkIn (now (state .entry))) j p ⌝ }
 {
     if !placement::bit(mask, p) {
         return false;
     }
-    let k = words::wide(p) * 8 + words::wide(j);
-    network_access::line_arrived(state, k) == 0
+    network_access::line_arrived(state, line_number(p, j)) == 0
+}
+
+// The number of the line from p to j.
+pub fn line_number(p: u32, j: u32) -> usize
+    ensures { λ r. ⌜ r ≡ lineNumber p j ⌝ }
+{
+    words::wide(p) * 8 + words::wide(j)
 }
 
 // ---- the parent with the earliest message, at a site whose schedule is not refused
 pub fn chosen(state: &[u32], j: u32) -> Head
-    requires { ⌜ (length (now state) ≡ stateSize) × (numberIn (now state) (λ n. scheduleNumber n j) ≡ 0) ⌝ }
+    requires { ⌜ Choosing (now state) j ⌝ }
     ensures { λ r. ⌜ Best (networkIn (now (state .entry))) j sitesMost (r .parent) (stampOf (r .stamp)) ⌝ }
 {
     let mask = network_access::parents(state, j);
@@ -92,7 +90,7 @@ pub fn chosen(state: &[u32], j: u32) -> Head
 
 // The best of the parents below p, unless p is a parent and its message is earlier.
 fn better(state: &[u32], mask: u32, p: u32, j: u32, best: Head) -> Head
-    requires { ⌜ (length (now state) ≡ stateSize) × (numberIn (now state) (λ n. scheduleNumber n j) ≡ 0) × (p < sitesMost) × (mask ≡ maskOf (λ q. isLine (networkIn (now state) .items) q j) sitesMost) × Best (networkIn (now state)) j p (best .parent) (stampOf (best .stamp)) ⌝ }
+    requires { ⌜ Comparing (now state) mask p j (best .parent) (stampOf (best .stamp)) ⌝ }
     ensures { λ r. ⌜ Best (networkIn (now (state .entry))) j (p + 1) (r .parent) (stampOf (r .stamp)) ⌝ }
 {
     if !placement::bit(mask, p) {
@@ -120,11 +118,10 @@ fn earlier(a: Timestamp, b: Timestamp) -> bool
 
 // The timestamp of the oldest message from a parent.
 fn head_stamp(state: &[u32], p: u32, j: u32) -> Timestamp
-    requires { ⌜ (length (now state) ≡ stateSize) × (numberIn (now state) (λ n. scheduleNumber n j) ≡ 0) × (isLine (networkIn (now state) .items) p j ≡ true) ⌝ }
+    requires { ⌜ ChoosingFrom (now state) p j ⌝ }
     ensures { λ r. ⌜ stampOf r ≡ headStamp (networkIn (now (state .entry))) p j ⌝ }
 {
-    let k = words::wide(p) * 8 + words::wide(j);
-    let m = network_access::line_first(state, k);
+    let m = network_access::line_first(state, line_number(p, j));
     if m.name < 256 {
         return network_access::record_stamp(state, words::wide(m.name));
     }

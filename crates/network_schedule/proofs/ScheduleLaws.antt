@@ -1,157 +1,121 @@
 -- Schedule: the writes of its message, and the network after it.
-use mathlib.Core.Path.{_≡_, refl, sym, ap, ap₂, subst, _∙_}
-use mathlib.Core.Bool.{Bool, true, false, cond, _&&_}
-use mathlib.Core.List.{List, [], _∷_, _++_, map, map-append}
-use Prim.Native.Nat.{ℕ, _+_, _*_, _≤_, _<_, min}
+use mathlib.Core.Path.{_≡_, refl, sym, ap, ap₂, _∙_}
+use mathlib.Core.Bool.{Bool, true, false, _&&_}
+use mathlib.Core.List.{List, [], _∷_, _++_, append-nil}
+use Prim.Native.Nat.{ℕ, _+_, _*_, _≤_, min}
 use native.Mathlib.Omega.{arith}
-use lib.IntN.{ℤ}
-use lib.ListN.{length, getD, set, length-map, List·getD-map}
-use lib.Dec.{eqb, ltb, leb}
-use borrow.Author.Tests.{eq-eqb, ne-eqb, ltb-true}
-use Rattle.words.specs.Words.{part, chunks}
-use Rattle.lists.specs.Lists.{every, keep}
-use Rattle.words.proofs.Chunks.{chunks-length, chunks-at}
-use Rattle.lists.proofs.Every.{and-true}
+use lib.ListN.{length, getD}
 use mir.Val.{toZ}
 use mir.Syntax.{w32}
-use Rattle.timestamp.specs.Timestamp.{Stamp, appendedOrSame, ownSite, ownCount}
-use Rattle.site.specs.Operations.{Op, writes, work, worked}
+use borrow.Author.Tests.{eq-eqb, ne-eqb}
+use Rattle.words.specs.Words.{chunks}
+use Rattle.lists.specs.Lists.{keep}
+use Rattle.lists.proofs.Chains.{keep-more}
+use Rattle.timestamp.specs.Timestamp.{Stamp, stampOf}
+use Rattle.site.specs.Operations.{Op}
 use Rattle.site.specs.Site.{received}
 use Rattle.site.specs.InWords.{opAt, opsIn}
-use Rattle.limits.specs.Limits.{opsMost, sitesMost, recordsMost}
+use Rattle.limits.specs.Limits.{opsMost, sitesMost}
 use Rattle.site.proofs.Laws.{opOf, op-word, ops-last}
-use Rattle.placement.specs.Masks.{bit}
-use Rattle.placement.specs.Placement.{Item, noItem, copies, isLine}
-use Rattle.placement.specs.InWords.{itemSize, itemIn, itemAt}
+use Rattle.placement.specs.Placement.{Item, copies}
 use Rattle.lines.specs.Lines.{Message, commit, dummy, noLine, takenOrSame}
 use Rattle.lines.proofs.Boxes.{take-some}
-use Rattle.records.specs.Records.{opFits}
-use Rattle.network_layout.specs.Layout.{itemsAt, itemsSize}
 use Rattle.protocol.specs.Network.{Network, noStamp, noRecord, siteAt, lineAt, lineNumber, withSite, withLine}
 use Rattle.protocol.specs.Steps.{scheduleNumber, head, headStamp, chosen, writesFor, scheduleNetwork}
 use Rattle.protocol.specs.Calls.{schedule, accepted, perform}
-use Rattle.network_layout.specs.InWords.{networkIn, numberIn, SiteStep, LineStep}
+use Rattle.network_layout.specs.InWords.{networkIn, shaped, SiteStep, LineStep}
+use Rattle.network_layout.specs.At.{AtNetwork}
 use Rattle.network_layout.specs.Promises.{Performed}
-use Rattle.network_choice.specs.Choice.{Best}
-use Rattle.network_schedule.specs.Wanted.{muted, wantedAt}
-use Rattle.network_layout.proofs.Performs.{lines-count, shaped-well, meaning-some, number-none, performs-refused, performs-accepted}
+use Rattle.network_layout.proofs.OnNetwork.{well-on, few-on, refused-on, accepted-on, unshaped}
+use Rattle.network_choice.specs.Choice.{Best, Choosing}
+use Rattle.network_choice.proofs.ChoiceLaws.{well, parent-few, best-line}
+use Rattle.network_layout.specs.declared.Scheduled.{Scheduled}
+use Rattle.network_schedule.specs.Answers.{Refused}
+use Rattle.network_schedule.specs.Wanted.{wantedAt, Laid}
 use Rattle.protocol.proofs.Chosen.{chosen-held, keeps-schedule}
-use Rattle.network_choice.proofs.ChoiceLaws.{zero-is, well, few, line-sites, head-dummy, head-commit, head-fitting, best-line}
 
--- ---- operations of which only some are kept as writes
--- the kind that is kept
-module _ (items : List ℕ) (kind item j : ℕ) where
-  abbrev keptKind : Bool → Bool → ℕ
-  keptKind a b = cond (a && b) 1 0
+-- ---- the operations that pass a test, one after another
+module _ (p : Op → Bool) (ops out : List ℕ) (i count : ℕ) (so-far : Laid i count out (keep p (opsIn i ops))) where
+  one-more : keep p (opsIn (i + 1) ops) ≡ keep p (opsIn i ops) ++ keep p (opAt ops i ∷ [])
+  one-more = ap (keep p) (ops-last i ops) ∙ keep-more p (opsIn i ops) (opAt ops i ∷ [])
 
-  pub kind-other : (kind ≡ 1 → ⊥) → 0 ≡ keptKind (eqb kind 1) (bit (itemAt items item .mask) j)
-  kind-other h = sym (ap (λ (b : Bool). keptKind b (bit (itemAt items item .mask) j)) (ne-eqb kind 1 h))
+  pub laid-same : p (opAt ops i) ≡ false → Laid (i + 1) count out (keep p (opsIn (i + 1) ops))
+  laid-same e = record { few = omega (arith, so-far .few); are = so-far .are ∙ sym (one-more ∙ rw e (append-nil (keep p (opsIn i ops)))) }
 
-  pub kind-copy : kind ≡ 1 → (k : ℕ) → k ≡ item → (m : ℕ) → m ≡ itemAt items k .mask → (b : Bool) → bit m j ≡ b → cond b 1 0 ≡ keptKind (eqb kind 1) (bit (itemAt items item .mask) j)
-  kind-copy h k ke m me b be =
-      sym (ap₂ keptKind (eq-eqb kind 1 h) (ap (λ (x : ℕ). bit x j) (sym (me ∙ ap (λ (i : ℕ). itemAt items i .mask) ke)) ∙ be))
+  pub laid-more : p (opAt ops i) ≡ true → (out′ : List ℕ) → opsIn (count + 1) out′ ≡ opsIn count out ++ (opAt ops i ∷ []) → Laid (i + 1) (count + 1) out′ (keep p (opsIn (i + 1) ops))
+  laid-more e out′ f =
+      record { few = omega (arith, so-far .few); are = f ∙ ap (λ (os : List Op). os ++ (opAt ops i ∷ [])) (so-far .are) ∙ sym (one-more ∙ rw e) }
 
--- one of them, word by word
-pub muted-op : (items ops : List ℕ) (i j kind item v : ℕ) → item ≡ getD ops (3 * i + 1) 0 → v ≡ getD ops (3 * i + 2) 0
-    → kind ≡ cond (eqb (getD ops (3 * i) 0) 1 && bit (itemAt items item .mask) j) 1 0 → opOf kind item v ≡ muted (wantedAt items j) (opAt ops i)
-muted-op items ops i j kind item v ie ve ke =
-    let item-is : item ≡ opAt ops i .item = ie ∙ op-word ops i (3 * i + 1) 1 refl (omega arith) in
-    let kind-is : kind ≡ muted (wantedAt items j) (opAt ops i) .kind
-    = ke ∙ ap₂ {C = ℕ} (λ (a b : ℕ). cond (eqb a 1 && bit (itemAt items b .mask) j) 1 0) (op-word ops i (3 * i) 0 (omega arith) (omega arith)) item-is in
-    let value-is = ap (toZ w32) (ve ∙ op-word ops i (3 * i + 2) 2 refl (omega arith)) in
-    λ x. record { kind = kind-is x; item = item-is x; value = value-is x }
+-- ---- operation i, word by word
+module _ (ops : List ℕ) (i : ℕ) where
+  kind-word : getD ops (3 * i) 0 ≡ opAt ops i .kind
+  kind-word = op-word ops i (3 * i) 0 (omega arith) (omega arith)
 
-module _ (f : Op → Op) (ops out : List ℕ) (i : ℕ) (e : opsIn i out ≡ map f (opsIn i ops)) where
-  pub mapped-next : (out′ : List ℕ) → opsIn (i + 1) out′ ≡ opsIn i out ++ (f (opAt ops i) ∷ []) → opsIn (i + 1) out′ ≡ map f (opsIn (i + 1) ops)
-  mapped-next out′ g = g ∙ ap (λ (l : List Op). l ++ (f (opAt ops i) ∷ [])) e ∙ sym (ap (map f) (ops-last i ops) ∙ map-append f (opsIn i ops) (opAt ops i ∷ []))
+  item-word : getD ops (3 * i + 1) 0 ≡ opAt ops i .item
+  item-word = op-word ops i (3 * i + 1) 1 refl (omega arith)
 
--- they do to a table what those that are kept do
-muted-work : (p : Op → Bool) → ((o : Op) → p o ≡ true → writes o ≡ true) → (b t : List ℤ) (os : List Op) → work b t (map (muted p) os) .table ≡ work b t (keep p os) .table
-unfolding work
-muted-work p h b t [] = refl
-muted-work p h b t (o ∷ os) = go (p o) refl (λ y. muted-work p h b y os)
-  where
-    go : (x : Bool) → p o ≡ x → ((y : List ℤ) → work b y (map (muted p) os) .table ≡ work b y (keep p os) .table)
-        → work b (cond (eqb (cond x 1 0) 1) (set t (o .item) (o .value)) t) (map (muted p) os) .table ≡ work b t (cond x (o ∷ keep p os) (keep p os)) .table
-    go true e rest = rest (set t (o .item) (o .value)) ∙ ap (λ (x : Bool). work b (cond x (set t (o .item) (o .value)) t) (keep p os) .table) (sym (h o e))
-    go false e rest = rest t
+  pub op-words : (kind item v : ℕ) → kind ≡ getD ops (3 * i) 0 → item ≡ getD ops (3 * i + 1) 0 → v ≡ getD ops (3 * i + 2) 0 → opOf kind item v ≡ opAt ops i
+  op-words kind item v ke ie ve =
+      let value-is = ap (toZ w32) (ve ∙ op-word ops i (3 * i + 2) 2 refl (omega arith)) in
+      λ t. record { kind = (ke ∙ kind-word) t; item = (ie ∙ item-word) t; value = value-is t }
 
-keep-same : (p q fits : Op → Bool) → ((o : Op) → fits o ≡ true → p o ≡ q o) → (os : List Op) → every fits os ≡ true → keep p os ≡ keep q os
-keep-same p q fits same [] e = refl
-keep-same p q fits same (o ∷ os) e =
-    let a = and-true (fits o) (every fits os) e in
-    ap₂ (λ (x : Bool) (l : List Op). cond x (o ∷ l) l) (same o (a .0)) (keep-same p q fits same os (a .1))
+  -- whether it is wanted: its kind, and then the copy
+  module _ (xs : List Item) (j kind : ℕ) (ke : kind ≡ getD ops (3 * i) 0) where
+    pub other-kind : (kind ≡ 1 → ⊥) → false ≡ wantedAt xs j (opAt ops i)
+    other-kind h = sym (ap (λ (b : Bool). b && copies xs j (opAt ops i .item)) (ne-eqb (opAt ops i .kind) 1 (λ e. h (ke ∙ kind-word ∙ e))))
 
--- the copies by the placement's words are those of the network's items
-module _ (w : List ℕ) where
-  abbrev itemWords : List ℕ
-  itemWords = part w itemsAt itemsSize
+    pub write-kind : kind ≡ 1 → (item : ℕ) → item ≡ getD ops (3 * i + 1) 0 → copies xs j item ≡ wantedAt xs j (opAt ops i)
+    write-kind h item ie =
+        ap (copies xs j) (ie ∙ item-word) ∙ sym (ap (λ (b : Bool). b && copies xs j (opAt ops i .item)) (eq-eqb (opAt ops i .kind) 1 (sym (ke ∙ kind-word) ∙ h)))
 
-  items-count : length (networkIn w .items) ≡ getD w 1 0
-  unfolding networkIn
-  items-count = length-map (chunks itemSize (getD w 1 0) itemWords) itemIn ∙ chunks-length itemSize (getD w 1 0) itemWords
+-- ---- the message's writes
+pub laid-record : (p : Op → Bool) (os : List Op) (n : ℕ) (ops : List ℕ) → (n ≡ length os) × (n ≤ opsMost) → opsIn (length os) ops ≡ os → (count : ℕ) (out : List ℕ) → Laid n count out (keep p (opsIn n ops)) → Laid opsMost count out (keep p os)
+laid-record p os n ops all e count out l =
+    record { few = omega (arith, l .few, all .1); are = l .are ∙ ap (keep p) (ap (λ (k : ℕ). opsIn k ops) (all .0) ∙ e) }
 
-  item-read : (k : ℕ) → k < getD w 1 0 → getD (networkIn w .items) k noItem ≡ itemAt itemWords k
-  unfolding networkIn
-  item-read k h = List·getD-map itemIn (chunks itemSize (getD w 1 0) itemWords) k [] ∙ ap itemIn (chunks-at itemSize (getD w 1 0) itemWords k h)
+module _ (n : Network) (j : ℕ) (m : Message) where
+  pub laid-dummy : (t : Stamp) → dummy t ≡ m → (out : List ℕ) → Laid opsMost 0 out (writesFor n j m)
+  unfolding chunks
+  laid-dummy t e out = record { few = omega arith; are = ap (writesFor n j) e }
 
-  wanted-same : (j : ℕ) (o : Op) → opFits (length (networkIn w .items)) o ≡ true → wantedAt itemWords j o ≡ (writes o && copies (networkIn w .items) j (o .item))
-  wanted-same j o e =
-      let low = ltb-true (o .item) (length (networkIn w .items)) (and-true (leb (o .kind) 1) (ltb (o .item) (length (networkIn w .items))) e .1) in
-      ap (λ (x : Item). writes o && bit (x .mask) j) (sym (item-read (o .item) (omega (arith, low, items-count))))
+  pub laid-commit : (k : ℕ) → commit k ≡ m → (i : ℕ) → i ≡ k → (count : ℕ) (out : List ℕ) → Laid opsMost count out (keep (wantedAt (n .items) j) (getD (n .history) i noRecord .ops)) → Laid opsMost count out (writesFor n j m)
+  laid-commit k e i same count out l =
+      record { few = l .few; are = l .are ∙ ap (λ (x : ℕ). keep (wantedAt (n .items) j) (getD (n .history) x noRecord .ops)) same ∙ ap (writesFor n j) e }
 
-  pub wanted-work : (j : ℕ) (os : List Op) → every (opFits (length (networkIn w .items))) os ≡ true → (t : List ℤ)
-      → worked t (map (muted (wantedAt itemWords j)) os) .table ≡ worked t (keep (λ (o : Op). writes o && copies (networkIn w .items) j (o .item)) os) .table
-  wanted-work j os e t =
-      muted-work (wantedAt itemWords j) (λ o x. and-true (writes o) (bit (itemAt itemWords (o .item) .mask) j) x .0) t t os
-      ∙ ap (λ (l : List Op). worked t l .table) (keep-same (wantedAt itemWords j) (λ (o : Op). writes o && copies (networkIn w .items) j (o .item)) (opFits (length (networkIn w .items))) (wanted-same j) os e)
-
--- a site that receives operations that do the same to every table
-received-same : (w v : List ℕ) (i j : ℕ) → i ≡ j → (xs ys : List Op) → ((t : List ℤ) → worked t xs .table ≡ worked t ys .table) → (s : Stamp) → SiteStep w v i (received xs s) → SiteStep w v j (received ys s)
-received-same w v i j e xs ys same s st =
+-- a site, by the number that the code counts with, receives these writes
+pub receives : (w v : List ℕ) (i j : ℕ) → i ≡ j → (count : ℕ) (out : List ℕ) (os : List Op) → Laid opsMost count out os → (t : Stamp)
+    → SiteStep w v i (received (opsIn (min count opsMost) out) t) → SiteStep w v j (received os t)
+receives w v i j same count out os l t s =
     let n = networkIn w in
-    let own = siteAt n j .stamp in
-    record {
-      meant =
-          st .meant
-          ∙ ap (λ (k : ℕ). withSite n k (received xs s (siteAt n k))) e
-          ∙ ap (λ (x : List ℤ). withSite n j (record { table = x; stamp = appendedOrSame s (ownSite own) (ownCount own) })) (same (siteAt n j .table));
-      ranged = st .ranged;
-    }
+    let all : min count opsMost ≡ count = omega (arith, l .few) in
+    let are : opsIn (min count opsMost) out ≡ os = ap (λ (x : ℕ). opsIn x out) all ∙ l .are in
+    record { meant = s .meant ∙ ap₂ (λ (k : ℕ) (xs : List Op). withSite n k (received xs t (siteAt n k))) same are; ranged = s .ranged }
 
--- ---- a schedule that is not refused, on words
-module _ (w : List ℕ) (j : ℕ) (zero-number : numberIn w (λ n. scheduleNumber n j) ≡ 0) where
+-- ---- the step on words
+pub schedule-unshaped : (w : List ℕ) (j : ℕ) → shaped w ≡ false → Performed (schedule j) w w 6 0 noStamp []
+unfolding perform
+schedule-unshaped w j = unshaped (schedule j) refl w
+
+pub schedule-refused : (w : List ℕ) (net : AtNetwork w) (j r : ℕ) → r ≡ scheduleNumber (networkIn w) j → (r ≡ 0 → ⊥) → Performed (schedule j) w w r 0 noStamp []
+unfolding perform
+schedule-refused w net j =
+    refused-on (schedule j) refl (λ m. scheduleNumber m j) (λ m. accepted (chosen m j) (headStamp m (chosen m j) j) [] (scheduleNetwork m j)) (λ m. refl) w net
+
+-- as the code answers it
+pub answered : (w : List ℕ) (j number : ℕ) (r : Scheduled) → Refused number r → Performed (schedule j) w w number 0 noStamp [] → Performed (schedule j) w w (r .number) (r .parent) (stampOf (r .stamp)) []
+answered w j number r f p = rw (f .number-is, f .parent-is, f .stamp-is) p
+
+module _ (w : List ℕ) (j : ℕ) (free : Choosing w j) where
   abbrev net : Network
   net = networkIn w
 
-  -- what the oldest message from a parent, as the code reads it, does to a site
-  module _ (p : ℕ) (line : isLine (net .items) p j ≡ true) (k : ℕ) (at : k ≡ lineNumber p j) (name : ℕ) (t : Stamp) (is : cond (ltb name recordsMost) (commit name) (dummy t) ≡ getD (getD (net .lines) k noLine .messages) 0 (commit 0)) where
-    pub receive-commit : (h : name < recordsMost) (v : List ℕ) (i : ℕ) → i ≡ j → (ops out : List ℕ) (m : ℕ) → m ≡ length (getD (net .history) name noRecord .ops) → m ≤ opsMost
-        → opsIn (length (getD (net .history) name noRecord .ops)) ops ≡ getD (net .history) name noRecord .ops → opsIn m out ≡ map (muted (wantedAt (part w itemsAt itemsSize) j)) (opsIn m ops)
-        → (s : Stamp) → SiteStep w v i (received (opsIn (min m opsMost) out) s) → SiteStep w v j (received (writesFor net j (head net p j)) s)
-    receive-commit h v i ie ops out m me low oe we s st =
-        let os = getD (net .history) name noRecord .ops in
-        let mute = muted (wantedAt (part w itemsAt itemsSize) j) in
-        let all : min m opsMost ≡ m = omega arith in
-        let is-muted : opsIn (min m opsMost) out ≡ map mute os
-        = ap (λ (x : ℕ). opsIn x out) all ∙ we ∙ ap (map mute) (ap (λ (x : ℕ). opsIn x ops) me ∙ oe) in
-        received-same w v i j ie (opsIn (min m opsMost) out) (writesFor net j (head net p j))
-        (λ x. ap (λ (l : List Op). worked x l .table) is-muted ∙ wanted-work w j os (head-fitting w j zero-number p line k at name t is h) x ∙ ap (λ (y : Message). worked x (writesFor net j y) .table) (head-commit w j zero-number p line k at name t is h)) s st
-
-    pub receive-dummy : recordsMost ≤ name → (v : List ℕ) (i : ℕ) → i ≡ j → (out : List ℕ) (s : Stamp) → SiteStep w v i (received (opsIn (min 0 opsMost) out) s) → SiteStep w v j (received (writesFor net j (head net p j)) s)
-    unfolding chunks
-    receive-dummy h v i ie out s st =
-        received-same w v i j ie (opsIn (min 0 opsMost) out) (writesFor net j (head net p j))
-        (λ x. ap (λ (y : Message). worked x (writesFor net j y) .table) (head-dummy w j zero-number p line k at name t is h)) s st
-
-  -- ---- the step
   pub schedule-done : (v u : List ℕ) (p : ℕ) (t : Stamp) (k : ℕ) → k ≡ lineNumber p j → Best net j sitesMost p t
       → SiteStep w v j (received (writesFor net j (head net p j)) t) → LineStep v u k takenOrSame → Performed (schedule j) w u 0 p t []
   unfolding perform scheduleNetwork
   schedule-done v u p t k ke b s l =
+      let few = few-on w (free .net) in
       let c = chosen net j in
-      let low : p < sitesMost = line-sites w j zero-number p (best-line w j zero-number p t b) .0 in
-      let stamp-is : t ≡ headStamp net c j = b .stamped low ∙ ap (λ (q : ℕ). headStamp net q j) (b .is) in
+      let stamp-is : t ≡ headStamp net c j = b .stamped (parent-few w j free p (best-line w j free p t b)) ∙ ap (λ (q : ℕ). headStamp net q j) (b .is) in
       let new = received (writesFor net j (head net c j)) (headStamp net c j) (siteAt net j) in
       let middle : networkIn v ≡ withSite net j new
       = s .meant ∙ ap₂ (λ (q : ℕ) (x : Stamp). withSite net j (received (writesFor net j (head net q j)) x (siteAt net j))) (b .is) stamp-is in
@@ -160,12 +124,7 @@ module _ (w : List ℕ) (j : ℕ) (zero-number : numberIn w (λ n. scheduleNumbe
       = l .meant
       ∙ ap (λ (m : Network). withLine m k (takenOrSame (getD (m .lines) k noLine))) middle
       ∙ ap (λ (i : ℕ). withLine (withSite net j new) i (takenOrSame (getD (net .lines) i noLine))) at
-      ∙ ap (withLine (withSite net j new) (lineNumber c j)) (take-some (lineAt net c j) (chosen-held net j (few w j zero-number) (well w j zero-number) (zero-is w j zero-number))) in
-      performs-accepted (schedule j) (λ m. scheduleNumber m j) (λ m. accepted (chosen m j) (headStamp m (chosen m j) j) [] (scheduleNetwork m j)) (λ m. refl) refl w u p t [] zero-number refl (b .is) stamp-is refl
-      (meaning-some u (scheduleNetwork net j) (l .ranged) after (keeps-schedule net j (lines-count w) (few w j zero-number) (shaped-well w (number-none w (λ m. scheduleNumber m j) zero-number .0)) (zero-is w j zero-number)))
-
-pub schedule-refused : (w : List ℕ) (j r : ℕ) (t : Stamp) → t ≡ noStamp → r ≡ numberIn w (λ n. scheduleNumber n j) → (r ≡ 0 → ⊥) → Performed (schedule j) w w r 0 t []
-unfolding perform
-schedule-refused w j r t te e h =
-    subst (λ (x : Stamp). Performed (schedule j) w w r 0 x []) (sym te)
-    (performs-refused (schedule j) (λ m. scheduleNumber m j) (λ m. accepted (chosen m j) (headStamp m (chosen m j) j) [] (scheduleNetwork m j)) (λ m. refl) refl w r e h)
+      ∙ ap (withLine (withSite net j new) (lineNumber c j)) (take-some (lineAt net c j) (chosen-held net j few (well w j free) (free .none))) in
+      accepted-on (schedule j) refl (λ m. scheduleNumber m j) (λ m. accepted (chosen m j) (headStamp m (chosen m j) j) [] (scheduleNetwork m j)) (λ m. refl) w (free .net) u p t [] (scheduleNetwork net j) (free .none)
+      (ap₂ (λ (q : ℕ) (x : Stamp). accepted q x [] (scheduleNetwork net j)) (sym (b .is)) (sym stamp-is))
+      (l .ranged) after (keeps-schedule net j few (well-on w (free .net)) (free .none))

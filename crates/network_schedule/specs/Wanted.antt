@@ -1,15 +1,37 @@
--- Operations of which only some are kept as writes: what the parts of a schedule's code say.
-use mathlib.Core.Bool.{Bool, cond, _&&_}
+-- The writes of a message that a site wants, in words, and what the functions that gather them ask.
+use mathlib.Core.Path.{_≡_}
+use mathlib.Core.Bool.{Bool, _&&_}
 use mathlib.Core.List.{List}
-use Prim.Native.Nat.{ℕ}
+use Prim.Native.Nat.{ℕ, _≤_, _<_}
+use Rattle.lists.specs.Lists.{keep}
+use Rattle.limits.specs.Limits.{opsMost}
 use Rattle.site.specs.Operations.{Op, writes}
-use Rattle.placement.specs.Masks.{bit}
-use Rattle.placement.specs.InWords.{itemAt}
+use Rattle.site.specs.InWords.{opsIn}
+use Rattle.placement.specs.Placement.{Item, copies}
+use Rattle.network_layout.specs.InWords.{networkIn}
+use Rattle.network_layout.specs.At.{AtState}
 
--- an operation as a write where it passes the test, and else as a read, which changes no table
-abbrev pub muted : (Op → Bool) → Op → Op
-muted p o = record { kind = cond (p o) 1 0; item = o .item; value = o .value }
+-- a write to an item that has a copy at j
+abbrev pub wantedAt : List Item → ℕ → Op → Bool
+wantedAt xs j o = writes o && copies xs j (o .item)
 
--- a write to an item that has a copy at j, by the placement's words
-abbrev pub wantedAt : List ℕ → ℕ → Op → Bool
-wantedAt w j o = writes o && bit (itemAt w (o .item) .mask) j
+-- these operations, at most so many, in words
+pub record Laid (most count : ℕ) (out : List ℕ) (os : List Op) : Type 0 where
+  pub few : count ≤ most
+  pub are : opsIn count out ≡ os
+
+-- ---- what is asked
+pub record Wanting (w : List ℕ) (n : ℕ) : Type 0 where
+  pub at : AtState w
+  pub few : n ≤ opsMost
+
+-- the operations before number i are gathered
+pub record Gathering (w out : List ℕ) (count : ℕ) (ops : List ℕ) (i j : ℕ) : Type 0 where
+  pub at : AtState w
+  pub few : i < opsMost
+  pub so-far : Laid i count out (keep (wantedAt (networkIn w .items) j) (opsIn i ops))
+
+-- one operation behind others
+pub record Copying (count i : ℕ) : Type 0 where
+  pub room : count < opsMost
+  pub few : i < opsMost

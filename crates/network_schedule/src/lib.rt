@@ -1,28 +1,32 @@
 // Schedule: the chosen message is done at the site and taken off its line.
-use network_layout::ITEMS;
-use network_layout::SITES;
 use network_layout::Scheduled;
 use network_layout::WORDS;
 use timestamp::Timestamp;
 ghost use mathlib.Core.Path.{_≡_};
-ghost use mathlib.Core.Bool.{true, cond, _&&_};
-ghost use mathlib.Core.List.{[], _∷_, _++_, map};
-ghost use Prim.Native.Nat.{_+_, _<_, _≤_};
-ghost use lib.ListN.{length};
-ghost use lib.Dec.{eqb};
-ghost use Rattle.timestamp.specs.Timestamp.{stampOf};
-ghost use Rattle.site.specs.InWords.{opAt, opsIn};
+ghost use mathlib.Core.List.{[], _∷_, _++_};
+ghost use Prim.Native.Nat.{_+_};
+ghost use lib.ListN.{length, getD};
+ghost use Rattle.lists.specs.Lists.{keep};
 ghost use Rattle.limits.specs.Limits.{opsMost};
+ghost use Rattle.timestamp.specs.Timestamp.{stampOf};
 ghost use Rattle.site.specs.Site.{received};
-ghost use Rattle.placement.specs.Masks.{bit as bitOf};
-ghost use Rattle.placement.specs.Placement.{isLine};
-ghost use Rattle.placement.specs.InWords.{itemAt};
-ghost use Rattle.network_layout.specs.Layout.{stateSize};
-ghost use Rattle.protocol.specs.Steps.{scheduleNumber, head, writesFor};
+ghost use Rattle.site.specs.InWords.{opAt, opsIn};
+ghost use Rattle.protocol.specs.Network.{noRecord};
+ghost use Rattle.protocol.specs.Steps.{head, writesFor};
 ghost use Rattle.protocol.specs.Calls.{schedule as scheduleCall};
-ghost use Rattle.network_layout.specs.InWords.{networkIn, numberIn, SiteStep};
+ghost use Rattle.network_layout.specs.Layout.{stateSize};
+ghost use Rattle.network_layout.specs.InWords.{networkIn, SiteStep};
+ghost use Rattle.network_layout.specs.At.{AtRecord, AtNetwork};
 ghost use Rattle.network_layout.specs.Promises.{Performed, Blank};
-ghost use Rattle.network_schedule.specs.Wanted.{muted, wantedAt};
+ghost use Rattle.network_choice.specs.Choice.{Choosing, ChoosingFrom};
+ghost use Rattle.network_schedule.specs.Answers.{Refused, Accepted};
+ghost use Rattle.network_schedule.specs.Wanted.{wantedAt, Laid, Wanting, Gathering, Copying};
+
+// Operations in words, three each: the first `count` of eight.
+struct Writes {
+    count: usize,
+    ops: [u32; 24],
+}
 
 // Schedule at a site. It answers its number, and the parent and the timestamp of the message done.
 pub fn schedule(state: &mut [u32; WORDS], site: u32) -> Scheduled
@@ -37,20 +41,46 @@ fn schedule_in(state: &mut [u32], site: u32) -> Scheduled
     ensures { λ r. ⌜ Performed (scheduleCall site) (now (state .entry)) (now (state .exit)) (r .number) (r .parent) (stampOf (r .stamp)) [] ⌝ }
     ensures { λ r. ⌜ ((r .number ≡ 0 → ⊥) → Blank (r .stamp)) ⌝ }
 {
+    if !network_shape::shaped(state) {
+        return refused(6);
+    }
+    schedule_on(state, site)
+}
+
+// The same on the words of a network.
+pub fn schedule_on(state: &mut [u32], site: u32) -> Scheduled
+    requires { ⌜ AtNetwork (now state) ⌝ }
+    ensures { λ r. ⌜ Performed (scheduleCall site) (now (state .entry)) (now (state .exit)) (r .number) (r .parent) (stampOf (r .stamp)) [] ⌝ }
+    ensures { λ r. ⌜ ((r .number ≡ 0 → ⊥) → Blank (r .stamp)) ⌝ }
+{
     let number = network_choice::schedule_number(state, site);
     if number != 0 {
-        return Scheduled {
-            number,
-            parent: 0,
-            stamp: network_access::no_stamp(),
-        };
+        return refused(number);
     }
-    let best = network_choice::chosen(state, site);
+    take_chosen(state, site)
+}
+
+fn refused(number: u32) -> Scheduled
+    ensures { λ r. ⌜ Refused number r ⌝ }
+{
+    Scheduled {
+        number,
+        parent: 0,
+        stamp: network_access::no_stamp(),
+    }
+}
+
+// ---- a schedule that is not refused
+// The chosen message done at site j and taken off its line.
+fn take_chosen(state: &mut [u32], j: u32) -> Scheduled
+    requires { ⌜ Choosing (now state) j ⌝ }
+    ensures { λ r. ⌜ Accepted j (now (state .entry)) (now (state .exit)) r ⌝ }
+{
+    let best = network_choice::chosen(state, j);
     let parent = best.parent;
     let stamp = best.stamp;
-    receive(state, parent, site, stamp);
-    let k = words::wide(parent) * 8 + words::wide(site);
-    network_access::line_take(state, k);
+    receive(state, parent, j, stamp);
+    network_access::line_take(state, network_choice::line_number(parent, j));
     Scheduled {
         number: 0,
         parent,
@@ -58,58 +88,96 @@ fn schedule_in(state: &mut [u32], site: u32) -> Scheduled
     }
 }
 
-// ---- the message done
 // The oldest message from a parent done at the site, with its timestamp t.
 fn receive(state: &mut [u32], p: u32, j: u32, t: Timestamp)
-    requires { ⌜ (length (now state) ≡ stateSize) × (numberIn (now state) (λ n. scheduleNumber n j) ≡ 0) × (isLine (networkIn (now state) .items) p j ≡ true) ⌝ }
+    requires { ⌜ ChoosingFrom (now state) p j ⌝ }
     ensures { λ r. ⌜ SiteStep (now (state .entry)) (now (state .exit)) j (received (writesFor (networkIn (now (state .entry))) j (head (networkIn (now (state .entry))) p j)) (stampOf t)) ⌝ }
 {
-    let site = words::wide(j);
-    let m = network_access::line_first(state, words::wide(p) * 8 + site);
+    let wanted = head_writes(state, p, j);
+    let ops = wanted.ops;
+    network_access::site_receive(state, words::wide(j), &ops, wanted.count, t);
+}
+
+// ---- the writes that site j wants
+// Those of the oldest message from a parent: of a commit those of its record, of a dummy none.
+fn head_writes(state: &[u32], p: u32, j: u32) -> Writes
+    requires { ⌜ ChoosingFrom (now state) p j ⌝ }
+    ensures { λ r. ⌜ Laid opsMost (r .count) (r .ops) (writesFor (networkIn (now (state .entry))) j (head (networkIn (now (state .entry))) p j)) ⌝ }
+{
+    let m = network_access::line_first(state, network_choice::line_number(p, j));
     if 256 <= m.name {
-        network_access::site_receive(state, site, &[0u32], 0, t);
-        return;
+        return Writes {
+            count: 0,
+            ops: [0u32; 24],
+        };
     }
-    let k = words::wide(m.name);
+    record_writes(state, words::wide(m.name), j)
+}
+
+// Those of record k.
+fn record_writes(state: &[u32], k: usize, j: u32) -> Writes
+    requires { ⌜ AtRecord (now state) k ⌝ }
+    ensures { λ r. ⌜ Laid opsMost (r .count) (r .ops) (keep (wantedAt (networkIn (now (state .entry)) .items) j) (getD (networkIn (now (state .entry)) .history) k noRecord .ops)) ⌝ }
+{
     let n = network_access::record_count(state, k);
     let ops = network_access::record_ops(state, k);
-    let out = wanted(&state[ITEMS..SITES], &ops, n, j);
-    network_access::site_receive(state, site, &out, n, t);
+    wanted(state, &ops, n, j)
 }
 
-// The operations, each a write where it writes an item that has a copy at site j, and else a read.
-fn wanted(items: &[u32], ops: &[u32], n: usize, j: u32) -> [u32; 24]
-    requires { ⌜ n ≤ opsMost ⌝ }
-    ensures { λ r. ⌜ opsIn n r ≡ map (muted (wantedAt (now (items .entry)) j)) (opsIn n (now (ops .entry))) ⌝ }
+// Those of the first n operations.
+fn wanted(state: &[u32], ops: &[u32], n: usize, j: u32) -> Writes
+    requires { ⌜ Wanting (now state) n ⌝ }
+    ensures { λ r. ⌜ Laid n (r .count) (r .ops) (keep (wantedAt (networkIn (now (state .entry)) .items) j) (opsIn n (now (ops .entry)))) ⌝ }
 {
     let mut out = [0u32; 24];
+    let mut count = 0;
     let mut i = 0;
     while i < n {
-        wanted_one(&mut out, items, ops, i, j);
+        count = wanted_one(&mut out, count, state, ops, i, j);
         i += 1;
     }
-    out
+    Writes { count, ops: out }
 }
 
-// Operation i, after the i before it.
-fn wanted_one(out: &mut [u32; 24], items: &[u32], ops: &[u32], i: usize, j: u32)
-    requires { ⌜ i < opsMost ⌝ }
-    ensures { λ r. ⌜ opsIn (i + 1) (now (out .exit)) ≡ opsIn i (now (out .entry)) ++ (muted (wantedAt (now (items .entry)) j) (opAt (now (ops .entry)) i) ∷ []) ⌝ }
+// Operation i too, where it is wanted. It answers how many there are now.
+fn wanted_one(
+    out: &mut [u32; 24],
+    count: usize,
+    state: &[u32],
+    ops: &[u32],
+    i: usize,
+    j: u32,
+) -> usize
+    requires { ⌜ Gathering (now state) (now out) count (now ops) i j ⌝ }
+    ensures { λ r. ⌜ Laid (i + 1) r (now (out .exit)) (keep (wantedAt (networkIn (now (state .entry)) .items) j) (opsIn (i + 1) (now (ops .entry)))) ⌝ }
+{
+    if !is_wanted(state, ops, i, j) {
+        return count;
+    }
+    copy_one(out, count, ops, i);
+    count + 1
+}
+
+// Whether operation i writes an item that has a copy at site j.
+fn is_wanted(state: &[u32], ops: &[u32], i: usize, j: u32) -> bool
+    requires { ⌜ Wanting (now state) i ⌝ }
+    ensures { λ r. ⌜ r ≡ wantedAt (networkIn (now (state .entry)) .items) j (opAt (now (ops .entry)) i) ⌝ }
 {
     let at = 3 * i;
-    let item = words::word(ops, at + 1);
-    let kind = wanted_kind(items, words::word(ops, at), item, j);
-    words::lay(out, at, &[kind, item, words::word(ops, at + 2)]);
+    if words::word(ops, at) != 1 {
+        return false;
+    }
+    network_access::is_copied(state, words::word(ops, at + 1), j)
 }
 
-fn wanted_kind(items: &[u32], kind: u32, item: u32, j: u32) -> u32
-    ensures { λ r. ⌜ r ≡ cond (eqb kind 1 && bitOf (itemAt (now (items .entry)) item .mask) j) 1 0 ⌝ }
+// Operation i behind the first `count`.
+fn copy_one(out: &mut [u32; 24], count: usize, ops: &[u32], i: usize)
+    requires { ⌜ Copying count i ⌝ }
+    ensures { λ r. ⌜ opsIn (count + 1) (now (out .exit)) ≡ opsIn count (now (out .entry)) ++ (opAt (now (ops .entry)) i ∷ []) ⌝ }
 {
-    if kind != 1 {
-        return 0;
-    }
-    if placement::bit(placement::mask(items, words::wide(item)), j) {
-        return 1;
-    }
-    0
+    let at = 3 * i;
+    let kind = words::word(ops, at);
+    let item = words::word(ops, at + 1);
+    let value = words::word(ops, at + 2);
+    words::lay(out, 3 * count, &[kind, item, value]);
 }

@@ -10,42 +10,54 @@ use borrow.Author.Needs.{needs}
 use Rattle.network_choice.proofs.better.Statement.{statement}
 use Rattle.network_choice.proofs.better.Tie as tie
 
+-- whether p is a parent is its bit of the mask
+asked : (c : tie.After-bit) → isLine (networkIn (c .before .before .args .state .now) .items) (c .before .before .args .p) (c .before .before .args .j) ≡ c .bit .result
+asked c =
+    let start = c .before .before in
+    let A = start .args in
+    sym (c .bit .ensures ∙ parent-bit (networkIn (A .state .now) .items) (A .j) (A .mask) (A .p) (start .pre .parents) (start .pre .few))
+
 -- p is a parent
 parented : (c : tie.Else1) → isLine (networkIn (c .before .before .before .args .state .now) .items) (c .before .before .before .args .p) (c .before .before .before .args .j) ≡ true
-parented c =
-    let A = c .before .before .before .args in
-    sym (parent-bit (networkIn (A .state .now) .items) (A .j) (A .mask) (A .p) (c .before .before .before .pre .3) (c .before .before .before .pre .2)) ∙ sym (c .before .bit .ensures) ∙ not-false (c .before .bit .result) (c .if1 .left)
+parented c = asked (c .before) ∙ not-false (c .before .bit .result) (c .if1 .left)
 
 bit-requires : tie.Need-bit-requires
 bit-requires c κs = search needs
 
 returns : tie.Need-returns
 returns c =
-    let A = c .before .before .before .args in
-    let n = networkIn (A .state .now) in
-    let line = sym (parent-bit (n .items) (A .j) (A .mask) (A .p) (c .before .before .before .pre .3) (c .before .before .before .pre .2)) ∙ sym (c .before .bit .ensures) ∙ not-true (c .before .bit .result) (c .if1 .taken) in
-    better-none n (A .j) (A .p) (A .best .parent) (stampOf (A .best .stamp)) (c .before .before .before .pre .4) line
+    let start = c .before .before .before in
+    let A = start .args in
+    better-none (networkIn (A .state .now)) (A .j) (A .p) (A .best .parent) (stampOf (A .best .stamp)) (start .pre .best) (asked (c .before) ∙ not-true (c .before .bit .result) (c .if1 .taken))
 
 head-stamp-requires : tie.Need-head-stamp-requires
-head-stamp-requires c κs = (c .before .before .before .pre .0, c .before .before .before .pre .1, parented c)
+head-stamp-requires c κs = record { free = c .before .before .before .pre .free; line = parented c }
 
 returns-2 : tie.Need-returns-2
 returns-2 c =
-    let A = c .before .before .before .before .before .before .args in
-    better-first (networkIn (A .state .now)) (A .j) (A .p) (A .best .parent) (stampOf (A .best .stamp)) (c .before .before .before .before .before .before .pre .4) (parented (c .before .before .before)) (stampOf (c .before .before .head-stamp .result)) (c .before .before .head-stamp .ensures) (c .if2 .taken)
+    let read = c .before .before in
+    let start = read .before .before .before .before in
+    let A = start .args in
+    better-first (networkIn (A .state .now)) (A .j) (A .p) (A .best .parent) (stampOf (A .best .stamp)) (start .pre .best) (parented (read .before)) (stampOf (read .head-stamp .result)) (read .head-stamp .ensures) (c .if2 .taken)
 
 earlier-requires : tie.Need-earlier-requires
 earlier-requires c κs = search needs
 
 returns-3 : tie.Need-returns-3
 returns-3 c =
-    let A = c .before .before .before .before .before .before .before .before .args in
-    better-earlier (networkIn (A .state .now)) (A .j) (A .p) (A .best .parent) (stampOf (A .best .stamp)) (c .before .before .before .before .before .before .before .before .pre .4) (parented (c .before .before .before .before .before)) (stampOf (c .before .before .before .before .head-stamp .result)) (c .before .before .before .before .head-stamp .ensures) (c .before .before .if2 .left) (sym (c .before .earlier .ensures) ∙ c .if3 .taken)
+    let second = c .before .before in
+    let read = second .before .before in
+    let start = read .before .before .before .before in
+    let A = start .args in
+    better-earlier (networkIn (A .state .now)) (A .j) (A .p) (A .best .parent) (stampOf (A .best .stamp)) (start .pre .best) (parented (read .before)) (stampOf (read .head-stamp .result)) (read .head-stamp .ensures) (second .if2 .left) (sym (c .before .earlier .ensures) ∙ c .if3 .taken)
 
 returns-4 : tie.Need-returns-4
 returns-4 c =
-    let A = c .before .before .before .before .before .before .before .before .args in
-    better-not (networkIn (A .state .now)) (A .j) (A .p) (A .best .parent) (stampOf (A .best .stamp)) (c .before .before .before .before .before .before .before .before .pre .4) (parented (c .before .before .before .before .before)) (stampOf (c .before .before .before .before .head-stamp .result)) (c .before .before .before .before .head-stamp .ensures) (c .before .before .if2 .left) (sym (c .before .earlier .ensures) ∙ c .if3 .left)
+    let second = c .before .before in
+    let read = second .before .before in
+    let start = read .before .before .before .before in
+    let A = start .args in
+    better-not (networkIn (A .state .now)) (A .j) (A .p) (A .best .parent) (stampOf (A .best .stamp)) (start .pre .best) (parented (read .before)) (stampOf (read .head-stamp .result)) (read .head-stamp .ensures) (second .if2 .left) (sym (c .before .earlier .ensures) ∙ c .if3 .left)
 
 pub better-spec : {M : Type 1} → statement M
 better-spec =

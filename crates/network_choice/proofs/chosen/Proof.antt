@@ -6,7 +6,9 @@ use Rattle.timestamp.specs.Timestamp.{stampOf}
 use Rattle.limits.specs.Limits.{sitesMost}
 use Rattle.network_choice.specs.Choice.{Best}
 use Rattle.network_layout.specs.InWords.{networkIn}
-use Rattle.network_choice.proofs.ChoiceLaws.{schedule-range, best-none}
+use Rattle.network_layout.specs.At.{AtState}
+use Rattle.network_layout.proofs.OnNetwork.{at-state}
+use Rattle.network_choice.proofs.ChoiceLaws.{best-none}
 use borrow.Author.Needs.{needs}
 use Rattle.network_choice.proofs.chosen.Statement.{statement}
 use Rattle.network_choice.proofs.chosen.Tie as tie
@@ -18,16 +20,24 @@ abbrev μ-loop : tie.MeasureT-loop
 μ-loop state j mask best₀ p₀ best p = sitesMost - p
 
 parents-requires : tie.Need-parents-requires Inv-loop μ-loop
-parents-requires c κs = (c .before .pre .0, schedule-range (c .before .args .state .now) (c .before .args .j) (c .before .pre .1))
+parents-requires c κs =
+    let w = c .before .args .state .now in
+    let at : AtState w = at-state w (c .before .pre .net) in
+    search needs
 
 no-stamp-requires : tie.Need-no-stamp-requires Inv-loop μ-loop
 no-stamp-requires c κs = search needs
 
 loop-holds : tie.Need-loop-holds Inv-loop μ-loop
-loop-holds c = (omega arith, best-none (networkIn (c .before .before .before .args .state .now)) (c .before .before .before .args .j) (stampOf (c .no-stamp .result)))
+loop-holds c =
+    let A = c .before .before .before .args in
+    (omega arith, best-none (networkIn (A .state .now)) (A .j) (stampOf (c .no-stamp .result)))
 
 better-requires : tie.Need-better-requires Inv-loop μ-loop
-better-requires c κs = (c .before .before .before .before .before .pre .0, c .before .before .before .before .before .pre .1, omega arith, c .before .before .before .parents .ensures, c .before .loop .inv .1)
+better-requires c κs =
+    let turn = c .before in
+    let asked = turn .before .before in
+    record { free = asked .before .before .pre; few = omega arith; parents = asked .parents .ensures; best = turn .loop .inv .1 }
 
 add-p : tie.Need-add-p Inv-loop μ-loop
 add-p c = search needs
@@ -40,9 +50,11 @@ loop-again c = (omega arith, c .better .ensures)
 
 returns : tie.Need-returns Inv-loop μ-loop
 returns c =
-    let A = c .before .before .before .before .before .args in
-    let all : c .before .loop .p ≡ sitesMost = omega arith in
-    subst (λ (k : ℕ). Best (networkIn (A .state .now)) (A .j) k (c .before .loop .best .parent) (stampOf (c .before .loop .best .stamp))) all (c .before .loop .inv .1)
+    let turn = c .before in
+    let start = turn .before .before .before .before in
+    let best = turn .loop .best in
+    let all : turn .loop .p ≡ sitesMost = omega arith in
+    subst (λ (k : ℕ). Best (networkIn (start .args .state .now)) (start .args .j) k (best .parent) (stampOf (best .stamp))) all (turn .loop .inv .1)
 
 pub chosen-spec : {M : Type 1} → statement M
 chosen-spec =

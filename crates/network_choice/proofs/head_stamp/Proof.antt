@@ -1,70 +1,59 @@
 -- `head_stamp` reads the line's oldest message: the record that it names has its timestamp, or it has one of its own.
-use mathlib.Core.Path.{_≡_, ap, _∙_}
-use Prim.Native.Nat.{ℕ, _+_, _*_}
-use native.Mathlib.Omega.{arith}
-use lib.ListN.{getD}
 use Rattle.timestamp.specs.Timestamp.{stampOf}
-use Rattle.protocol.specs.Network.{lineNumber, noRecord}
-use Rattle.network_layout.specs.InWords.{networkIn}
-use Rattle.network_choice.proofs.ChoiceLaws.{schedule-range, line-there, head-recorded, stamp-commit, stamp-dummy}
+use Rattle.network_layout.specs.At.{AtLine, AtRecord}
+use Rattle.network_choice.proofs.ChoiceLaws.{parent-line, head-record, stamp-commit, stamp-dummy}
 use borrow.Author.Needs.{needs}
 use Rattle.network_choice.proofs.head_stamp.Statement.{statement}
 use Rattle.network_choice.proofs.head_stamp.Tie as tie
 
+line-number-requires : tie.Need-line-number-requires
+line-number-requires c κs = search needs
+
+line-first-requires : tie.Need-line-first-requires
+line-first-requires c κs =
+    let start = c .before .before in
+    let A = start .args in
+    let at : AtLine (A .state .now) (c .line-number .result) = parent-line (A .state .now) (A .j) (start .pre .free) (A .p) (start .pre .line) (c .line-number .result) (c .line-number .ensures) in
+    search needs
+
 wide-requires : tie.Need-wide-requires
 wide-requires c κs = search needs
 
-mul-k : tie.Need-mul-k
-mul-k c = search needs
-
-wide-requires-2 : tie.Need-wide-requires-2
-wide-requires-2 c κs = search needs
-
-add-k : tie.Need-add-k
-add-k c = search needs
-
-line-first-requires : tie.Need-line-first-requires
-line-first-requires c κs = (c .before .before .before .pre .0, line-there (c .before .before .before .args .state .now) (c .before .before .before .args .j) (c .before .before .before .pre .1) (c .before .before .before .args .p) (c .before .before .before .pre .2) _ (omega (arith, c .before .wide .ensures, c .wide2 .ensures)))
-
-wide-requires-3 : tie.Need-wide-requires-3
-wide-requires-3 c κs = search needs
-
 record-stamp-requires : tie.Need-record-stamp-requires
 record-stamp-requires c κs =
-    let A = c .before .before .before .before .before .before .before .args in
-    let w = A .state .now in
-    let m = c .before .before .before .line-first .result in
-    let at : c .before .before .before .before .before .wide .result * 8 + c .before .before .before .before .wide2 .result ≡ lineNumber (A .p) (A .j) = omega (arith, c .before .before .before .before .before .wide .ensures, c .before .before .before .before .wide2 .ensures) in
-    let low = head-recorded w (A .j) (c .before .before .before .before .before .before .before .pre .1) (A .p) (c .before .before .before .before .before .before .before .pre .2) (c .before .before .before .before .before .wide .result * 8 + c .before .before .before .before .wide2 .result) at (m .name) (stampOf (m .stamp)) (c .before .before .before .line-first .ensures) (c .before .if1 .taken) in
-    (c .before .before .before .before .before .before .before .pre .0, schedule-range w (A .j) (c .before .before .before .before .before .before .before .pre .1), omega (arith, low, c .wide3 .ensures), omega (arith, c .before .if1 .taken, c .wide3 .ensures))
+    let read = c .before .before .before in
+    let start = read .before .before .before in
+    let A = start .args in
+    let k = read .before .line-number in
+    let m = read .line-first in
+    let at : AtRecord (A .state .now) (c .wide .result) = head-record (A .state .now) (A .j) (start .pre .free) (A .p) (start .pre .line) (k .result) (k .ensures) (m .result) (m .ensures) (c .before .if1 .taken) (c .wide .result) (c .wide .ensures) in
+    search needs
 
 returns : tie.Need-returns
 returns c =
-    let A = c .before .before .before .before .before .before .before .before .args in
-    let w = A .state .now in
-    let m = c .before .before .before .before .line-first .result in
-    let at : c .before .before .before .before .before .before .wide .result * 8 + c .before .before .before .before .before .wide2 .result ≡ lineNumber (A .p) (A .j) = omega (arith, c .before .before .before .before .before .before .wide .ensures, c .before .before .before .before .before .wide2 .ensures) in
-    stamp-commit w (A .j) (c .before .before .before .before .before .before .before .before .pre .1) (A .p) (c .before .before .before .before .before .before .before .before .pre .2) (c .before .before .before .before .before .before .wide .result * 8 + c .before .before .before .before .before .wide2 .result) at (m .name) (stampOf (m .stamp)) (c .before .before .before .before .line-first .ensures) (c .before .before .if1 .taken)
-    (stampOf (c .record-stamp .result)) (c .record-stamp .ensures ∙ ap (λ (i : ℕ). getD (networkIn w .history) i noRecord .stamp) (c .before .wide3 .ensures))
+    let read = c .before .before .before .before in
+    let start = read .before .before .before in
+    let A = start .args in
+    let k = read .before .line-number in
+    let m = read .line-first in
+    stamp-commit (A .state .now) (A .j) (start .pre .free) (A .p) (start .pre .line) (k .result) (k .ensures) (m .result) (m .ensures) (c .before .before .if1 .taken) (stampOf (c .record-stamp .result)) (c .before .wide .result) (c .before .wide .ensures) (c .record-stamp .ensures)
 
 returns-2 : tie.Need-returns-2
 returns-2 c =
-    let A = c .before .before .before .before .before .before .before .args in
-    let w = A .state .now in
-    let m = c .before .before .before .line-first .result in
-    let at : c .before .before .before .before .before .wide .result * 8 + c .before .before .before .before .wide2 .result ≡ lineNumber (A .p) (A .j) = omega (arith, c .before .before .before .before .before .wide .ensures, c .before .before .before .before .wide2 .ensures) in
-    stamp-dummy w (A .j) (c .before .before .before .before .before .before .before .pre .1) (A .p) (c .before .before .before .before .before .before .before .pre .2) (c .before .before .before .before .before .wide .result * 8 + c .before .before .before .before .wide2 .result) at (m .name) (stampOf (m .stamp)) (c .before .before .before .line-first .ensures) (c .before .if1 .left)
+    let read = c .before .before .before in
+    let start = read .before .before .before in
+    let A = start .args in
+    let k = read .before .line-number in
+    let m = read .line-first in
+    stamp-dummy (A .state .now) (A .j) (start .pre .free) (A .p) (start .pre .line) (k .result) (k .ensures) (m .result) (m .ensures) (c .before .if1 .left)
 
 pub head-stamp-spec : {M : Type 1} → statement M
 head-stamp-spec =
     tie.close
     (tie.spec
-    wide-requires
-    mul-k
-    wide-requires-2
-    add-k
+    line-number-requires
     line-first-requires
-    wide-requires-3
+    wide-requires
     record-stamp-requires
     returns
     returns-2)

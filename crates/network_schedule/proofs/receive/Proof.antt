@@ -1,128 +1,52 @@
--- `receive` does nothing but take the timestamp of a dummy; of a commit it does the wanted ones of the record's operations.
-use mathlib.Core.Path.{_≡_, ap, subst, _∙_}
-use Prim.Native.Nat.{ℕ, _+_, _*_, _<_}
-use native.Mathlib.Omega.{arith}
-use lib.ListN.{length, getD}
+-- `receive` hands the writes that the site wants to it.
 use Rattle.timestamp.specs.Timestamp.{stampOf}
-use Rattle.site.specs.InWords.{opsIn}
-use Rattle.protocol.specs.Network.{noRecord}
+use Rattle.protocol.specs.Steps.{head, writesFor}
 use Rattle.network_layout.specs.InWords.{networkIn}
-use Rattle.network_choice.proofs.ChoiceLaws.{schedule-range, line-sites, line-there, head-recorded}
-use Rattle.network_schedule.proofs.ScheduleLaws.{receive-commit, receive-dummy}
+use Rattle.network_layout.specs.At.{AtSite}
+use Rattle.network_choice.proofs.ChoiceLaws.{child-site}
+use Rattle.network_schedule.proofs.ScheduleLaws.{receives}
 use borrow.Author.Needs.{needs}
 use Rattle.network_schedule.proofs.receive.Statement.{statement}
 use Rattle.network_schedule.proofs.receive.Tie as tie
 
--- the message names a record
-recorded : (c : tie.Else1) → c .before .before .line-first .result .name < getD (c .before .before .before .before .before .before .before .args .state .now) 2 0
-recorded c =
-    let A = c .before .before .before .before .before .before .before .args in
-    let m = c .before .before .line-first .result in
-    head-recorded (A .state .now) (A .j) (c .before .before .before .before .before .before .before .pre .1) (A .p) (c .before .before .before .before .before .before .before .pre .2) (c .before .before .before .wide2 .result * 8 + c .before .before .before .before .before .wide .result) (omega (arith, c .before .before .before .before .before .wide .ensures, c .before .before .before .wide2 .ensures)) (m .name) (stampOf (m .stamp)) (c .before .before .line-first .ensures) (c .if1 .left)
+head-writes-requires : tie.Need-head-writes-requires
+head-writes-requires c κs = search needs
 
 wide-requires : tie.Need-wide-requires
 wide-requires c κs = search needs
-
-wide-requires-2 : tie.Need-wide-requires-2
-wide-requires-2 c κs = search needs
-
-mul-line-first : tie.Need-mul-line-first
-mul-line-first c = search needs
-
-add-line-first : tie.Need-add-line-first
-add-line-first c = search needs
-
-line-first-requires : tie.Need-line-first-requires
-line-first-requires c κs = (c .before .before .before .before .pre .0, line-there (c .before .before .before .before .args .state .now) (c .before .before .before .before .args .j) (c .before .before .before .before .pre .1) (c .before .before .before .before .args .p) (c .before .before .before .before .pre .2) (c .wide2 .result * 8 + c .before .before .wide .result) (omega (arith, c .before .before .wide .ensures, c .wide2 .ensures)))
 
 slice-aggregate-site-receive : tie.Need-slice-aggregate-site-receive
 slice-aggregate-site-receive c = search needs
 
 site-receive-requires : tie.Need-site-receive-requires
 site-receive-requires c κs =
-    let A = c .before .before .before .before .before .before .before .before .before .args in
-    let s = line-sites (A .state .now) (A .j) (c .before .before .before .before .before .before .before .before .before .pre .1) (A .p) (c .before .before .before .before .before .before .before .before .before .pre .2) in
-    (c .before .before .before .before .before .before .before .before .before .pre .0, schedule-range (A .state .now) (A .j) (c .before .before .before .before .before .before .before .before .before .pre .1), omega (arith, s .2, c .before .before .before .before .before .before .before .wide .ensures), omega (arith, s .1, c .before .before .before .before .before .before .before .wide .ensures))
+    let named = c .before in
+    let read = named .before .before .before in
+    let start = read .before .before .before in
+    let A = start .args in
+    let at : AtSite (A .state .now) (named .wide .result) = child-site (A .state .now) (A .j) (start .pre .free) (named .wide .result) (named .wide .ensures) in
+    search needs
 
 same-length : tie.Need-same-length
 same-length c = search needs
 
 returns : tie.Need-returns
 returns c =
-    let A = c .before .before .before .before .before .before .before .before .before .before .before .before .args in
-    let m = c .before .before .before .before .before .before .before .line-first .result in
-    receive-dummy (A .state .now) (A .j) (c .before .before .before .before .before .before .before .before .before .before .before .before .pre .1) (A .p) (c .before .before .before .before .before .before .before .before .before .before .before .before .pre .2) (c .before .before .before .before .before .before .before .before .wide2 .result * 8 + c .before .before .before .before .before .before .before .before .before .before .wide .result) (omega (arith, c .before .before .before .before .before .before .before .before .before .before .wide .ensures, c .before .before .before .before .before .before .before .before .wide2 .ensures)) (m .name) (stampOf (m .stamp)) (c .before .before .before .before .before .before .before .line-first .ensures)
-    (c .before .before .before .before .before .if1 .taken) (c .before .before .site-receive .last .0) (c .before .before .before .before .before .before .before .before .before .before .wide .result) (c .before .before .before .before .before .before .before .before .before .before .wide .ensures) _ (stampOf (A .t)) (c .before .before .site-receive .ensures)
-
-wide-requires-3 : tie.Need-wide-requires-3
-wide-requires-3 c κs = search needs
-
-record-count-requires : tie.Need-record-count-requires
-record-count-requires c κs = (c .before .before .before .before .before .before .before .before .before .pre .0, schedule-range (c .before .before .before .before .before .before .before .before .before .args .state .now) (c .before .before .before .before .before .before .before .before .before .args .j) (c .before .before .before .before .before .before .before .before .before .pre .1), omega (arith, recorded (c .before .before), c .before .wide3 .ensures), omega (arith, c .before .before .if1 .left, c .before .wide3 .ensures))
-
-record-ops-requires : tie.Need-record-ops-requires
-record-ops-requires c κs = (c .before .before .before .before .before .before .before .before .before .before .before .pre .0, schedule-range (c .before .before .before .before .before .before .before .before .before .before .before .args .state .now) (c .before .before .before .before .before .before .before .before .before .before .before .args .j) (c .before .before .before .before .before .before .before .before .before .before .before .pre .1), omega (arith, recorded (c .before .before .before .before), c .before .before .before .wide3 .ensures), omega (arith, c .before .before .before .before .if1 .left, c .before .before .before .wide3 .ensures))
-
-sub-wanted : tie.Need-sub-wanted
-sub-wanted c = search needs
-
-part-wanted-start : tie.Need-part-wanted-start
-part-wanted-start c = search needs
-
-part-wanted-end : tie.Need-part-wanted-end
-part-wanted-end c = search needs
-
-slice-aggregate-wanted : tie.Need-slice-aggregate-wanted
-slice-aggregate-wanted c = search needs
-
-wanted-requires : tie.Need-wanted-requires
-wanted-requires c κs = search needs
-
-slice-aggregate-site-receive-2 : tie.Need-slice-aggregate-site-receive-2
-slice-aggregate-site-receive-2 c = search needs
-
-site-receive-requires-2 : tie.Need-site-receive-requires-2
-site-receive-requires-2 c κs =
-    let A = c .before .before .before .before .before .before .before .before .before .before .before .before .before .before .before .before .before .before .args in
-    let s = line-sites (A .state .now) (A .j) (c .before .before .before .before .before .before .before .before .before .before .before .before .before .before .before .before .before .before .pre .1) (A .p) (c .before .before .before .before .before .before .before .before .before .before .before .before .before .before .before .before .before .before .pre .2) in
-    (c .before .before .before .before .before .before .before .before .before .before .before .before .before .before .before .before .before .before .pre .0, schedule-range (A .state .now) (A .j) (c .before .before .before .before .before .before .before .before .before .before .before .before .before .before .before .before .before .before .pre .1), omega (arith, s .2, c .before .before .before .before .before .before .before .before .before .before .before .before .before .before .before .before .wide .ensures), omega (arith, s .1, c .before .before .before .before .before .before .before .before .before .before .before .before .before .before .before .before .wide .ensures))
-
-same-length-2 : tie.Need-same-length-2
-same-length-2 c = search needs
-
-returns-2 : tie.Need-returns-2
-returns-2 c =
-    let A = c .before .before .before .before .before .before .before .before .before .before .before .before .before .before .before .before .before .before .before .before .before .args in
-    let m = c .before .before .before .before .before .before .before .before .before .before .before .before .before .before .before .before .line-first .result in
-    let h = networkIn (A .state .now) .history in
-    receive-commit (A .state .now) (A .j) (c .before .before .before .before .before .before .before .before .before .before .before .before .before .before .before .before .before .before .before .before .before .pre .1) (A .p) (c .before .before .before .before .before .before .before .before .before .before .before .before .before .before .before .before .before .before .before .before .before .pre .2) (c .before .before .before .before .before .before .before .before .before .before .before .before .before .before .before .before .before .wide2 .result * 8 + c .before .before .before .before .before .before .before .before .before .before .before .before .before .before .before .before .before .before .before .wide .result) (omega (arith, c .before .before .before .before .before .before .before .before .before .before .before .before .before .before .before .before .before .before .before .wide .ensures, c .before .before .before .before .before .before .before .before .before .before .before .before .before .before .before .before .before .wide2 .ensures)) (m .name) (stampOf (m .stamp)) (c .before .before .before .before .before .before .before .before .before .before .before .before .before .before .before .before .line-first .ensures)
-    (c .before .before .before .before .before .before .before .before .before .before .before .before .before .before .if1 .left) (c .before .before .site-receive2 .last .0) (c .before .before .before .before .before .before .before .before .before .before .before .before .before .before .before .before .before .before .before .wide .result) (c .before .before .before .before .before .before .before .before .before .before .before .before .before .before .before .before .before .before .before .wide .ensures) (c .before .before .before .before .before .before .before .before .before .record-ops .result) (c .before .before .before .before .before .wanted .result) (c .before .before .before .before .before .before .before .before .before .before .before .record-count .result)
-    (c .before .before .before .before .before .before .before .before .before .before .before .record-count .ensures .0 ∙ ap (λ (i : ℕ). length (getD h i noRecord .ops)) (c .before .before .before .before .before .before .before .before .before .before .before .before .before .wide3 .ensures)) (c .before .before .before .before .before .before .before .before .before .before .before .record-count .ensures .1)
-    (subst (λ (i : ℕ). opsIn (length (getD h i noRecord .ops)) (c .before .before .before .before .before .before .before .before .before .record-ops .result) ≡ getD h i noRecord .ops) (c .before .before .before .before .before .before .before .before .before .before .before .before .before .wide3 .ensures) (c .before .before .before .before .before .before .before .before .before .record-ops .ensures))
-    (c .before .before .before .before .before .wanted .ensures) (stampOf (A .t)) (c .before .before .site-receive2 .ensures)
+    let done = c .before .before in
+    let named = done .before .before in
+    let read = named .before .before .before in
+    let A = read .before .before .before .args in
+    let n = networkIn (A .state .now) in
+    let out = read .head-writes .result in
+    receives (A .state .now) (done .site-receive .last .0) (named .wide .result) (A .j) (named .wide .ensures) (out .count) (out .ops) (writesFor n (A .j) (head n (A .p) (A .j))) (read .head-writes .ensures) (stampOf (A .t)) (done .site-receive .ensures)
 
 pub receive-spec : {M : Type 1} → statement M
 receive-spec =
     tie.close
     (tie.spec
+    head-writes-requires
     wide-requires
-    wide-requires-2
-    mul-line-first
-    add-line-first
-    line-first-requires
     slice-aggregate-site-receive
     site-receive-requires
     same-length
-    returns
-    wide-requires-3
-    record-count-requires
-    record-ops-requires
-    sub-wanted
-    part-wanted-start
-    part-wanted-end
-    slice-aggregate-wanted
-    wanted-requires
-    slice-aggregate-site-receive-2
-    site-receive-requires-2
-    same-length-2
-    returns-2)
+    returns)

@@ -1,0 +1,39 @@
+-- `record_writes` reads the operations of a record and takes those that are wanted.
+use lib.ListN.{getD}
+use Rattle.protocol.specs.Network.{noRecord}
+use Rattle.network_layout.specs.InWords.{networkIn}
+use Rattle.network_schedule.specs.Wanted.{wantedAt}
+use Rattle.network_schedule.proofs.ScheduleLaws.{laid-record}
+use borrow.Author.Needs.{needs}
+use Rattle.network_schedule.proofs.record_writes.Statement.{statement}
+use Rattle.network_schedule.proofs.record_writes.Tie as tie
+
+record-count-requires : tie.Need-record-count-requires
+record-count-requires c κs = search needs
+
+record-ops-requires : tie.Need-record-ops-requires
+record-ops-requires c κs = search needs
+
+slice-aggregate-wanted : tie.Need-slice-aggregate-wanted
+slice-aggregate-wanted c = search needs
+
+wanted-requires : tie.Need-wanted-requires
+wanted-requires c κs = search needs
+
+returns : tie.Need-returns
+returns c =
+    let read = c .before .before in
+    let counted = read .before in
+    let A = counted .before .before .args in
+    let n = networkIn (A .state .now) in
+    laid-record (wantedAt (n .items) (A .j)) (getD (n .history) (A .k) noRecord .ops) (counted .record-count .result) (read .record-ops .result) (counted .record-count .ensures) (read .record-ops .ensures) (c .wanted .result .count) (c .wanted .result .ops) (c .wanted .ensures)
+
+pub record-writes-spec : {M : Type 1} → statement M
+record-writes-spec =
+    tie.close
+    (tie.spec
+    record-count-requires
+    record-ops-requires
+    slice-aggregate-wanted
+    wanted-requires
+    returns)
