@@ -6,23 +6,24 @@ use network::Operation;
 use network::WORDS;
 use script::ANSWER;
 
-// `#` is a comment; `w SITE` a waiting report; `k PLACE WORD` sets a word of the state by hand; `o` and `u` are commits; every other line is the script's.
+// A line on the state; what has no letter of its own here is the script's.
 pub fn call(line: &[u8], state: &mut [u32; WORDS]) {
     match lists::letter(line) {
         35 => comment(line),
         119 => report(line, state),
         107 => set(line, state),
         111 => records(line, state),
-        117 => uneven(line, state),
+        117 => lengths(line, state),
         _ => step(line, state),
     }
 }
 
+// `# ..`: a comment, which is printed as it is.
 fn comment(line: &[u8]) {
     io::write_all(STDOUT_FILENO, line);
 }
 
-// A line of the script; behind a refusal, whether every word of the state is as it was.
+// A line of the script, and behind a refusal whether every word of the state is as it was.
 fn step(line: &[u8], state: &mut [u32; WORDS]) {
     let before = *state;
     let mut out = [0u8; ANSWER];
@@ -45,21 +46,18 @@ fn compare(before: &[u32; WORDS], state: &[u32; WORDS]) {
     io::write_all(STDOUT_FILENO, b" unchanged");
 }
 
-// A word of the state by hand: whether the state is then well shaped.
+// `k PLACE WORD`: a word of the state by hand. The line is printed as it is.
 fn set(line: &[u8], state: &mut [u32; WORDS]) {
     let list = lists::numbers(line);
     let place = words::wide(list[0]);
     if place < 31635 {
         state[place] = list[1];
     }
-    if network::well_shaped(state) {
-        io::write_all(STDOUT_FILENO, b"well shaped");
-    } else {
-        io::write_all(STDOUT_FILENO, b"not well shaped");
-    }
+    comment(line);
 }
 
-// The number of a waiting report, how many items it has and, since their order is left open, the items in rising order, each as often as it stands there.
+// `w SITE`: the number of a waiting report, how many items it has and, since their order is left open, the items in rising order, each as
+// often as it stands there.
 fn report(line: &[u8], state: &[u32; WORDS]) {
     let list = lists::numbers(line);
     let answer = network::waiting(state, list[0]);
@@ -84,22 +82,21 @@ fn times(items: &[u32; 64], count: usize, k: u32) {
     }
 }
 
-// `o SITE KIND ITEM VALUE KIND ITEM VALUE` is a commit of two records.
+// `o SITE KIND ITEM VALUE`: a commit of two records, a read of item 0 and the operation given.
 fn records(line: &[u8], state: &mut [u32; WORDS]) {
+    let before = *state;
     let list = lists::numbers(line);
-    let first = Operation {
+    let read = Operation {
+        kind: 0,
+        item: 0,
+        value: 7,
+    };
+    let given = Operation {
         kind: (list[1] % 256) as u8,
         item: list[2],
         value: words::value(list[3]),
     };
-    let second = Operation {
-        kind: (list[4] % 256) as u8,
-        item: list[5],
-        value: words::value(list[6]),
-    };
-    let before = *state;
-    let operations = [first, second];
-    let answer = commit_two(state, list[0], operations);
+    let answer = commit_two(state, list[0], [read, given]);
     committed(answer, &before, state);
 }
 
@@ -108,21 +105,21 @@ fn commit_two(state: &mut [u32; WORDS], site: u32, operations: [Operation; 2]) -
     network::commit_operations(state, site, &operations)
 }
 
-// `u SITE KINDS ITEMS VALUES KIND` is a commit of that many kinds, items and values: the kind given, item 0, value 9.
-fn uneven(line: &[u8], state: &mut [u32; WORDS]) {
+// `u SITE KINDS ITEMS VALUES`: a commit of writes of item 0, with so many kinds, items and values, at most nine of each.
+fn lengths(line: &[u8], state: &mut [u32; WORDS]) {
+    let before = *state;
     let list = lists::numbers(line);
+    let kinds = [1u8; 9];
+    let items = [0u32; 9];
+    let values = [9i32; 9];
     let k = words::wide(list[1]) % 10;
     let i = words::wide(list[2]) % 10;
     let v = words::wide(list[3]) % 10;
-    let kinds = [(list[4] % 256) as u8; 9];
-    let items = [0u32; 9];
-    let values = [9i32; 9];
-    let before = *state;
     let answer = network::commit(state, list[0], &kinds[0..k], &items[0..i], &values[0..v]);
     committed(answer, &before, state);
 }
 
-// A commit's answer, in the form of a record: the number, the timestamp, and the values read as if of items 0, 1, ..
+// A commit's answer in the form of a record: the number, the timestamp, and the values as those of items 0, 1 and so on.
 fn committed(answer: Committed, before: &[u32; WORDS], state: &[u32; WORDS]) {
     let stamp = answer.stamp;
     let values = answer.values;
