@@ -1,10 +1,10 @@
 #!/usr/bin/env python3
-"""A plain model of the script program, written from the specification alone.
+"""A plain model of the engine and of the script program, written from the specification alone.
 
     model.py run            answers the script on standard input
     model.py script SEED N  writes a random script of N lines over 8 sites and 64 items
 
-crates/script_long/stdin is the script of seed 1 with 4000 lines, and its stdout what this model answers.
+crates/script_long/stdin is the script of seed 1 with 4000 lines.
 """
 import random
 import sys
@@ -86,6 +86,7 @@ def earlier(a, b):
 class Engine:
     def __init__(self):
         self.sites = 0
+        self.damaged = set()
 
     def set_up(self, sites, items, pairs):
         if not 1 <= sites <= SITES:
@@ -100,13 +101,17 @@ class Engine:
             if any(mask >> k & 1 for k in range(primary)):
                 return (5,)
         self.sites = sites
+        self.damaged = set()
         self.items = pairs
         self.tables = [[0] * items for _ in range(sites)]
         self.stamps = [(0, [(i, 0)]) for i in range(sites)]
         self.lines = {(p, c): [] for p in range(sites) for c in range(sites) if self.is_line(p, c)}
         self.arrived = {key: 0 for key in self.lines}
-        self.records = 0
+        self.history = []
         return (0,)
+
+    def well_shaped(self):
+        return self.sites and not self.damaged
 
     def is_line(self, p, c):
         return any(primary == p and mask >> c & 1 for primary, mask in self.items)
@@ -128,14 +133,14 @@ class Engine:
         if not 1 <= len(ops) <= OPERATIONS:
             return (8,)
         for kind, item, _ in ops:
-            if item >= len(self.items):
+            if kind > 1 or item >= len(self.items):
                 return (9,)
             primary, mask = self.items[item]
             if kind == 0 and primary != i and not mask >> i & 1:
                 return (10,)
             if kind == 1 and primary != i:
                 return (11,)
-        if self.records >= RECORDS:
+        if len(self.history) >= RECORDS:
             return (12,)
         writes = [(item, v) for kind, item, v in ops if kind == 1]
         children = [c for c in range(self.sites) if any(self.items[item][1] >> c & 1 for item, _ in writes)]
@@ -143,13 +148,13 @@ class Engine:
             return (13,)
         if self.stamps[i][1][-1][1] == U32:
             return (14,)
-        read = [self.tables[i][item] for kind, item, _ in ops if kind == 0]
+        done = [(kind, item, self.tables[i][item] if kind == 0 else v) for kind, item, v in ops]
         for item, v in writes:
             self.tables[i][item] = v
         self.stamps[i] = self.raised(i)
-        self.records += 1
+        self.history.append((i, self.stamps[i], done))
         self.send(i, children, self.stamps[i], writes)
-        return (0, self.stamps[i], read)
+        return (0, self.stamps[i], [v for kind, _, v in done if kind == 0])
 
     def dummy(self, i):
         if i >= self.sites:
@@ -203,6 +208,12 @@ class Engine:
         self.stamps[j] = (stamp[0], stamp[1] + [self.stamps[j][1][-1]])
         return (0, best, stamp)
 
+    def waiting(self, j):
+        if j >= self.sites:
+            return (7, set())
+        written = {item for p in self.parents(j) for _, writes in self.lines[p, j] for item, _ in writes}
+        return (0, {item for item in written if self.items[item][1] >> j & 1})
+
 
 def stamp_text(stamp):
     return "%d %s" % (stamp[0], ",".join("%d.%d" % t for t in stamp[1]))
@@ -214,7 +225,7 @@ def answer(engine, line):
     except Malformed:
         return "?"
     letter, arguments = call[0], call[1:]
-    if letter != "p" and not engine.sites:
+    if letter != "p" and not engine.well_shaped():
         return "6"
     result = {
         "p": engine.set_up,
