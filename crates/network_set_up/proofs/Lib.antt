@@ -1,1 +1,4 @@
+pub mod ItemWords
+pub mod NewWords
 pub mod SetUpLaws
+pub mod StartWords

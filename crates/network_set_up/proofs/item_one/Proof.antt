@@ -1,6 +1,6 @@
 -- `item_one` lays the two words of an item after those before it.
 use native.Mathlib.Omega.{arith}
-use Rattle.network_set_up.proofs.SetUpLaws.{item-next}
+use Rattle.network_set_up.proofs.ItemWords.{item-next}
 use borrow.Author.Needs.{needs}
 use Rattle.network_set_up.proofs.item_one.Statement.{statement}
 use Rattle.network_set_up.proofs.item_one.Tie as tie

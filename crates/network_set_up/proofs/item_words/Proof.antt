@@ -6,7 +6,7 @@ use lib.ListN.{length, take}
 use Rattle.words.specs.Words.{chunks}
 use Rattle.placement.specs.InWords.{itemsIn}
 use Rattle.protocol.specs.Steps.{itemsOf}
-use Rattle.network_set_up.proofs.SetUpLaws.{items-next, items-all}
+use Rattle.network_set_up.proofs.ItemWords.{items-next, items-all}
 use borrow.Author.Needs.{needs}
 use Rattle.network_set_up.proofs.item_words.Statement.{statement}
 use Rattle.network_set_up.proofs.item_words.Tie as tie
@@ -44,13 +44,18 @@ loop-less c = search needs
 
 loop-again : tie.Need-loop-again Inv-loop μ-loop
 loop-again c =
-    let A = c .before .before .before .before .before .before .before .before .before .args in
-    (omega arith, items-next (A .primaries .now) (A .masks .now) (c .before .before .before .before .before .before .loop .out) (c .before .before .before .before .before .before .loop .k) (c .before .before .before .before .before .before .before .before .before .pre .1) (c .before .before .before .before .before .before .loop .inv .1) (c .before .before .before .before .before .loop-test .taken) (c .item-one .last .0) (c .before .wide8 .result) (c .before .wide8 .ensures) (c .item-one .ensures))
+    let laid = c .before in
+    let test = laid .before .before .before .before in
+    let turn = test .before in
+    let start = turn .before .before .before in
+    let A = start .args in
+    (omega arith, items-next (A .primaries .now) (A .masks .now) (turn .loop .out) (turn .loop .k) (start .pre .same) (turn .loop .inv .1) (test .loop-test .taken) (c .item-one .last .0) (laid .wide8 .result) (laid .wide8 .ensures) (c .item-one .ensures))
 
 returns : tie.Need-returns Inv-loop μ-loop
 returns c =
-    let A = c .before .before .before .before .args in
-    items-all (A .primaries .now) (A .masks .now) (c .before .loop .out) (c .before .loop .k) (c .before .before .before .before .pre .1) (c .before .loop .inv .1) (omega arith)
+    let turn = c .before in
+    let start = turn .before .before .before in
+    items-all (start .args .primaries .now) (start .args .masks .now) (turn .loop .out) (turn .loop .k) (start .pre .same) (turn .loop .inv .1) (omega arith)
 
 pub item-words-spec : {M : Type 1} → statement M
 item-words-spec =

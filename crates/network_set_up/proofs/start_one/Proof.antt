@@ -2,7 +2,7 @@
 use mathlib.Core.Path.{ap}
 use Prim.Native.Nat.{ℕ, _*_}
 use Rattle.site.specs.InWords.{siteSize}
-use Rattle.network_set_up.proofs.SetUpLaws.{start-next, start-range}
+use Rattle.network_set_up.proofs.StartWords.{one-started}
 use borrow.Author.Needs.{needs}
 use Rattle.network_set_up.proofs.start_one.Statement.{statement}
 use Rattle.network_set_up.proofs.start_one.Tie as tie
@@ -30,11 +30,11 @@ same-length c = search needs
 
 returns : tie.Need-returns
 returns c =
-    let A = c .before .before .before .before .before .before .before .args in
-    let a = ap (λ (n : ℕ). n * siteSize) (c .before .before .before .before .wide .ensures) in (
-      start-next (A .w .now) (c .before .before .lay .last .0) (A .i) (c .before .before .before .before .wide .result * siteSize) (c .before .before .before .before .before .before .before .pre .0) (c .before .before .before .before .before .before .before .pre .1) a (c .before .before .lay .ensures),
-      start-range (A .w .now) (c .before .before .lay .last .0) (A .i) (c .before .before .before .before .wide .result * siteSize) (c .before .before .before .before .before .before .before .pre .0) (c .before .before .before .before .before .before .before .pre .1) a (c .before .before .lay .ensures),
-    )
+    let laid = c .before .before in
+    let named = laid .before .before in
+    let start = named .before .before .before in
+    let A = start .args in
+    one-started (A .w .now) (laid .lay .last .0) (A .i) (named .wide .result * siteSize) (start .pre) (ap (λ (n : ℕ). n * siteSize) (named .wide .ensures)) (laid .lay .ensures)
 
 pub start-one-spec : {M : Type 1} → statement M
 start-one-spec =

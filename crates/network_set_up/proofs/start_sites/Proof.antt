@@ -1,33 +1,28 @@
 -- `start_sites` lays one site after another: the first i are at their start.
-use mathlib.Core.Path.{_≡_, sym, ap, _∙_}
-use mathlib.Core.Bool.{true}
-use mathlib.Core.List.{map}
+use mathlib.Core.Path.{_≡_, subst, _∙_}
 use Prim.Native.Nat.{ℕ, _≤_, _-_}
 use native.Mathlib.Omega.{arith}
 use lib.ListN.{length}
-use Rattle.words.specs.Words.{chunks}
-use Rattle.lists.specs.Lists.{every}
-use Rattle.site.specs.InWords.{siteIn, siteRange, siteSize}
 use Rattle.network_layout.specs.Layout.{sitesSize}
-use Rattle.protocol.specs.Steps.{startSites}
-use Rattle.network_set_up.proofs.SetUpLaws.{no-sites, sites-next}
+use Rattle.network_set_up.specs.SetUp.{Started}
+use Rattle.network_set_up.proofs.StartWords.{none-started}
 use borrow.Author.Needs.{needs}
 use Rattle.network_set_up.proofs.start_sites.Statement.{statement}
 use Rattle.network_set_up.proofs.start_sites.Tie as tie
 
 abbrev Inv-loop : tie.InvT-loop
-Inv-loop w₀ n i₀ w i = (i ≤ n) × (length w ≡ sitesSize) × (map siteIn (chunks siteSize i w) ≡ startSites 0 i) × (every siteRange (chunks siteSize i w) ≡ true)
+Inv-loop w₀ n i₀ w i = (i ≤ n) × (length w ≡ sitesSize) × Started w i
 
 abbrev μ-loop : tie.MeasureT-loop
 μ-loop w₀ n i₀ w i = n - i
 
 loop-holds : tie.Need-loop-holds Inv-loop μ-loop
-loop-holds c =
-    let w = c .before .args .w .now in
-    (omega arith, c .before .pre .0, no-sites w .0, no-sites w .1)
+loop-holds c = (omega arith, c .before .pre .sized, none-started (c .before .args .w .now))
 
 start-one-requires : tie.Need-start-one-requires Inv-loop μ-loop
-start-one-requires c κs = search needs
+start-one-requires c κs =
+    let turn = c .before .before in
+    record { sized = turn .loop .inv .1; room = omega (arith, turn .before .before .pre .few); so-far = turn .loop .inv .2 }
 
 add-i : tie.Need-add-i Inv-loop μ-loop
 add-i c = search needs
@@ -37,16 +32,18 @@ loop-less c = search needs
 
 loop-again : tie.Need-loop-again Inv-loop μ-loop
 loop-again c =
-    (omega arith, c .before .before .start-one .kept .0 ∙ c .before .before .before .before .before .loop .inv .1, sites-next (c .before .before .before .before .before .loop .w) (c .before .before .start-one .last .0) (c .before .before .before .before .before .loop .i) (c .before .before .before .before .before .loop .inv .2) (c .before .before .start-one .ensures .0), c .before .before .start-one .ensures .1 (c .before .before .before .before .before .loop .inv .3))
+    let laid = c .before .before in
+    let turn = laid .before .before .before in
+    (omega arith, laid .start-one .kept .0 ∙ turn .loop .inv .1, laid .start-one .ensures)
 
 same-length : tie.Need-same-length Inv-loop μ-loop
 same-length c = search needs
 
 returns : tie.Need-returns Inv-loop μ-loop
 returns c =
-    let w = c .before .loop .w in
-    let e : c .before .loop .i ≡ c .before .before .before .args .n = omega arith in
-    (ap (λ (k : ℕ). map siteIn (chunks siteSize k w)) (sym e) ∙ c .before .loop .inv .2 ∙ ap (startSites 0) e, ap (λ (k : ℕ). every siteRange (chunks siteSize k w)) (sym e) ∙ c .before .loop .inv .3)
+    let turn = c .before in
+    let all : turn .loop .i ≡ turn .before .before .args .n = omega arith in
+    subst (λ (k : ℕ). Started (turn .loop .w) k) all (turn .loop .inv .2)
 
 pub start-sites-spec : {M : Type 1} → statement M
 start-sites-spec =
