@@ -5,13 +5,23 @@ use mathlib.Core.List.{List, [], _∷_, _++_, append-assoc, append-nil}
 use mathlib.Core.Option.{Option}
 use Prim.Native.Nat.{ℕ, zero, suc, _+_, _-_, _≤_, _<_}
 use native.Mathlib.Omega.{arith}
-use lib.ListN.{length, take, drop}
+use lib.ListN.{length, take, drop, drop-of-length-le}
 use lib.Dec.{eqb, leb, ltb}
-use borrow.Author.Tests.{ltb-true, ltb-false, leb-true, lt-ltb}
+use borrow.Author.Tests.{ltb-false}
 use Rattle.protocol.specs.Network.{Network}
 use Rattle.script_notation.specs.Fields.{position}
 use Rattle.script_notation.specs.Answers.{Answer, answer}
 use Rattle.console_lines.specs.Lines.{newline, lineMost, used}
+
+-- the first newline stands at the front of what it starts
+position-there : (b : List ℕ) → position newline (drop (position newline b) b) ≡ 0
+unfolding position
+position-there [] = refl
+position-there (x ∷ xs) = go (eqb x newline) refl (position-there xs)
+  where
+    go : (t : Bool) → eqb x newline ≡ t → position newline (drop (position newline xs) xs) ≡ 0 → position newline (drop (cond t 0 (suc (position newline xs))) (x ∷ xs)) ≡ 0
+    go true e f = rw e
+    go false e f = f
 
 module _ (s : Option Network) (size at : ℕ) where
   -- where there is no room nothing behind the first newline is used
@@ -37,7 +47,7 @@ module _ (s : Option Network) (size at : ℕ) where
       go false g e = ap suc (e (omega arith))
 
   -- a newline is used where there is room, and it goes on behind it
-  used-line : leb (at + lineMost) size ≡ true → (line b : List ℕ) → position newline b < length b
+  pub used-line : leb (at + lineMost) size ≡ true → (line b : List ℕ) → position newline b < length b
       → used s size at line b ≡ suc (position newline b) + used (answer s (line ++ take (position newline b) b) .after) size (at + suc (length (answer s (line ++ take (position newline b) b) .bytes))) [] (drop (suc (position newline b)) b)
   unfolding used position
   used-line r line [] h = absurd (omega arith)
@@ -62,3 +72,12 @@ module _ (s : Option Network) (size at : ℕ) where
       go : (t : Bool) → ltb (position newline b) (length b) ≡ t → (t && leb (at + lineMost) size) ≡ false → used s size at line b ≡ position newline b
       go true e g = used-full g line b
       go false e g = used-all line b (ltb-false (position newline b) (length b) e)
+
+  -- at the first newline that finds no room nothing is used, whatever is held
+  pub used-there : (b : List ℕ) → (ltb (position newline b) (length b) && leb (at + lineMost) size) ≡ false → used s size at [] (drop (position newline b) b) ≡ 0
+  unfolding used
+  used-there b h = go (ltb (position newline b) (length b)) refl h
+    where
+      go : (t : Bool) → ltb (position newline b) (length b) ≡ t → (t && leb (at + lineMost) size) ≡ false → used s size at [] (drop (position newline b) b) ≡ 0
+      go true e g = used-full g [] (drop (position newline b) b) ∙ position-there b
+      go false e g = ap (used s size at []) (drop-of-length-le b {i = position newline b} (ltb-false (position newline b) (length b) e))

@@ -181,7 +181,7 @@ fn hold(held: Held, from: &[u8]) -> Held
     ensures { λ r. ⌜ Holding (clipped (heldOf held ++ now (from .entry))) r ⌝ }
 {
     let at = least(held.count, 513);
-    let n = least(from.len(), 513 - at);
+    let n = least(513 - at, from.len());
     let mut bytes = held.bytes;
     let count = append(from, n, &mut bytes, at);
     Held { bytes, count }
