@@ -11,7 +11,7 @@ use borrow.Author.Tests.{ltb-false}
 use Rattle.protocol.specs.Network.{Network}
 use Rattle.script_notation.specs.Fields.{position}
 use Rattle.script_notation.specs.Answers.{Answer, answer}
-use Rattle.console_lines.specs.Lines.{newline, lineMost, used}
+use Rattle.console_lines.specs.Lines.{newline, ending, lineMost, used}
 
 -- the first newline stands at the front of what it starts
 position-there : (b : List ℕ) → position newline (drop (position newline b) b) ≡ 0
@@ -81,3 +81,32 @@ module _ (s : Option Network) (size at : ℕ) where
       go : (t : Bool) → ltb (position newline b) (length b) ≡ t → (t && leb (at + lineMost) size) ≡ false → used s size at [] (drop (position newline b) b) ≡ 0
       go true e g = used-full g [] (drop (position newline b) b) ∙ position-there b
       go false e g = ap (used s size at []) (drop-of-length-le b {i = position newline b} (ltb-false (position newline b) (length b) e))
+
+  -- with room something is used of what there is
+  pub used-some : leb (at + lineMost) size ≡ true → (line b : List ℕ) → 0 < length b → 0 < used s size at line b
+  unfolding used
+  used-some r line [] h = absurd (omega arith)
+  used-some r line (x ∷ xs) h = go (eqb x newline)
+    where
+      go : (t : Bool) → 0 < cond t (cond (leb (at + lineMost) size) (suc (used (answer s line .after) size (at + suc (length (answer s line .bytes))) [] xs)) 0) (suc (used s size at (line ++ (x ∷ [])) xs))
+      go true = rw r (omega arith)
+      go false = omega arith
+
+  -- with room the end of a script is used
+  pub used-ending : leb (at + lineMost) size ≡ true → (line : List ℕ) → used s size at line (ending line) ≡ length (ending line)
+  unfolding used
+  used-ending r [] = refl
+  used-ending r (x ∷ xs) = rw r
+
+-- not more is used than there is
+pub used-within : (s : Option Network) (size at : ℕ) (line b : List ℕ) → used s size at line b ≤ length b
+unfolding used
+used-within s size at line [] = omega arith
+used-within s size at line (x ∷ xs) =
+    go (eqb x newline) (leb (at + lineMost) size) (used-within (answer s line .after) size (at + suc (length (answer s line .bytes))) [] xs) (used-within s size at (line ++ (x ∷ [])) xs)
+  where
+    go : (t u : Bool) → used (answer s line .after) size (at + suc (length (answer s line .bytes))) [] xs ≤ length xs → used s size at (line ++ (x ∷ [])) xs ≤ length xs
+        → cond t (cond u (suc (used (answer s line .after) size (at + suc (length (answer s line .bytes))) [] xs)) 0) (suc (used s size at (line ++ (x ∷ [])) xs)) ≤ suc (length xs)
+    go true true e f = omega arith
+    go true false e f = omega arith
+    go false u e f = omega arith

@@ -236,10 +236,10 @@ module _ (block entry out₀ : List ℕ) (at : ℕ) where
 
 -- ---- a block after what was held
 -- the part from a place on
-abbrev partFrom : ℕ → List ℕ → List ℕ
+abbrev pub partFrom : ℕ → List ℕ → List ℕ
 partFrom u b = take (length b - u) (drop u b)
 
-part-from : (u : ℕ) (b : List ℕ) → partFrom u b ≡ drop u b
+pub part-from : (u : ℕ) (b : List ℕ) → partFrom u b ≡ drop u b
 part-from u b = take-all (length b - u) (drop u b) (omega (arith, length-drop u b))
 
 -- the next line ends within the block, or with it
