@@ -1,194 +1,144 @@
-// Scripts from standard input, their answers to a file descriptor: blocks are read, lines kept across them, and answers collected and written before each read.
-use libc::STDIN_FILENO;
-use libc::STDOUT_FILENO;
+// Scripts from a file descriptor, their answers to another: a block is read, its lines are answered, and the answers are written before the next is read.
 use network::WORDS;
-use script::ANSWER;
+pub use console_lines::Held;
+pub use console_lines::Progress;
+pub use console_lines::feed;
+pub use console_lines::finish;
+pub use console_lines::nothing;
 ghost use mathlib.Core.Path.{_≡_};
-ghost use Prim.Native.Nat.{_+_, _≤_, _<_};
+ghost use mathlib.Core.List.{[]};
+ghost use Prim.Native.Nat.{_≤_};
 ghost use lib.ListN.{length};
-ghost use Rattle.console.specs.Counts.{heldMost, answersMost, answerMost, Within};
+ghost use Rattle.console_lines.specs.Lines.{lineMost};
+ghost use Rattle.console_lines.specs.Promises.{heldOf};
+ghost use Rattle.console.specs.Runs.{Ran, Went, Replied, Closed};
 
-// How far a run has come: how many bytes of a line are held, one more than a line has where it is too long; how many bytes of answers are
-// still to be written; and whether it goes on.
-pub struct Progress {
-    pub count: usize,
-    pub filled: usize,
-    pub open: bool,
+// What is held of a line where the run goes on, whether it does, and whether everything was read and written so far.
+pub struct Run {
+    pub held: Held,
+    pub more: bool,
+    pub well: bool,
 }
 
-// Answers standard input, line by line, to its end, on a state of zeros.
-pub fn run() {
-    let mut state = [0u32; WORDS];
-    run_on(&mut state, STDOUT_FILENO);
-}
-
-// The same on a lent state, the answers written to `out`.
-pub fn run_on(state: &mut [u32; WORDS], out: i32) {
-    let mut held = [0u8; 513];
+// A script is read from one file descriptor and answered on a lent state, and its answers are written to another. It answers whether all was read and
+// written; what failed is told on standard error, and ends the run.
+pub fn run_on(state: &mut [u32; WORDS], from: i32, out: i32) -> bool
+    ensures { λ r. ⌜ Ran (now (state .entry)) (now (state .exit)) ⌝ }
+{
+    let mut block = [0u8; 65536];
     let mut answers = [0u8; 65536];
-    let mut at = begun(0, 0);
+    let mut at = begun();
     // Nothing says that an input ends, so the turns are counted down, from a number that no run uses up.
     let mut turns = u64::MAX;
     while turns > 0 {
-        if !at.open {
-            return;
+        if !at.more {
+            return at.well;
         }
-        at = turn(at, state, &mut held, &mut answers, out);
+        let held = at.held;
+        at = turn(held, state, &mut block, &mut answers, from, out);
         turns -= 1;
     }
+    false
 }
 
-// All that is collected is written, and a block is read and answered; where the input ends, the line that is held.
+fn begun() -> Run
+    ensures { λ r. ⌜ heldOf (r .held) ≡ [] ⌝ }
+{
+    Run {
+        held: nothing(),
+        more: true,
+        well: true,
+    }
+}
+
+// A block is read and answered; where the input ends, the line that is held.
 fn turn(
-    at: Progress,
+    held: Held,
     state: &mut [u32; WORDS],
-    held: &mut [u8],
+    block: &mut [u8],
     answers: &mut [u8],
+    from: i32,
     out: i32,
-) -> Progress
-    requires { ⌜ Within at × (length (now held) ≡ heldMost) × (length (now answers) ≡ answersMost) ⌝ }
-    ensures { λ r. ⌜ Within r ⌝ }
+) -> Run
+    requires { ⌜ lineMost ≤ length (now answers) ⌝ }
+    ensures { λ r. ⌜ Went (heldOf held) (now (state .entry)) (now (state .exit)) r ⌝ }
 {
-    let filled = at.filled;
-    if !io::write_all(out, &answers[..filled]) {
-        return ended();
+    let got = fetch(from, block);
+    if got < 0 {
+        return Run {
+            held,
+            more: false,
+            well: false,
+        };
     }
-    let mut block = io::large_buffer();
-    let got = libc::read(STDIN_FILENO, &mut block);
-    let n = io::count(got, &block);
-    let kept = begun(at.count, 0);
+    let n = io::count(got, block);
     if n == 0 {
-        return last(kept, state, held, answers, out);
+        return last(held, state, answers, out);
     }
-    feed(&block[..n], kept, state, held, answers, out)
+    reply(&block[..n], held, state, answers, out)
 }
 
-// The bytes of a block, one after another.
-fn feed(
+// A line that is cut off by a failure is not answered: its first bytes may stand for another call.
+fn fetch(from: i32, block: &mut [u8]) -> isize {
+    let got = libc::read(from, block);
+    if got < 0 {
+        os::fail(b"script not read");
+    }
+    got
+}
+
+// The lines of a block; where the answers fill their buffer, they are written and it goes on.
+fn reply(
     block: &[u8],
-    from: Progress,
+    held: Held,
     state: &mut [u32; WORDS],
-    held: &mut [u8],
     answers: &mut [u8],
     out: i32,
-) -> Progress
-    requires { ⌜ Within from × (length (now held) ≡ heldMost) × (length (now answers) ≡ answersMost) ⌝ }
-    ensures { λ r. ⌜ Within r ⌝ }
+) -> Run
+    requires { ⌜ lineMost ≤ length (now answers) ⌝ }
+    ensures { λ r. ⌜ Replied (now (block .entry)) (heldOf held) (now (state .entry)) (now (state .exit)) r ⌝ }
 {
-    let mut at = from;
-    let mut i = 0;
-    while i < block.len() {
-        if !at.open {
-            return at;
+    let mut line = held;
+    let mut used = 0;
+    while used < block.len() {
+        let r = feed(&block[used..], line, state, answers, 0);
+        line = r.held;
+        used += r.used;
+        let n = r.filled;
+        if !written(out, &answers[..n]) {
+            return Run {
+                held: line,
+                more: false,
+                well: false,
+            };
         }
-        at = byte(block[i], at, state, held, answers, out);
-        i += 1;
     }
-    at
-}
-
-// One byte: a newline has the line that is held answered.
-fn byte(
-    b: u8,
-    at: Progress,
-    state: &mut [u32; WORDS],
-    held: &mut [u8],
-    answers: &mut [u8],
-    out: i32,
-) -> Progress
-    requires { ⌜ Within at × (length (now held) ≡ heldMost) × (length (now answers) ≡ answersMost) ⌝ }
-    ensures { λ r. ⌜ Within r ⌝ }
-{
-    if b == 10 {
-        return answer(at, state, held, answers, out);
-    }
-    let count = hold(held, at.count, b);
-    begun(count, at.filled)
-}
-
-// The last line, where it lacks its newline; the run ends.
-fn last(
-    at: Progress,
-    state: &mut [u32; WORDS],
-    held: &mut [u8],
-    answers: &mut [u8],
-    out: i32,
-) -> Progress
-    requires { ⌜ Within at × (length (now held) ≡ heldMost) × (length (now answers) ≡ answersMost) ⌝ }
-    ensures { λ r. ⌜ Within r ⌝ }
-{
-    if at.count == 0 {
-        return ended();
-    }
-    let done = answer(at, state, held, answers, out);
-    let filled = done.filled;
-    io::write_all(out, &answers[..filled]);
-    ended()
-}
-
-// A byte of a line. What is past 512 bytes is counted once and not stored.
-fn hold(held: &mut [u8], count: usize, b: u8) -> usize
-    requires { ⌜ length (now held) ≡ heldMost ⌝ }
-    ensures { λ r. ⌜ r ≤ heldMost ⌝ }
-{
-    if 512 <= count {
-        return 513;
-    }
-    held[count] = b;
-    count + 1
-}
-
-// The line that is held is answered; where the answers have no room for one more, they are written first. A write that fails ends the run.
-fn answer(
-    at: Progress,
-    state: &mut [u32; WORDS],
-    held: &mut [u8],
-    answers: &mut [u8],
-    out: i32,
-) -> Progress
-    requires { ⌜ Within at × (length (now held) ≡ heldMost) × (length (now answers) ≡ answersMost) ⌝ }
-    ensures { λ r. ⌜ Within r ⌝ }
-{
-    let count = at.count;
-    let filled = at.filled;
-    if 65023 < filled {
-        if !io::write_all(out, &answers[..filled]) {
-            return ended();
-        }
-        return begun(0, collect(&held[..count], state, answers, 0));
-    }
-    begun(0, collect(&held[..count], state, answers, filled))
-}
-
-// A line's answer and a newline behind the answers so far. It answers where they end.
-fn collect(text: &[u8], state: &mut [u32; WORDS], answers: &mut [u8], filled: usize) -> usize
-    requires { ⌜ (filled + answerMost ≤ answersMost) × (length (now answers) ≡ answersMost) ⌝ }
-    ensures { λ r. ⌜ r ≤ answersMost ⌝ }
-{
-    let mut out = [0u8; ANSWER];
-    let n = script::line(text, state, &mut out);
-    let end = filled + n;
-    answers[end] = 10;
-    bytes::copy(&out[..n], &mut answers[filled..end]);
-    end + 1
-}
-
-fn begun(count: usize, filled: usize) -> Progress
-    ensures { λ r. ⌜ (r .count ≡ count) × (r .filled ≡ filled) ⌝ }
-{
-    Progress {
-        count,
-        filled,
-        open: true,
+    Run {
+        held: line,
+        more: true,
+        well: true,
     }
 }
 
-fn ended() -> Progress
-    ensures { λ r. ⌜ Within r ⌝ }
+// The last line, where it lacks its newline.
+fn last(held: Held, state: &mut [u32; WORDS], answers: &mut [u8], out: i32) -> Run
+    requires { ⌜ lineMost ≤ length (now answers) ⌝ }
+    ensures { λ r. ⌜ Closed (heldOf held) (now (state .entry)) (now (state .exit)) r ⌝ }
 {
-    Progress {
-        count: 0,
-        filled: 0,
-        open: false,
+    let r = finish(held, state, answers, 0);
+    let line = r.held;
+    let n = r.filled;
+    Run {
+        held: line,
+        more: false,
+        well: written(out, &answers[..n]),
     }
+}
+
+fn written(out: i32, answers: &[u8]) -> bool {
+    if io::write_all(out, answers) {
+        return true;
+    }
+    os::fail(b"answers not written");
+    false
 }

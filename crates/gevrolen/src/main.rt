@@ -1,4 +1,9 @@
-// The script program: it answers the lines of standard input.
+// The script program: it answers the lines of standard input, on a state that was never set up.
+use libc::STDIN_FILENO;
+use libc::STDOUT_FILENO;
+use network::WORDS;
+
 fn main() {
-    console::run();
+    let mut state = [0u32; WORDS];
+    console::run_on(&mut state, STDIN_FILENO, STDOUT_FILENO);
 }

@@ -7,12 +7,18 @@ ghost use mathlib.Core.Path.{_≡_};
 ghost use Prim.Native.Nat.{_+_, _≤_, _<_};
 ghost use lib.ListN.{length};
 
+// How far the lines have come: how many of their bytes are still to be written, and whether all before them were.
+pub struct Page {
+    pub filled: usize,
+    pub well: bool,
+}
+
 // One byte more than is taken, for an input that is too long.
 fn main() {
     let mut file = [0u8; 65537];
     let n = load(&mut file);
     if 65536 < n {
-        io::write_all(STDOUT_FILENO, b"?\n");
+        written(b"?\n");
         return;
     }
     print(&file[..n]);
@@ -24,7 +30,7 @@ fn load(file: &mut [u8]) -> usize
 {
     let mut filled = 0usize;
     while filled < file.len() {
-        let got = libc::read(STDIN_FILENO, &mut file[filled..]);
+        let got = fetch(&mut file[filled..]);
         let n = io::count(got, &file[filled..]);
         if n == 0 {
             return filled;
@@ -32,6 +38,23 @@ fn load(file: &mut [u8]) -> usize
         filled += n;
     }
     filled
+}
+
+fn fetch(file: &mut [u8]) -> isize {
+    let got = libc::read(STDIN_FILENO, file);
+    if got < 0 {
+        os::fail(b"file not read");
+    }
+    got
+}
+
+// Bytes to standard output; that they were not written is told.
+fn written(bytes: &[u8]) -> bool {
+    if io::write_all(STDOUT_FILENO, bytes) {
+        return true;
+    }
+    os::fail(b"records not written");
+    false
 }
 
 // The file at the end of the bytes, or the number for which it is refused.
@@ -46,37 +69,53 @@ fn print(b: &[u8]) {
 }
 
 fn refused(number: u32) {
-    io::print_decimal(STDOUT_FILENO, number as u64);
-    io::write_all(STDOUT_FILENO, b"\n");
+    let mut text = [0u8; 20];
+    let n = io::decimal(number as u64, &mut text);
+    if written(&text[..n]) {
+        written(b"\n");
+    }
 }
 
 // From record to record of a part; the lines are collected and written when there are many.
 fn records(part: &[u8], n: u32, sites: u32, items: u32) {
     let mut lines = io::large_buffer();
-    let mut filled = 0usize;
+    let mut page = Page {
+        filled: 0,
+        well: true,
+    };
     let mut at = 0usize;
     let mut i = 0u32;
     while i < n {
         let r = history::record_from(part, at, sites, items);
         at = r.next;
-        filled = add(r, &mut lines, filled);
+        page = add(r, &mut lines, page.filled);
+        if !page.well {
+            return;
+        }
         i += 1;
     }
-    io::write_all(STDOUT_FILENO, &lines[..filled]);
+    let filled = page.filled;
+    written(&lines[..filled]);
 }
 
-// A record's line behind the others, which are written first where there is no room for one more. It answers where the lines end.
-fn add(r: Found, lines: &mut [u8], filled: usize) -> usize
+// A record's line behind the others, which are written first where there is no room for one more.
+fn add(r: Found, lines: &mut [u8], filled: usize) -> Page
     requires { ⌜ (filled ≤ 65536) × (length (now lines) ≡ 65536) ⌝ }
-    ensures { λ end. ⌜ end ≤ 65536 ⌝ }
+    ensures { λ page. ⌜ page .filled ≤ 65536 ⌝ }
 {
     let mut text = [0u8; ANSWER];
     let n = line(r, &mut text);
     if 65023 < filled {
-        io::write_all(STDOUT_FILENO, &lines[..filled]);
-        return append(&text[..n], lines, 0);
+        let well = written(&lines[..filled]);
+        return Page {
+            filled: append(&text[..n], lines, 0),
+            well,
+        };
     }
-    append(&text[..n], lines, filled)
+    Page {
+        filled: append(&text[..n], lines, filled),
+        well: true,
+    }
 }
 
 fn line(r: Found, text: &mut [u8; ANSWER]) -> usize

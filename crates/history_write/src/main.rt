@@ -1,13 +1,16 @@
 // The history of a script as a file: the lines of standard input are answered on standard error, and the history file is written to standard
 // output.
 use libc::STDERR_FILENO;
+use libc::STDIN_FILENO;
 use libc::STDOUT_FILENO;
 use network::WORDS;
 
+// Where the script was not read or answered to its end, there is no file.
 fn main() {
     let mut state = [0u32; WORDS];
-    console::run_on(&mut state, STDERR_FILENO);
-    save(&state);
+    if console::run_on(&mut state, STDIN_FILENO, STDERR_FILENO) {
+        save(&state);
+    }
 }
 
 // The buffer holds a full history: 256 records of 136 bytes and a trailer of 16. A refused export prints its number on standard error.
@@ -19,7 +22,9 @@ fn save(state: &[u32; WORDS]) {
         return;
     }
     let n = answer.length;
-    io::write_all(STDOUT_FILENO, &file[..n]);
+    if !io::write_all(STDOUT_FILENO, &file[..n]) {
+        os::fail(b"history not written");
+    }
 }
 
 fn refused(number: u32) {

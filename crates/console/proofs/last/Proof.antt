@@ -1,57 +1,51 @@
--- `last` answers what is held and writes it.
-use mathlib.Core.Path.{_≡_, sym, _∙_}
-use native.Mathlib.Omega.{arith}
-use lib.ListN.{length}
+use mathlib.Core.Path.{sym}
 use lib.Seq.{length-take-le}
-use Rattle.console.specs.Counts.{answersMost}
+use Rattle.decimal.proofs.Printing.{front-fits}
+use Rattle.console_lines.specs.Promises.{heldOf}
+use Rattle.console.proofs.Runs.{closed}
 use borrow.Author.Needs.{needs}
 use Rattle.console.proofs.last.Statement.{statement}
 use Rattle.console.proofs.last.Tie as tie
+use Rattle.console.proofs.last.Reads as reads
+use Rattle.console.proofs.last.Lts as lts
+use Rattle.console.proofs.written.Reads as written-reads
+use Rattle.console_lines.proofs.finish.Reads as finish-reads
 
-ended-requires : tie.Need-ended-requires
-ended-requires c κs = search needs
+-- src/lib.rt:128:9
+finish-requires : tie.Need-finish-requires
+finish-requires c κs = search needs
 
-returns : tie.Need-returns
-returns c = search needs
+-- src/lib.rt:134:28
+slice-reshare-prefix-written : tie.Need-slice-reshare-prefix-written
+slice-reshare-prefix-written c = front-fits (c .before .before .before .finish .ensures .effect .printed)
 
-answer-requires : tie.Need-answer-requires
-answer-requires c κs = search needs
+-- src/lib.rt:134:28
+slice-aggregate-written : tie.Need-slice-aggregate-written
+slice-aggregate-written c = let q = c .before .before .before .before .finish in sym (length-take-le (q .result .filled) (q .last .1 .1 .0) (front-fits (q .ensures .effect .printed)))
 
-slice-reshare-prefix-write-all : tie.Need-slice-reshare-prefix-write-all
-slice-reshare-prefix-write-all c = search needs
+-- src/lib.rt:134:15
+written-requires : tie.Need-written-requires
+written-requires c κs = search needs
 
-slice-aggregate-write-all : tie.Need-slice-aggregate-write-all
-slice-aggregate-write-all c =
-    let q = c .before .before .before .before .before .answer in
-    let size : length (q .last .1 .1 .1 .0) ≡ answersMost = q .kept .1 .1 .1 .0 ∙ c .before .before .before .before .before .before .before .before .before .before .before .before .before .pre .2 in
-    sym (length-take-le (q .result .filled) (q .last .1 .1 .1 .0) (omega (arith, q .ensures .filled)))
-
-write-all-requires : tie.Need-write-all-requires
-write-all-requires c κs = search needs
-
-ended-requires-2 : tie.Need-ended-requires-2
-ended-requires-2 c κs = search needs
-
+-- src/lib.rt:124:1
 same-length : tie.Need-same-length
 same-length c = search needs
 
-same-length-2 : tie.Need-same-length-2
-same-length-2 c = search needs
-
-returns-2 : tie.Need-returns-2
-returns-2 c = search needs
+-- src/lib.rt:124:1
+returns : tie.Need-returns
+returns c =
+    let S = c .before .before .before .before .before .before .before .before .before in
+    let A = S .args in
+    let q = c .before .before .before .before .before .finish in
+    closed (heldOf (A .held)) (A .state .now) (q .last .1 .0) (A .answers .now) (q .last .1 .1 .0) (q .result) (q .result .held) (c .written .result) (S .pre) (q .ensures)
 
 pub last-spec : {M : Type 1} → statement M
 last-spec =
     tie.close
     (tie.spec
-    ended-requires
-    returns
-    answer-requires
-    slice-reshare-prefix-write-all
-    slice-aggregate-write-all
-    write-all-requires
-    ended-requires-2
+    finish-requires
+    slice-reshare-prefix-written
+    slice-aggregate-written
+    written-requires
     same-length
-    same-length-2
-    returns-2)
+    returns)

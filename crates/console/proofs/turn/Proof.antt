@@ -1,74 +1,70 @@
--- `turn` writes what is collected.
-use mathlib.Core.Path.{sym}
-use native.Mathlib.Omega.{arith}
-use lib.Seq.{length-take-le}
+use mathlib.Core.Path.{refl}
+use mathlib.Core.Bool.{false}
+use Rattle.console_lines.specs.Promises.{heldOf}
+use Rattle.console.proofs.Runs.{went-none}
 use borrow.Author.Needs.{needs}
 use Rattle.console.proofs.turn.Statement.{statement}
 use Rattle.console.proofs.turn.Tie as tie
+use Rattle.console.proofs.turn.Reads as reads
+use Rattle.console.proofs.turn.Lts as lts
+use Rattle.console.proofs.fetch.Reads as fetch-reads
+use Rattle.console.proofs.last.Reads as last-reads
+use Rattle.console.proofs.reply.Reads as reply-reads
+use Rattle.io.proofs.count.Reads as count-reads
 
-slice-reshare-prefix-write-all : tie.Need-slice-reshare-prefix-write-all
-slice-reshare-prefix-write-all c = search needs
+-- src/lib.rt:66:9
+fetch-requires : tie.Need-fetch-requires
+fetch-requires c κs = search needs
 
-slice-aggregate-write-all : tie.Need-slice-aggregate-write-all
-slice-aggregate-write-all c = let A = c .before .before .before .args in sym (length-take-le (A .at .filled) (A .answers .now) (omega (arith, c .before .before .before .pre .0 .filled, c .before .before .before .pre .2)))
-
-write-all-requires : tie.Need-write-all-requires
-write-all-requires c κs = search needs
-
-ended-requires : tie.Need-ended-requires
-ended-requires c κs = search needs
-
+-- src/lib.rt:68:9
 same-length : tie.Need-same-length
 same-length c = search needs
 
+-- src/lib.rt:68:9
 returns : tie.Need-returns
-returns c = search needs
+returns c = let A = c .before .before .before .before .before .before .before .args in went-none (heldOf (A .held)) (A .state .now) (record { held = A .held; more = false; well = false }) refl
 
-large-buffer-requires : tie.Need-large-buffer-requires
-large-buffer-requires c κs = search needs
-
-slice-aggregate-read : tie.Need-slice-aggregate-read
-slice-aggregate-read c = search needs
-
-read-requires : tie.Need-read-requires
-read-requires c κs = search needs
-
-slice-aggregate-count : tie.Need-slice-aggregate-count
-slice-aggregate-count c = search needs
-
+-- src/lib.rt:74:9
 count-requires : tie.Need-count-requires
 count-requires c κs = search needs
 
-begun-requires : tie.Need-begun-requires
-begun-requires c κs = search needs
-
+-- src/lib.rt:76:9
 last-requires : tie.Need-last-requires
 last-requires c κs = search needs
 
+-- src/lib.rt:76:9
 same-length-2 : tie.Need-same-length-2
 same-length-2 c = search needs
 
+-- src/lib.rt:76:9
 same-length-3 : tie.Need-same-length-3
 same-length-3 c = search needs
 
+-- src/lib.rt:76:9
 returns-2 : tie.Need-returns-2
 returns-2 c = search needs
 
-array-share-prefix-block : tie.Need-array-share-prefix-block
-array-share-prefix-block c = search needs
+-- src/lib.rt:78:11
+slice-reshare-prefix-reply : tie.Need-slice-reshare-prefix-reply
+slice-reshare-prefix-reply c = search needs
 
-slice-aggregate-feed : tie.Need-slice-aggregate-feed
-slice-aggregate-feed c = search needs
+-- src/lib.rt:78:11
+slice-aggregate-reply : tie.Need-slice-aggregate-reply
+slice-aggregate-reply c = search needs
 
-feed-requires : tie.Need-feed-requires
-feed-requires c κs = search needs
+-- src/lib.rt:78:5
+reply-requires : tie.Need-reply-requires
+reply-requires c κs = search needs
 
+-- src/lib.rt:55:1
 same-length-4 : tie.Need-same-length-4
 same-length-4 c = search needs
 
+-- src/lib.rt:55:1
 same-length-5 : tie.Need-same-length-5
 same-length-5 c = search needs
 
+-- src/lib.rt:55:1
 returns-3 : tie.Need-returns-3
 returns-3 c = search needs
 
@@ -76,25 +72,17 @@ pub turn-spec : {M : Type 1} → statement M
 turn-spec =
     tie.close
     (tie.spec
-    slice-reshare-prefix-write-all
-    slice-aggregate-write-all
-    write-all-requires
-    ended-requires
+    fetch-requires
     same-length
     returns
-    large-buffer-requires
-    slice-aggregate-read
-    read-requires
-    slice-aggregate-count
     count-requires
-    begun-requires
     last-requires
     same-length-2
     same-length-3
     returns-2
-    array-share-prefix-block
-    slice-aggregate-feed
-    feed-requires
+    slice-reshare-prefix-reply
+    slice-aggregate-reply
+    reply-requires
     same-length-4
     same-length-5
     returns-3)

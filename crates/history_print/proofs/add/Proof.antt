@@ -10,14 +10,14 @@ use Rattle.history_print.proofs.add.Tie as tie
 line-requires : tie.Need-line-requires
 line-requires c κs = search needs
 
-slice-reshare-prefix-write-all : tie.Need-slice-reshare-prefix-write-all
-slice-reshare-prefix-write-all c = search needs
+slice-reshare-prefix-written : tie.Need-slice-reshare-prefix-written
+slice-reshare-prefix-written c = search needs
 
-slice-aggregate-write-all : tie.Need-slice-aggregate-write-all
-slice-aggregate-write-all c = let A = c .before .before .before .before .before .args in sym (length-take-le (A .filled) (A .lines .now) (omega (arith, c .before .before .before .before .before .pre)))
+slice-aggregate-written : tie.Need-slice-aggregate-written
+slice-aggregate-written c = let A = c .before .before .before .before .before .args in sym (length-take-le (A .filled) (A .lines .now) (omega (arith, c .before .before .before .before .before .pre)))
 
-write-all-requires : tie.Need-write-all-requires
-write-all-requires c κs = search needs
+written-requires : tie.Need-written-requires
+written-requires c κs = search needs
 
 array-share-prefix-text : tie.Need-array-share-prefix-text
 array-share-prefix-text c = search needs
@@ -54,9 +54,9 @@ add-spec =
     tie.close
     (tie.spec
     line-requires
-    slice-reshare-prefix-write-all
-    slice-aggregate-write-all
-    write-all-requires
+    slice-reshare-prefix-written
+    slice-aggregate-written
+    written-requires
     array-share-prefix-text
     slice-aggregate-append
     append-requires

@@ -12,11 +12,11 @@ slice-aggregate-load c = search needs
 load-requires : tie.Need-load-requires
 load-requires c κs = search needs
 
-slice-aggregate-write-all : tie.Need-slice-aggregate-write-all
-slice-aggregate-write-all c = search needs
+slice-aggregate-written : tie.Need-slice-aggregate-written
+slice-aggregate-written c = search needs
 
-write-all-requires : tie.Need-write-all-requires
-write-all-requires c κs = search needs
+written-requires : tie.Need-written-requires
+written-requires c κs = search needs
 
 returns : tie.Need-returns
 returns c = search needs
@@ -39,8 +39,8 @@ main-spec =
     (tie.spec
     slice-aggregate-load
     load-requires
-    slice-aggregate-write-all
-    write-all-requires
+    slice-aggregate-written
+    written-requires
     returns
     array-share-prefix-file
     slice-aggregate-print

@@ -9,10 +9,10 @@ use Rattle.history_print.proofs.records.Statement.{statement}
 use Rattle.history_print.proofs.records.Tie as tie
 
 abbrev Inv-loop : tie.InvT-loop
-Inv-loop part n sites items lines₀ filled₀ at₀ i₀ lines filled at i = (i ≤ n) × (filled ≤ 65536) × (length lines ≡ 65536)
+Inv-loop part n sites items lines₀ page₀ at₀ i₀ lines page at i = (i ≤ n) × (page .filled ≤ 65536) × (length lines ≡ 65536)
 
 abbrev μ-loop : tie.MeasureT-loop
-μ-loop part n sites items lines₀ filled₀ at₀ i₀ lines filled at i = n - i
+μ-loop part n sites items lines₀ page₀ at₀ i₀ lines page at i = n - i
 
 large-buffer-requires : tie.Need-large-buffer-requires Inv-loop μ-loop
 large-buffer-requires c κs = search needs
@@ -29,6 +29,9 @@ slice-aggregate-add c = search needs
 add-requires : tie.Need-add-requires Inv-loop μ-loop
 add-requires c κs = search needs
 
+returns : tie.Need-returns Inv-loop μ-loop
+returns c = search needs
+
 add-i : tie.Need-add-i Inv-loop μ-loop
 add-i c = search needs
 
@@ -41,14 +44,14 @@ loop-again c = search needs
 array-share-prefix-lines : tie.Need-array-share-prefix-lines Inv-loop μ-loop
 array-share-prefix-lines c = search needs
 
-slice-aggregate-write-all : tie.Need-slice-aggregate-write-all Inv-loop μ-loop
-slice-aggregate-write-all c = sym (length-take-le (c .before .before .loop .filled) (c .before .before .loop .lines) (omega (arith, c .before .before .loop .inv .1, c .before .before .loop .inv .2)))
+slice-aggregate-written : tie.Need-slice-aggregate-written Inv-loop μ-loop
+slice-aggregate-written c = sym (length-take-le (c .before .before .loop .page .filled) (c .before .before .loop .lines) (omega (arith, c .before .before .loop .inv .1, c .before .before .loop .inv .2)))
 
-write-all-requires : tie.Need-write-all-requires Inv-loop μ-loop
-write-all-requires c κs = search needs
+written-requires : tie.Need-written-requires Inv-loop μ-loop
+written-requires c κs = search needs
 
-returns : tie.Need-returns Inv-loop μ-loop
-returns c = search needs
+returns-2 : tie.Need-returns-2 Inv-loop μ-loop
+returns-2 c = search needs
 
 pub records-spec : {M : Type 1} → statement M
 records-spec =
@@ -61,10 +64,11 @@ records-spec =
     record-from-requires
     slice-aggregate-add
     add-requires
+    returns
     add-i
     loop-less
     loop-again
     array-share-prefix-lines
-    slice-aggregate-write-all
-    write-all-requires
-    returns)
+    slice-aggregate-written
+    written-requires
+    returns-2)

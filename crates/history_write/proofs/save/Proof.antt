@@ -51,8 +51,17 @@ slice-aggregate-write-all c = sym (length-take-le (c .before .before .before .be
 write-all-requires : tie.Need-write-all-requires
 write-all-requires c κs = search needs
 
+slice-aggregate-fail : tie.Need-slice-aggregate-fail
+slice-aggregate-fail c = search needs
+
+fail-requires : tie.Need-fail-requires
+fail-requires c κs = search needs
+
 returns-2 : tie.Need-returns-2
 returns-2 c = search needs
+
+returns-3 : tie.Need-returns-3
+returns-3 c = search needs
 
 pub save-spec : {M : Type 1} → statement M
 save-spec =
@@ -65,4 +74,7 @@ save-spec =
     array-share-prefix-file
     slice-aggregate-write-all
     write-all-requires
-    returns-2)
+    slice-aggregate-fail
+    fail-requires
+    returns-2
+    returns-3)

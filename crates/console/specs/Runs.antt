@@ -1,0 +1,31 @@
+-- What a run leaves of the state. No contract can say which bytes are read: it is the network after the lines of some bytes.
+use mathlib.Core.Path.{_≡_}
+use mathlib.Core.Bool.{true}
+use mathlib.Core.List.{List, []}
+use Prim.Native.Nat.{ℕ}
+use Rattle.network_layout.specs.InWords.{meaning}
+use Rattle.console_lines.specs.Lines.{cut, ending, afterLines, told}
+use Rattle.console_lines.specs.Promises.{heldOf}
+use Rattle.console.specs.declared.Run.{Run}
+
+-- the words mean the network after the lines of some bytes
+pub record Ran (entry exit : List ℕ) : Type 0 where
+  pub input : List ℕ
+  pub after-is : meaning exit ≡ afterLines (meaning entry) (cut [] input .lines)
+
+-- ---- inner functions
+-- some bytes were answered behind what was held; where the run goes on, what is held then is theirs
+pub record Went (line entry exit : List ℕ) (r : Run) : Type 0 where
+  pub bytes : List ℕ
+  pub after-is : meaning exit ≡ told (meaning entry) line bytes .after
+  pub held-is : r .more ≡ true → heldOf (r .held) ≡ told (meaning entry) line bytes .held
+
+-- where the run goes on, they are a whole block
+pub record Replied (block line entry exit : List ℕ) (r : Run) : Type 0 where
+  pub went : Went line entry exit r
+  pub whole : r .more ≡ true → went .bytes ≡ block
+
+-- they are what the end of a script adds
+pub record Closed (line entry exit : List ℕ) (r : Run) : Type 0 where
+  pub went : Went line entry exit r
+  pub whole : went .bytes ≡ ending line

@@ -1,4 +1,0 @@
-// An empty input, which is answered by nothing.
-fn main() {
-    console::run();
-}
