@@ -13,8 +13,12 @@ use Rattle.script_notation.specs.Fields.{position, fields}
 use Rattle.script_notation.specs.Parse.{all, operation, placed, called, parse}
 use Rattle.script_notation.specs.Print.{tuplesText, spaced, print}
 use Rattle.script_notation.specs.Answers.{answer, answers}
-use Rattle.script_notation.specs.Examples.{Holds, table}
+use Rattle.script_notation.specs.Examples.{Holds, table, LongHold}
 
 pub examples-hold : Holds table
 unfolding lastDigits digits valueFrom natural signed appendedOrSame raisedOrSame orderBy tuplesOrder pairOrder numberOrder work itemNumber isLine hasParents placeOf setUpNumber setUpNetwork commitNumber commitNetwork deliverNumber deliverNetwork scheduleNumber scheduleNetwork earliest perform position fields all operation placed called parse tuplesText spaced print answer answers
 examples-hold = record { lines-hold = refl; pairs-hold = comparisons-hold }
+
+pub long-hold : LongHold
+unfolding valueFrom natural lastDigits digits setUpNumber perform position fields all placed called parse print answer answers
+long-hold = record { long-lines = refl }

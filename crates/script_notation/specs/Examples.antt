@@ -3,7 +3,7 @@
 use mathlib.Core.Path.{_≡_}
 use mathlib.Core.List.{List, [], _∷_, map}
 use mathlib.Core.Option.{none}
-use Prim.Native.Nat.{ℕ}
+use Prim.Native.Nat.{ℕ, zero, suc}
 use lib.ListN.{length, replicate}
 use Rattle.timestamp.specs.declared.Order.the-variants.{Earlier}
 use Rattle.timestamp.specs.Order.{order}
@@ -40,3 +40,17 @@ table = record { lines = tenLines; pairs = comparisons }
 pub record Holds (t : Table) : Type 0 where
   pub lines-hold : answers none (map (λ (l : ScriptLine). l .input) (t .lines)) ≡ map (λ (l : ScriptLine). l .output) (t .lines)
   pub pairs-hold : map (λ (c : Comparison). order (c .first) (c .second)) (t .pairs) ≡ replicate (length (t .pairs)) Earlier
+
+-- ---- beside the table: the longest line goes to its call, which refuses the lists of 126 for 10 items; with a byte more it does not
+abbrev pub zeros : ℕ → List ℕ
+zeros zero = []
+zeros (suc n) = 32 ∷ 48 ∷ zeros n
+
+abbrev pub longLines : List ScriptLine
+longLines =
+    record { input = 112 ∷ 32 ∷ 49 ∷ 32 ∷ 49 ∷ 48 ∷ 32 ∷ 49 ∷ 48 ∷ 32 ∷ 49 ∷ 48 ∷ zeros 250; output = 50 ∷ [] }  -- p 1 10 10 10 0 .. 0, 512 bytes | 2
+    ∷ record { input = 112 ∷ 32 ∷ 49 ∷ 32 ∷ 49 ∷ 48 ∷ 48 ∷ 32 ∷ 49 ∷ 48 ∷ 32 ∷ 49 ∷ 48 ∷ zeros 250; output = 63 ∷ [] }  -- p 1 100 10 10 0 .. 0, 513 bytes | ?
+    ∷ []
+
+pub record LongHold : Type 0 where
+  pub long-lines : answers none (map (λ (l : ScriptLine). l .input) longLines) ≡ map (λ (l : ScriptLine). l .output) longLines
