@@ -22,9 +22,9 @@ use Rattle.lines.specs.InWords.{messageOf}
 use Rattle.protocol.specs.Network.{Network, noRecord, lineNumber, messageStamp, placeOf, messageFits}
 use Rattle.protocol.specs.Steps.{noSuchSite, lacksArrived, scheduleNumber, head, headStamp, headEarlier, earlierOf, earliest}
 use Rattle.network_layout.specs.InWords.{networkIn}
-use Rattle.network_layout.specs.At.{AtSite, AtLine, AtRecord}
+use Rattle.network_layout.specs.At.{AtSite, AtLine}
 use Rattle.network_choice.specs.Choice.{Best, parentsMask, Choosing}
-use Rattle.network_layout.proofs.OnNetwork.{well-on, few-on, at-site, at-line, at-record}
+use Rattle.network_layout.proofs.OnNetwork.{well-on, few-on, at-site, at-line}
 use Rattle.protocol.proofs.WellShaped.{Shape, shape-parts}
 use Rattle.protocol.proofs.Allowed.{schedule-allowed}
 use Rattle.protocol.proofs.Chosen.{parent-ends, parent-fits, chosen-line}
@@ -127,11 +127,11 @@ module _ (w : List ℕ) (j : ℕ) (free : Choosing w j) where
         pub head-commit : commit (m .name) ≡ head net p j
         head-commit = sym (ap (λ (b : Bool). cond b (commit (m .name)) (dummy (stampOf (m .stamp)))) (lt-ltb (m .name) recordsMost h)) ∙ read
 
-        pub head-record : (i : ℕ) → i ≡ m .name → AtRecord w i
-        head-record i same =
+        pub head-recorded : m .name < length (net .history)
+        head-recorded =
             let held = ltb (m .name) (length (net .history)) in
             let fits : messageFits (placeOf (net .items)) (net .history) p (commit (m .name)) ≡ true = ap (messageFits (placeOf (net .items)) (net .history) p) head-commit ∙ parent-fits net j (few-on w (free .net)) well (free .none) p line in
-            at-record w (free .net) (m .name) i same (ltb-true (m .name) (length (net .history)) (and-true held (eqb (getD (net .history) (m .name) noRecord .site) p) fits .0))
+            ltb-true (m .name) (length (net .history)) (and-true held (eqb (getD (net .history) (m .name) noRecord .site) p) fits .0)
 
         pub stamp-commit : (t : Stamp) (i : ℕ) → i ≡ m .name → t ≡ getD (net .history) i noRecord .stamp → t ≡ headStamp net p j
         stamp-commit t i same e = e ∙ ap (λ (x : ℕ). getD (net .history) x noRecord .stamp) same ∙ ap (messageStamp (net .history)) head-commit

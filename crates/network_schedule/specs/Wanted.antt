@@ -3,13 +3,14 @@ use mathlib.Core.Path.{_≡_}
 use mathlib.Core.Bool.{Bool, _&&_}
 use mathlib.Core.List.{List}
 use Prim.Native.Nat.{ℕ, _≤_, _<_}
+use lib.ListN.{length}
 use Rattle.lists.specs.Lists.{keep}
 use Rattle.limits.specs.Limits.{opsMost}
 use Rattle.site.specs.Operations.{Op, writes}
 use Rattle.site.specs.InWords.{opsIn}
 use Rattle.placement.specs.Placement.{Item, copies}
 use Rattle.network_layout.specs.InWords.{networkIn}
-use Rattle.network_layout.specs.At.{AtState}
+use Rattle.network_layout.specs.At.{AtState, AtNetwork}
 
 -- a write to an item that has a copy at j
 abbrev pub wantedAt : List Item → ℕ → Op → Bool
@@ -21,6 +22,11 @@ pub record Laid (most count : ℕ) (out : List ℕ) (os : List Op) : Type 0 wher
   pub are : opsIn count out ≡ os
 
 -- ---- what is asked
+-- the words of a network, and a record of its history
+pub record Recorded (w : List ℕ) (k : ℕ) : Type 0 where
+  pub net : AtNetwork w
+  pub there : k < length (networkIn w .history)
+
 pub record Wanting (w : List ℕ) (n : ℕ) : Type 0 where
   pub at : AtState w
   pub few : n ≤ opsMost

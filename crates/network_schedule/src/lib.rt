@@ -16,11 +16,11 @@ ghost use Rattle.protocol.specs.Steps.{head, writesFor};
 ghost use Rattle.protocol.specs.Calls.{schedule as scheduleCall};
 ghost use Rattle.network_layout.specs.Layout.{stateSize};
 ghost use Rattle.network_layout.specs.InWords.{networkIn, SiteStep};
-ghost use Rattle.network_layout.specs.At.{AtRecord, AtNetwork};
+ghost use Rattle.network_layout.specs.At.{AtNetwork};
 ghost use Rattle.network_layout.specs.Promises.{Performed, Blank};
 ghost use Rattle.network_choice.specs.Choice.{Choosing, ChoosingFrom};
 ghost use Rattle.network_schedule.specs.Answers.{Refused, Accepted};
-ghost use Rattle.network_schedule.specs.Wanted.{wantedAt, Laid, Wanting, Gathering, Copying};
+ghost use Rattle.network_schedule.specs.Wanted.{wantedAt, Laid, Recorded, Wanting, Gathering, Copying};
 
 // Operations in words, three each: the first `count` of eight.
 struct Writes {
@@ -116,7 +116,7 @@ fn head_writes(state: &[u32], p: u32, j: u32) -> Writes
 
 // Those of record k.
 fn record_writes(state: &[u32], k: usize, j: u32) -> Writes
-    requires { ⌜ AtRecord (now state) k ⌝ }
+    requires { ⌜ Recorded (now state) k ⌝ }
     ensures { λ r. ⌜ Laid opsMost (r .count) (r .ops) (keep (wantedAt (networkIn (now (state .entry)) .items) j) (getD (networkIn (now (state .entry)) .history) k noRecord .ops)) ⌝ }
 {
     let n = network_access::record_count(state, k);

@@ -1,9 +1,10 @@
 -- `head_writes` reads the line's oldest message: the record that it names has its writes, or it has none.
+use native.Mathlib.Omega.{arith}
 use Rattle.timestamp.specs.Timestamp.{stampOf}
 use Rattle.protocol.specs.Steps.{head}
 use Rattle.network_layout.specs.InWords.{networkIn}
 use Rattle.network_layout.specs.At.{AtLine}
-use Rattle.network_choice.proofs.ChoiceLaws.{parent-line, head-dummy, head-commit, head-record}
+use Rattle.network_choice.proofs.ChoiceLaws.{parent-line, head-dummy, head-commit, head-recorded}
 use Rattle.network_schedule.proofs.ScheduleLaws.{laid-dummy, laid-commit}
 use borrow.Author.Needs.{needs}
 use Rattle.network_schedule.proofs.head_writes.Statement.{statement}
@@ -39,7 +40,8 @@ record-writes-requires c κs =
     let A = start .args in
     let k = read .before .line-number in
     let m = read .line-first in
-    head-record (A .state .now) (A .j) (start .pre .free) (A .p) (start .pre .line) (k .result) (k .ensures) (m .result) (m .ensures) (c .before .if1 .left) (c .wide .result) (c .wide .ensures)
+    let held = head-recorded (A .state .now) (A .j) (start .pre .free) (A .p) (start .pre .line) (k .result) (k .ensures) (m .result) (m .ensures) (c .before .if1 .left) in
+    record { net = start .pre .free .net; there = omega (arith, held, c .wide .ensures) }
 
 returns-2 : tie.Need-returns-2
 returns-2 c =

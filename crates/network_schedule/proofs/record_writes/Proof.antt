@@ -1,7 +1,10 @@
 -- `record_writes` reads the operations of a record and takes those that are wanted.
+use mathlib.Core.Path.{refl}
 use lib.ListN.{getD}
 use Rattle.protocol.specs.Network.{noRecord}
 use Rattle.network_layout.specs.InWords.{networkIn}
+use Rattle.network_layout.specs.At.{AtRecord}
+use Rattle.network_layout.proofs.OnNetwork.{at-state, at-record}
 use Rattle.network_schedule.specs.Wanted.{wantedAt}
 use Rattle.network_schedule.proofs.ScheduleLaws.{laid-record}
 use borrow.Author.Needs.{needs}
@@ -9,16 +12,27 @@ use Rattle.network_schedule.proofs.record_writes.Statement.{statement}
 use Rattle.network_schedule.proofs.record_writes.Tie as tie
 
 record-count-requires : tie.Need-record-count-requires
-record-count-requires c κs = search needs
+record-count-requires c κs =
+    let start = c .before in
+    let A = start .args in
+    let at : AtRecord (A .state .now) (A .k) = at-record (A .state .now) (start .pre .net) (A .k) (A .k) refl (start .pre .there) in
+    search needs
 
 record-ops-requires : tie.Need-record-ops-requires
-record-ops-requires c κs = search needs
+record-ops-requires c κs =
+    let start = c .before .before in
+    let A = start .args in
+    let at : AtRecord (A .state .now) (A .k) = at-record (A .state .now) (start .pre .net) (A .k) (A .k) refl (start .pre .there) in
+    search needs
 
 slice-aggregate-wanted : tie.Need-slice-aggregate-wanted
 slice-aggregate-wanted c = search needs
 
 wanted-requires : tie.Need-wanted-requires
-wanted-requires c κs = search needs
+wanted-requires c κs =
+    let counted = c .before .before in
+    let start = counted .before .before in
+    record { at = at-state (start .args .state .now) (start .pre .net); few = counted .record-count .ensures .1 }
 
 returns : tie.Need-returns
 returns c =
