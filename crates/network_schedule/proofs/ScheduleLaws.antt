@@ -17,9 +17,9 @@ use mir.Syntax.{w32}
 use Rattle.timestamp.specs.Timestamp.{Stamp, appendedOrSame, ownSite, ownCount}
 use Rattle.site.specs.Operations.{Op, writes, work, worked}
 use Rattle.site.specs.Site.{received}
-use Rattle.site.specs.InWords.{opAt, opsIn}
+use Rattle.site.specs.InWords.{opAt, opOf, opsIn}
 use Rattle.limits.specs.Limits.{opsMost, sitesMost, recordsMost}
-use Rattle.site.proofs.Laws.{opOf, op-word, ops-last}
+use Rattle.site.proofs.Laws.{op-word, ops-last}
 use Rattle.placement.specs.Masks.{bit}
 use Rattle.placement.specs.Placement.{Item, noItem, copies, isLine}
 use Rattle.placement.specs.InWords.{itemSize, itemIn, itemAt}

@@ -71,7 +71,7 @@ fn receive(state: &mut [u32], p: u32, j: u32, t: Timestamp)
         return;
     }
     let k = words::wide(m.name);
-    let n = network_access::record_count(state, k);
+    let n = network_access::operation_count(state, k);
     let ops = network_access::record_ops(state, k);
     let out = wanted(&state[ITEMS..SITES], &ops, n, j);
     network_access::site_receive(state, site, &out, n, t);

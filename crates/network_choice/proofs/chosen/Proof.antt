@@ -18,7 +18,7 @@ abbrev μ-loop : tie.MeasureT-loop
 μ-loop state j mask best₀ p₀ best p = sitesMost - p
 
 parents-requires : tie.Need-parents-requires Inv-loop μ-loop
-parents-requires c κs = (c .before .pre .0, schedule-range (c .before .args .state .now) (c .before .args .j) (c .before .pre .1))
+parents-requires c κs = record { sized = c .before .pre .0; ranged = schedule-range (c .before .args .state .now) (c .before .args .j) (c .before .pre .1) }
 
 no-stamp-requires : tie.Need-no-stamp-requires Inv-loop μ-loop
 no-stamp-requires c κs = search needs

@@ -6,7 +6,7 @@ use lib.ListN.{getD}
 use Rattle.timestamp.specs.Timestamp.{stampOf}
 use Rattle.protocol.specs.Network.{lineNumber, noRecord}
 use Rattle.network_layout.specs.InWords.{networkIn}
-use Rattle.network_choice.proofs.ChoiceLaws.{schedule-range, line-there, head-recorded, stamp-commit, stamp-dummy}
+use Rattle.network_choice.proofs.ChoiceLaws.{line-there, head-recorded, stamp-commit, stamp-dummy}
 use borrow.Author.Needs.{needs}
 use Rattle.network_choice.proofs.head_stamp.Statement.{statement}
 use Rattle.network_choice.proofs.head_stamp.Tie as tie
@@ -24,7 +24,7 @@ add-k : tie.Need-add-k
 add-k c = search needs
 
 line-first-requires : tie.Need-line-first-requires
-line-first-requires c κs = (c .before .before .before .pre .0, line-there (c .before .before .before .args .state .now) (c .before .before .before .args .j) (c .before .before .before .pre .1) (c .before .before .before .args .p) (c .before .before .before .pre .2) _ (omega (arith, c .before .wide .ensures, c .wide2 .ensures)))
+line-first-requires c κs = record { sized = c .before .before .before .pre .0; few = line-there (c .before .before .before .args .state .now) (c .before .before .before .args .j) (c .before .before .before .pre .1) (c .before .before .before .args .p) (c .before .before .before .pre .2) _ (omega (arith, c .before .wide .ensures, c .wide2 .ensures)) }
 
 wide-requires-3 : tie.Need-wide-requires-3
 wide-requires-3 c κs = search needs
@@ -36,7 +36,7 @@ record-stamp-requires c κs =
     let m = c .before .before .before .line-first .result in
     let at : c .before .before .before .before .before .wide .result * 8 + c .before .before .before .before .wide2 .result ≡ lineNumber (A .p) (A .j) = omega (arith, c .before .before .before .before .before .wide .ensures, c .before .before .before .before .wide2 .ensures) in
     let low = head-recorded w (A .j) (c .before .before .before .before .before .before .before .pre .1) (A .p) (c .before .before .before .before .before .before .before .pre .2) (c .before .before .before .before .before .wide .result * 8 + c .before .before .before .before .wide2 .result) at (m .name) (stampOf (m .stamp)) (c .before .before .before .line-first .ensures) (c .before .if1 .taken) in
-    (c .before .before .before .before .before .before .before .pre .0, schedule-range w (A .j) (c .before .before .before .before .before .before .before .pre .1), omega (arith, low, c .wide3 .ensures), omega (arith, c .before .if1 .taken, c .wide3 .ensures))
+    record { sized = c .before .before .before .before .before .before .before .pre .0; there = omega (arith, low, c .wide3 .ensures); few = omega (arith, c .before .if1 .taken, c .wide3 .ensures) }
 
 returns : tie.Need-returns
 returns c =

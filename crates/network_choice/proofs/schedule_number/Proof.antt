@@ -40,7 +40,7 @@ returns-2 c =
     sym (number-shaped (A .state .now) (λ m. scheduleNumber m (A .j)) (well (c .before .before)) ∙ no-site n (A .j) (flip-false (c .before .is-site .result) (noSuchSite n (A .j)) (c .before .is-site .ensures) (not-true (c .before .is-site .result) (c .if2 .taken))))
 
 has-parents-requires : tie.Need-has-parents-requires
-has-parents-requires c κs = (c .before .before .before .before .before .pre, shaped-range (c .before .before .before .before .before .args .state .now) (well (c .before .before)))
+has-parents-requires c κs = record { sized = c .before .before .before .before .before .pre; ranged = shaped-range (c .before .before .before .before .before .args .state .now) (well (c .before .before)) }
 
 returns-3 : tie.Need-returns-3
 returns-3 c =

@@ -61,7 +61,7 @@ returns-3 c =
 count-at-most-requires : tie.Need-count-at-most-requires
 count-at-most-requires c κs =
     let b = site-below (c .before .before .before .before .before .before .before .before .before .before .args .state .now) (c .before .before .before .before .before .before .before .before .before .before .pre .1) (c .before .before .before .before .before .before .before .before .before .before .args .site) (c .before .before .before .before .before .before .before .before .before .before .pre .2) in
-    (c .before .before .before .before .before .before .before .before .before .before .pre .0, c .before .before .before .before .before .before .before .before .before .before .pre .1, omega (arith, c .before .before .wide .ensures, b .0), omega (arith, c .before .before .wide .ensures, b .1))
+    record { sized = c .before .before .before .before .before .before .before .before .before .before .pre .0; ranged = c .before .before .before .before .before .before .before .before .before .before .pre .1; there = omega (arith, c .before .before .wide .ensures, b .0); few = omega (arith, c .before .before .wide .ensures, b .1) }
 
 returns-4 : tie.Need-returns-4
 returns-4 c =

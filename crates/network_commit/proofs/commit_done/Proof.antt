@@ -101,20 +101,20 @@ due-mask-requires c κs = (c .before .before .before .before .before .pre .0, re
 site-commit-requires : tie.Need-site-commit-requires
 site-commit-requires c κs =
     let r = ready (c .before .before .before .before .before .before .before) in
-    (c .before .before .before .before .before .before .before .pre .0, r .range, omega (arith, c .before .before .before .before .wide .ensures, r .site), omega (arith, c .before .before .before .before .wide .ensures, r .low))
+    record { sized = c .before .before .before .before .before .before .before .pre .0; ranged = r .range; there = omega (arith, c .before .before .before .before .wide .ensures, r .site); few = omega (arith, c .before .before .before .before .wide .ensures, r .low) }
 
 site-stamp-requires : tie.Need-site-stamp-requires
 site-stamp-requires c κs =
     let r = ready (c .before .before .before .before .before .before .before .before .before .before .before) in
     let A = c .before .before .before .before .before .before .before .before .before .before .before .args in
     let s = stepped (c .before .before .before) in
-    (c .before .before .before .site-commit .kept .0 ∙ c .before .before .before .before .before .before .before .before .before .before .before .pre .0, s .ranged, omega (arith, c .before .before .before .before .before .before .before .before .wide .ensures, r .site, site-step-below (A .state .now) (c .before .before .before .site-commit .last .0) (A .site) (committed (opsIn (A .n) (A .ops .now))) s), omega (arith, c .before .before .before .before .before .before .before .before .wide .ensures, r .low))
+    record { sized = c .before .before .before .site-commit .kept .0 ∙ c .before .before .before .before .before .before .before .before .before .before .before .pre .0; ranged = s .ranged; there = omega (arith, c .before .before .before .before .before .before .before .before .wide .ensures, r .site, site-step-below (A .state .now) (c .before .before .before .site-commit .last .0) (A .site) (committed (opsIn (A .n) (A .ops .now))) s); few = omega (arith, c .before .before .before .before .before .before .before .before .wide .ensures, r .low) }
 
 short-requires : tie.Need-short-requires
 short-requires c κs = search needs
 
 add-record-requires : tie.Need-add-record-requires
-add-record-requires c κs = (c .before .before .before .before .before .before .before .site-commit .kept .0 ∙ c .before .before .before .before .before .before .before .before .before .before .before .before .before .before .before .pre .0, stepped (c .before .before .before .before .before .before .before) .ranged, booked (c .before .before .before .before .before .before .before), omega (arith, c .before .short .ensures, c .before .before .before .before .before .before .before .before .before .before .before .before .before .before .before .pre .3), omega (arith, c .before .short .ensures, c .before .before .before .before .before .before .before .before .before .before .before .before .before .before .before .pre .4))
+add-record-requires c κs = record { sized = c .before .before .before .before .before .before .before .site-commit .kept .0 ∙ c .before .before .before .before .before .before .before .before .before .before .before .before .before .before .before .pre .0; ranged = stepped (c .before .before .before .before .before .before .before) .ranged; room = booked (c .before .before .before .before .before .before .before); some = omega (arith, c .before .short .ensures, c .before .before .before .before .before .before .before .before .before .before .before .before .before .before .before .pre .3); few = omega (arith, c .before .short .ensures, c .before .before .before .before .before .before .before .before .before .before .before .before .before .before .before .pre .4) }
 
 send-all-requires : tie.Need-send-all-requires
 send-all-requires c κs =

@@ -38,7 +38,7 @@ line-deliver-requires : tie.Need-line-deliver-requires
 line-deliver-requires c κs =
     let A = c .before .before .before .before .before .before .before .args in
     let z = zero-number (c .before .before .before) in
-    (c .before .before .before .before .before .before .before .pre, omega (arith, c .before .before .wide .ensures, c .before .wide2 .ensures, deliver-sites (A .state .now) (A .parent) (A .child) z), deliver-range (A .state .now) (A .parent) (A .child) z)
+    record { sized = c .before .before .before .before .before .before .before .pre; few = omega (arith, c .before .before .wide .ensures, c .before .wide2 .ensures, deliver-sites (A .state .now) (A .parent) (A .child) z); ranged = deliver-range (A .state .now) (A .parent) (A .child) z }
 
 same-length-2 : tie.Need-same-length-2
 same-length-2 c = search needs

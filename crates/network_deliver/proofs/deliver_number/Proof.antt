@@ -70,7 +70,7 @@ returns-3 c =
     sym (number-shaped (A .state .now) (λ n. deliverNumber n (A .parent) (A .child)) sh ∙ no-child n (A .parent) (A .child) a (flip-false (c .before .is-site2 .result) (noSuchSite n (A .child)) (c .before .is-site2 .ensures) (not-true (c .before .is-site2 .result) (c .if3 .taken))))
 
 is-line-requires : tie.Need-is-line-requires
-is-line-requires c κs = (c .before .before .before .before .before .before .before .pre, shaped-range (c .before .before .before .before .before .before .before .args .state .now) (sym (c .before .before .before .before .before .shaped .ensures) ∙ not-false (c .before .before .before .before .before .shaped .result) (c .before .before .before .before .if1 .left)))
+is-line-requires c κs = record { sized = c .before .before .before .before .before .before .before .pre; ranged = shaped-range (c .before .before .before .before .before .before .before .args .state .now) (sym (c .before .before .before .before .before .shaped .ensures) ∙ not-false (c .before .before .before .before .before .shaped .result) (c .before .before .before .before .if1 .left)) }
 
 returns-4 : tie.Need-returns-4
 returns-4 c =
@@ -94,10 +94,10 @@ add-k : tie.Need-add-k
 add-k c = search needs
 
 line-held-requires : tie.Need-line-held-requires
-line-held-requires c κs = (c .before .before .before .before .before .before .before .before .before .before .before .pre, omega (arith, c .before .wide .ensures, c .wide2 .ensures, there (c .before .before) .low))
+line-held-requires c κs = record { sized = c .before .before .before .before .before .before .before .before .before .before .before .pre; few = omega (arith, c .before .wide .ensures, c .wide2 .ensures, there (c .before .before) .low) }
 
 line-arrived-requires : tie.Need-line-arrived-requires
-line-arrived-requires c κs = (c .before .before .before .before .before .before .before .before .before .before .before .before .pre, omega (arith, c .before .before .wide .ensures, c .before .wide2 .ensures, there (c .before .before .before) .low))
+line-arrived-requires c κs = record { sized = c .before .before .before .before .before .before .before .before .before .before .before .before .pre; few = omega (arith, c .before .before .wide .ensures, c .before .wide2 .ensures, there (c .before .before .before) .low) }
 
 returns-5 : tie.Need-returns-5
 returns-5 c =

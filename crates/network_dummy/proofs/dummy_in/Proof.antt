@@ -50,17 +50,17 @@ wide-requires : tie.Need-wide-requires
 wide-requires c κs = search needs
 
 children-requires : tie.Need-children-requires
-children-requires c κs = (c .before .before .before .before .before .before .pre, below (c .before .before) .0)
+children-requires c κs = record { sized = c .before .before .before .before .before .before .pre; ranged = below (c .before .before) .0 }
 
 site-dummy-requires : tie.Need-site-dummy-requires
 site-dummy-requires c κs =
     let b = below (c .before .before .before .before) in
-    (c .before .before .before .before .before .before .before .before .pre, b .0, omega (arith, c .before .before .before .wide .ensures, b .1), omega (arith, c .before .before .before .wide .ensures, b .2))
+    record { sized = c .before .before .before .before .before .before .before .before .pre; ranged = b .0; there = omega (arith, c .before .before .before .wide .ensures, b .1); few = omega (arith, c .before .before .before .wide .ensures, b .2) }
 
 site-stamp-requires : tie.Need-site-stamp-requires
 site-stamp-requires c κs =
     let b = below (c .before .before .before .before .before .before .before .before) in
-    (c .before .before .before .site-dummy .kept .0 ∙ c .before .before .before .before .before .before .before .before .before .before .before .before .pre, stepped (c .before .before .before) .ranged, omega (arith, c .before .before .before .before .before .before .before .wide .ensures, b .1, site-step-below (c .before .before .before .before .before .before .before .before .before .before .before .before .args .state .now) (c .before .before .before .site-dummy .last .0) (c .before .before .before .before .before .before .before .before .before .before .before .before .args .site) dummied (stepped (c .before .before .before))), omega (arith, c .before .before .before .before .before .before .before .wide .ensures, b .2))
+    record { sized = c .before .before .before .site-dummy .kept .0 ∙ c .before .before .before .before .before .before .before .before .before .before .before .before .pre; ranged = stepped (c .before .before .before) .ranged; there = omega (arith, c .before .before .before .before .before .before .before .wide .ensures, b .1, site-step-below (c .before .before .before .before .before .before .before .before .before .before .before .before .args .state .now) (c .before .before .before .site-dummy .last .0) (c .before .before .before .before .before .before .before .before .before .before .before .before .args .site) dummied (stepped (c .before .before .before))); few = omega (arith, c .before .before .before .before .before .before .before .wide .ensures, b .2) }
 
 send-all-requires : tie.Need-send-all-requires
 send-all-requires c κs =

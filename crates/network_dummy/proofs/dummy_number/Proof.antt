@@ -40,7 +40,7 @@ wide-requires : tie.Need-wide-requires
 wide-requires c κs = search needs
 
 children-requires : tie.Need-children-requires
-children-requires c κs = (c .before .before .before .before .pre, shaped-range (c .before .before .before .before .args .state .now) (found (c .before) .0))
+children-requires c κs = record { sized = c .before .before .before .before .pre; ranged = shaped-range (c .before .before .before .before .args .state .now) (found (c .before) .0) }
 
 some-line-full-requires : tie.Need-some-line-full-requires
 some-line-full-requires c κs =
@@ -59,7 +59,7 @@ count-at-most-requires c κs =
     let w = c .before .before .before .before .before .before .before .args .state .now in
     let f = found (c .before .before .before .before) in
     let b = site-below w (shaped-range w (f .0)) (c .before .before .before .before .before .before .before .args .site) (f .1) in
-    (c .before .before .before .before .before .before .before .pre, shaped-range w (f .0), omega (arith, c .before .before .before .wide .ensures, b .0), omega (arith, c .before .before .before .wide .ensures, b .1))
+    record { sized = c .before .before .before .before .before .before .before .pre; ranged = shaped-range w (f .0); there = omega (arith, c .before .before .before .wide .ensures, b .0); few = omega (arith, c .before .before .before .wide .ensures, b .1) }
 
 returns-3 : tie.Need-returns-3
 returns-3 c =

@@ -27,7 +27,7 @@ site-epoch-requires c κs =
     let w = A .state .now in
     let q = number-none w (λ n. epochNumber n (A .site) (A .to)) (sym (c .before .before .before .epoch-number .ensures) ∙ c .before .before .if1 .left) in
     let b = site-below w (shaped-range w (q .0)) (A .site) (epoch-site (networkIn w) (A .site) (A .to) (q .1)) in
-    (c .before .before .before .before .before .before .pre, shaped-range w (q .0), omega (arith, c .wide .ensures, b .0), omega (arith, c .wide .ensures, b .1))
+    record { sized = c .before .before .before .before .before .before .pre; ranged = shaped-range w (q .0); there = omega (arith, c .wide .ensures, b .0); few = omega (arith, c .wide .ensures, b .1) }
 
 same-length-2 : tie.Need-same-length-2
 same-length-2 c = search needs

@@ -34,7 +34,7 @@ unfolding epochNumber
 returns c = let A = c .before .before .before .args in site-first (A .state .now) (A .site) (λ n. numberIf (hasParents (n .items) (A .site)) 15 ∷ numberIf (leb (A .to) (siteAt n (A .site) .stamp .epoch)) 16 ∷ []) (c .before .site-number .result) (c .before .site-number .ensures) (c .if1 .taken)
 
 has-parents-requires : tie.Need-has-parents-requires
-has-parents-requires c κs = (c .before .before .before .pre, shaped-range (c .before .before .before .args .state .now) (found (c) .0))
+has-parents-requires c κs = record { sized = c .before .before .before .pre; ranged = shaped-range (c .before .before .before .args .state .now) (found (c) .0) }
 
 returns-2 : tie.Need-returns-2
 returns-2 c =
@@ -50,7 +50,7 @@ site-stamp-requires c κs =
     let w = c .before .before .before .before .before .before .args .state .now in
     let f = found (c .before .before .before) in
     let b = site-below w (shaped-range w (f .0)) (c .before .before .before .before .before .before .args .site) (f .1) in
-    (c .before .before .before .before .before .before .pre, shaped-range w (f .0), omega (arith, c .wide .ensures, b .0), omega (arith, c .wide .ensures, b .1))
+    record { sized = c .before .before .before .before .before .before .pre; ranged = shaped-range w (f .0); there = omega (arith, c .wide .ensures, b .0); few = omega (arith, c .wide .ensures, b .1) }
 
 returns-3 : tie.Need-returns-3
 returns-3 c =

@@ -33,7 +33,7 @@ add-line-first : tie.Need-add-line-first
 add-line-first c = search needs
 
 line-first-requires : tie.Need-line-first-requires
-line-first-requires c κs = (c .before .before .before .before .pre .0, line-there (c .before .before .before .before .args .state .now) (c .before .before .before .before .args .j) (c .before .before .before .before .pre .1) (c .before .before .before .before .args .p) (c .before .before .before .before .pre .2) (c .wide2 .result * 8 + c .before .before .wide .result) (omega (arith, c .before .before .wide .ensures, c .wide2 .ensures)))
+line-first-requires c κs = record { sized = c .before .before .before .before .pre .0; few = line-there (c .before .before .before .before .args .state .now) (c .before .before .before .before .args .j) (c .before .before .before .before .pre .1) (c .before .before .before .before .args .p) (c .before .before .before .before .pre .2) (c .wide2 .result * 8 + c .before .before .wide .result) (omega (arith, c .before .before .wide .ensures, c .wide2 .ensures)) }
 
 slice-aggregate-site-receive : tie.Need-slice-aggregate-site-receive
 slice-aggregate-site-receive c = search needs
@@ -42,7 +42,7 @@ site-receive-requires : tie.Need-site-receive-requires
 site-receive-requires c κs =
     let A = c .before .before .before .before .before .before .before .before .before .args in
     let s = line-sites (A .state .now) (A .j) (c .before .before .before .before .before .before .before .before .before .pre .1) (A .p) (c .before .before .before .before .before .before .before .before .before .pre .2) in
-    (c .before .before .before .before .before .before .before .before .before .pre .0, schedule-range (A .state .now) (A .j) (c .before .before .before .before .before .before .before .before .before .pre .1), omega (arith, s .2, c .before .before .before .before .before .before .before .wide .ensures), omega (arith, s .1, c .before .before .before .before .before .before .before .wide .ensures))
+    record { sized = c .before .before .before .before .before .before .before .before .before .pre .0; ranged = schedule-range (A .state .now) (A .j) (c .before .before .before .before .before .before .before .before .before .pre .1); there = omega (arith, s .2, c .before .before .before .before .before .before .before .wide .ensures); few = omega (arith, s .1, c .before .before .before .before .before .before .before .wide .ensures) }
 
 same-length : tie.Need-same-length
 same-length c = search needs
@@ -57,11 +57,11 @@ returns c =
 wide-requires-3 : tie.Need-wide-requires-3
 wide-requires-3 c κs = search needs
 
-record-count-requires : tie.Need-record-count-requires
-record-count-requires c κs = (c .before .before .before .before .before .before .before .before .before .pre .0, schedule-range (c .before .before .before .before .before .before .before .before .before .args .state .now) (c .before .before .before .before .before .before .before .before .before .args .j) (c .before .before .before .before .before .before .before .before .before .pre .1), omega (arith, recorded (c .before .before), c .before .wide3 .ensures), omega (arith, c .before .before .if1 .left, c .before .wide3 .ensures))
+operation-count-requires : tie.Need-operation-count-requires
+operation-count-requires c κs = record { sized = c .before .before .before .before .before .before .before .before .before .pre .0; there = omega (arith, recorded (c .before .before), c .before .wide3 .ensures); few = omega (arith, c .before .before .if1 .left, c .before .wide3 .ensures) }
 
 record-ops-requires : tie.Need-record-ops-requires
-record-ops-requires c κs = (c .before .before .before .before .before .before .before .before .before .before .before .pre .0, schedule-range (c .before .before .before .before .before .before .before .before .before .before .before .args .state .now) (c .before .before .before .before .before .before .before .before .before .before .before .args .j) (c .before .before .before .before .before .before .before .before .before .before .before .pre .1), omega (arith, recorded (c .before .before .before .before), c .before .before .before .wide3 .ensures), omega (arith, c .before .before .before .before .if1 .left, c .before .before .before .wide3 .ensures))
+record-ops-requires c κs = record { sized = c .before .before .before .before .before .before .before .before .before .before .before .pre .0; there = omega (arith, recorded (c .before .before .before .before), c .before .before .before .wide3 .ensures); few = omega (arith, c .before .before .before .before .if1 .left, c .before .before .before .wide3 .ensures) }
 
 sub-wanted : tie.Need-sub-wanted
 sub-wanted c = search needs
@@ -85,7 +85,7 @@ site-receive-requires-2 : tie.Need-site-receive-requires-2
 site-receive-requires-2 c κs =
     let A = c .before .before .before .before .before .before .before .before .before .before .before .before .before .before .before .before .before .before .args in
     let s = line-sites (A .state .now) (A .j) (c .before .before .before .before .before .before .before .before .before .before .before .before .before .before .before .before .before .before .pre .1) (A .p) (c .before .before .before .before .before .before .before .before .before .before .before .before .before .before .before .before .before .before .pre .2) in
-    (c .before .before .before .before .before .before .before .before .before .before .before .before .before .before .before .before .before .before .pre .0, schedule-range (A .state .now) (A .j) (c .before .before .before .before .before .before .before .before .before .before .before .before .before .before .before .before .before .before .pre .1), omega (arith, s .2, c .before .before .before .before .before .before .before .before .before .before .before .before .before .before .before .before .wide .ensures), omega (arith, s .1, c .before .before .before .before .before .before .before .before .before .before .before .before .before .before .before .before .wide .ensures))
+    record { sized = c .before .before .before .before .before .before .before .before .before .before .before .before .before .before .before .before .before .before .pre .0; ranged = schedule-range (A .state .now) (A .j) (c .before .before .before .before .before .before .before .before .before .before .before .before .before .before .before .before .before .before .pre .1); there = omega (arith, s .2, c .before .before .before .before .before .before .before .before .before .before .before .before .before .before .before .before .wide .ensures); few = omega (arith, s .1, c .before .before .before .before .before .before .before .before .before .before .before .before .before .before .before .before .wide .ensures) }
 
 same-length-2 : tie.Need-same-length-2
 same-length-2 c = search needs
@@ -96,8 +96,8 @@ returns-2 c =
     let m = c .before .before .before .before .before .before .before .before .before .before .before .before .before .before .before .before .line-first .result in
     let h = networkIn (A .state .now) .history in
     receive-commit (A .state .now) (A .j) (c .before .before .before .before .before .before .before .before .before .before .before .before .before .before .before .before .before .before .before .before .before .pre .1) (A .p) (c .before .before .before .before .before .before .before .before .before .before .before .before .before .before .before .before .before .before .before .before .before .pre .2) (c .before .before .before .before .before .before .before .before .before .before .before .before .before .before .before .before .before .wide2 .result * 8 + c .before .before .before .before .before .before .before .before .before .before .before .before .before .before .before .before .before .before .before .wide .result) (omega (arith, c .before .before .before .before .before .before .before .before .before .before .before .before .before .before .before .before .before .before .before .wide .ensures, c .before .before .before .before .before .before .before .before .before .before .before .before .before .before .before .before .before .wide2 .ensures)) (m .name) (stampOf (m .stamp)) (c .before .before .before .before .before .before .before .before .before .before .before .before .before .before .before .before .line-first .ensures)
-    (c .before .before .before .before .before .before .before .before .before .before .before .before .before .before .if1 .left) (c .before .before .site-receive2 .last .0) (c .before .before .before .before .before .before .before .before .before .before .before .before .before .before .before .before .before .before .before .wide .result) (c .before .before .before .before .before .before .before .before .before .before .before .before .before .before .before .before .before .before .before .wide .ensures) (c .before .before .before .before .before .before .before .before .before .record-ops .result) (c .before .before .before .before .before .wanted .result) (c .before .before .before .before .before .before .before .before .before .before .before .record-count .result)
-    (c .before .before .before .before .before .before .before .before .before .before .before .record-count .ensures .0 ∙ ap (λ (i : ℕ). length (getD h i noRecord .ops)) (c .before .before .before .before .before .before .before .before .before .before .before .before .before .wide3 .ensures)) (c .before .before .before .before .before .before .before .before .before .before .before .record-count .ensures .1)
+    (c .before .before .before .before .before .before .before .before .before .before .before .before .before .before .if1 .left) (c .before .before .site-receive2 .last .0) (c .before .before .before .before .before .before .before .before .before .before .before .before .before .before .before .before .before .before .before .wide .result) (c .before .before .before .before .before .before .before .before .before .before .before .before .before .before .before .before .before .before .before .wide .ensures) (c .before .before .before .before .before .before .before .before .before .record-ops .result) (c .before .before .before .before .before .wanted .result) (c .before .before .before .before .before .before .before .before .before .before .before .operation-count .result)
+    (c .before .before .before .before .before .before .before .before .before .before .before .operation-count .ensures .0 ∙ ap (λ (i : ℕ). length (getD h i noRecord .ops)) (c .before .before .before .before .before .before .before .before .before .before .before .before .before .wide3 .ensures)) (c .before .before .before .before .before .before .before .before .before .before .before .operation-count .ensures .1)
     (subst (λ (i : ℕ). opsIn (length (getD h i noRecord .ops)) (c .before .before .before .before .before .before .before .before .before .record-ops .result) ≡ getD h i noRecord .ops) (c .before .before .before .before .before .before .before .before .before .before .before .before .before .wide3 .ensures) (c .before .before .before .before .before .before .before .before .before .record-ops .ensures))
     (c .before .before .before .before .before .wanted .ensures) (stampOf (A .t)) (c .before .before .site-receive2 .ensures)
 
@@ -115,7 +115,7 @@ receive-spec =
     same-length
     returns
     wide-requires-3
-    record-count-requires
+    operation-count-requires
     record-ops-requires
     sub-wanted
     part-wanted-start

@@ -53,7 +53,7 @@ line-take-requires c κs =
     let A = c .before .before .before .before .before .before .before .before .before .before .before .before .before .before .args in
     let z = zero-number (c .before .before .before .before .before .before .before .before .before .before) in
     let line = best-line (A .state .now) (A .site) z (c .before .before .before .before .before .before .before .before .chosen .result .parent) (stampOf (c .before .before .before .before .before .before .before .before .chosen .result .stamp)) (c .before .before .before .before .before .before .before .before .chosen .ensures) in
-    (c .before .before .before .before .before .receive .kept .0 ∙ c .before .before .before .before .before .before .before .before .before .before .before .before .before .before .pre, line-there (A .state .now) (A .site) z (c .before .before .before .before .before .before .before .before .chosen .result .parent) line (c .before .before .wide .result * 8 + c .before .wide2 .result) (omega (arith, c .before .before .wide .ensures, c .before .wide2 .ensures)), c .before .before .before .before .before .receive .ensures .ranged)
+    record { sized = c .before .before .before .before .before .receive .kept .0 ∙ c .before .before .before .before .before .before .before .before .before .before .before .before .before .before .pre; few = line-there (A .state .now) (A .site) z (c .before .before .before .before .before .before .before .before .chosen .result .parent) line (c .before .before .wide .result * 8 + c .before .wide2 .result) (omega (arith, c .before .before .wide .ensures, c .before .wide2 .ensures)); ranged = c .before .before .before .before .before .receive .ensures .ranged }
 
 same-length-2 : tie.Need-same-length-2
 same-length-2 c = search needs
