@@ -16,7 +16,7 @@ use Rattle.lists.specs.Lists.{every, everyFrom}
 use Rattle.lists.proofs.Every.{and-true}
 use Rattle.timestamp.specs.Timestamp.{Pair, Stamp, lastPair, room}
 use Rattle.timestamp.specs.Order.{byNumber}
-use Rattle.timestamp.specs.InWords.{pairsAt, stampIn, stampSize}
+use Rattle.timestamp.specs.InWords.{pairsAt, stampIn, stampSize, stampRange}
 use Rattle.timestamp.specs.Made.{rising as risingOf, madeBy}
 use Rattle.timestamp.proofs.Made.{made-parts, made-length}
 use Rattle.site.specs.InWords.{opIn, opsIn, opSize, opsSize}
@@ -111,7 +111,7 @@ module _ (sites items : ℕ) (few-sites : sites ≤ 8) (few-items : items ≤ 64
       let n = min (getD w 1 0) opsMost in
       let p = and-true (ltb site sites) (madeBy byNumber site stamp && every (opFits items) (opsIn n os)) f in
       let q = and-true (madeBy byNumber site stamp) (every (opFits items) (opsIn n os)) (p .1) in
-      let c = and-true (leb 1 (getD w 1 0)) (leb (getD w 1 0) opsMost && leb (getD w 3 0) room) r in
+      let c = and-true (leb 1 (getD w 1 0)) (leb (getD w 1 0) opsMost && stampRange s) r in
       let m = made-parts byNumber site stamp (q .0) in
       let below : site < sites = ltb-true site sites (p .0) in
       let some : 1 ≤ getD w 1 0 = leb-true 1 (getD w 1 0) (c .0) in

@@ -7,7 +7,7 @@ use native.Mathlib.Omega.{arith}
 use lib.ListN.{length, getD, set, take, drop, length-map, length-take, length-set, length-drop, List·getD-map, List·getD-eq-default}
 use lib.Seq.{getD-set-same, getD-set-other, drop-set-lt, take-suc-set, take-append-le, getD-take}
 use lib.Dec.{ltb, leb}
-use borrow.Author.Tests.{lt-ltb, le-ltb, le-leb, leb-true}
+use borrow.Author.Tests.{lt-ltb, le-ltb, le-leb, leb-true, ltb-true, ltb-false}
 use Rattle.words.specs.Words.{part, put, chunks, shifted, overlaid, Stepped}
 use Rattle.lists.specs.Lists.{every}
 use Rattle.words.proofs.Parts.{part-length, part-part, part-getD, put-length, put-here, put-in, put-getD-below, lent-put, lent-size}
@@ -17,15 +17,15 @@ use Rattle.lists.proofs.Lists.{take-min, take-rest}
 use Rattle.words.proofs.Walks.{overlaid-same}
 use Rattle.lists.proofs.Every.{and-true, every-snoc, every-rest}
 use Rattle.timestamp.specs.Timestamp.{Stamp, room}
-use Rattle.timestamp.specs.InWords.{stampIn, stampSize, stampWords}
+use Rattle.timestamp.specs.InWords.{stampIn, stampSize, stampRange, stampWords}
 use Rattle.timestamp.proofs.Words.{words-back, words-length}
-use Rattle.lines.specs.Lines.{Message, commit, dummy, Line, sent, delivered, taken, sentOrSame, deliveredOrSame, takenOrSame}
+use Rattle.lines.specs.Lines.{Message, commit, dummy, nameOf, Line, sent, delivered, taken, sentOrSame, deliveredOrSame, takenOrSame}
 use Rattle.limits.specs.Limits.{heldMost, recordsMost}
-use Rattle.lines.specs.InWords.{messageSize, messageIn, messageRange, boxesSize, lineSize, boxesIn, lineFrom, lineIn, lineRange, First}
+use Rattle.lines.specs.InWords.{messageSize, messageIn, messageRange, boxesAt, boxesSize, lineSize, boxesIn, lineFrom, lineIn, lineRange, First}
 
 -- ---- how many there are
 pub boxes-length : (w : List ℕ) → length (boxesIn w) ≡ min (getD w 0 0) heldMost
-boxes-length w = length-take (getD w 0 0) (chunks messageSize heldMost (part w 2 boxesSize)) ∙ ap (min (getD w 0 0)) (chunks-length messageSize heldMost (part w 2 boxesSize))
+boxes-length w = length-take (getD w 0 0) (chunks messageSize heldMost (part w boxesAt boxesSize)) ∙ ap (min (getD w 0 0)) (chunks-length messageSize heldMost (part w boxesAt boxesSize))
 
 pub messages-length : (w : List ℕ) → length (lineIn w .messages) ≡ min (getD w 0 0) heldMost
 unfolding lineIn
@@ -33,33 +33,33 @@ messages-length w = length-map (boxesIn w) messageIn ∙ boxes-length w
 
 -- ---- another count at the front, other messages behind it
 module _ (w : List ℕ) (size : length w ≡ lineSize) where
-  part-size : length (part w 2 boxesSize) ≡ boxesSize
-  part-size = part-length w 2 boxesSize (omega arith)
+  part-size : length (part w boxesAt boxesSize) ≡ boxesSize
+  part-size = part-length w boxesAt boxesSize (omega arith)
 
   -- a message put behind those held
   module _ (n : ℕ) (is : n ≡ getD w 0 0) (few : n < heldMost) (ys : List ℕ) (fits : length ys ≡ messageSize) where
     abbrev longer : List ℕ
-    longer = put w (2 + n * messageSize) messageSize ys
+    longer = put w (boxesAt + n * messageSize) messageSize ys
 
-    inside : 2 + n * messageSize + messageSize ≤ length w
+    inside : boxesAt + n * messageSize + messageSize ≤ length w
     inside = omega arith
 
     longer-size : length longer ≡ lineSize
-    longer-size = put-length w (2 + n * messageSize) messageSize ys inside fits ∙ size
+    longer-size = put-length w (boxesAt + n * messageSize) messageSize ys inside fits ∙ size
 
     pub sent-boxes : boxesIn (set longer 0 (n + 1)) ≡ boxesIn w ++ (ys ∷ [])
     sent-boxes =
-        let cs = chunks messageSize heldMost (part w 2 boxesSize) in
+        let cs = chunks messageSize heldMost (part w boxesAt boxesSize) in
         let m : n + 1 ≡ suc n = omega arith in
         ap₂ (λ (k : ℕ) (x : List ℕ). take k (chunks messageSize heldMost x))
         (getD-set-same longer 0 (n + 1) 0 (omega (arith, longer-size)) ∙ m)
-        (ap (take boxesSize) (drop-set-lt 2 longer 0 (n + 1) (omega arith)) ∙ put-in w 2 boxesSize (n * messageSize) messageSize ys (omega arith) (omega arith) fits)
-        ∙ ap (take (suc n)) (chunks-put messageSize heldMost (part w 2 boxesSize) n ys fits few (omega (arith, part-size)))
-        ∙ take-suc-set cs n ys (omega (arith, chunks-length messageSize heldMost (part w 2 boxesSize)))
+        (ap (take boxesSize) (drop-set-lt boxesAt longer 0 (n + 1) (omega arith)) ∙ put-in w boxesAt boxesSize (n * messageSize) messageSize ys (omega arith) (omega arith) fits)
+        ∙ ap (take (suc n)) (chunks-put messageSize heldMost (part w boxesAt boxesSize) n ys fits few (omega (arith, part-size)))
+        ∙ take-suc-set cs n ys (omega (arith, chunks-length messageSize heldMost (part w boxesAt boxesSize)))
         ∙ ap (λ (k : ℕ). take k cs ++ (ys ∷ [])) is
 
     pub sent-arrived : getD (set longer 0 (n + 1)) 1 0 ≡ getD w 1 0
-    sent-arrived = getD-set-other longer 0 1 (n + 1) 0 (λ z. omega arith) ∙ put-getD-below w (2 + n * messageSize) messageSize ys inside fits 1 (omega arith)
+    sent-arrived = getD-set-other longer 0 1 (n + 1) 0 (λ z. omega arith) ∙ put-getD-below w (boxesAt + n * messageSize) messageSize ys inside fits 1 (omega arith)
 
     pub sent-count : getD (set longer 0 (n + 1)) 0 0 ≡ n + 1
     sent-count = getD-set-same longer 0 (n + 1) 0 (omega (arith, longer-size))
@@ -67,7 +67,7 @@ module _ (w : List ℕ) (size : length w ≡ lineSize) where
   -- another number arrived
   pub arrived-boxes : (v : ℕ) → boxesIn (set w 1 v) ≡ boxesIn w
   arrived-boxes v =
-      ap₂ (λ (k : ℕ) (x : List ℕ). take k (chunks messageSize heldMost x)) (getD-set-other w 1 0 v 0 (λ z. omega arith)) (ap (take boxesSize) (drop-set-lt 2 w 1 v (omega arith)))
+      ap₂ (λ (k : ℕ) (x : List ℕ). take k (chunks messageSize heldMost x)) (getD-set-other w 1 0 v 0 (λ z. omega arith)) (ap (take boxesSize) (drop-set-lt boxesAt w 1 v (omega arith)))
 
   pub arrived-count : (v : ℕ) → getD (set w 1 v) 0 0 ≡ getD w 0 0
   arrived-count v = getD-set-other w 1 0 v 0 (λ z. omega arith)
@@ -115,31 +115,31 @@ module _ (l : Line) where
   take-none h = rw (le-ltb 0 (length (l .messages)) (omega arith))
 
 pub sent-step : (w : List ℕ) (size : length w ≡ lineSize) (n : ℕ) (is : n ≡ min (getD w 0 0) heldMost) (few : n < heldMost) (ys : List ℕ) → length ys ≡ messageSize → (m : Message) → messageIn ys ≡ m → messageRange ys ≡ true
-    → Stepped lineSize lineIn lineRange (sentOrSame m) w (set (put w (2 + n * messageSize) messageSize ys) 0 (n + 1))
+    → Stepped lineSize lineIn lineRange (sentOrSame m) w (set (put w (boxesAt + n * messageSize) messageSize ys) 0 (n + 1))
 unfolding lineIn
 sent-step w size n is few ys fits m e r =
     let same : n ≡ getD w 0 0 = omega arith in
     let bs = sent-boxes w size n same few ys fits in
     record {
       meant = λ s.
-          same-line w (set (put w (2 + n * messageSize) messageSize ys) 0 (n + 1)) (getD w 1 0) (boxesIn w ++ (ys ∷ [])) (sent-arrived w size n same few ys fits) bs
+          same-line w (set (put w (boxesAt + n * messageSize) messageSize ys) 0 (n + 1)) (getD w 1 0) (boxesIn w ++ (ys ∷ [])) (sent-arrived w size n same few ys fits) bs
           ∙ ap (λ (ms : List Message). record { messages = ms; arrived = getD w 1 0 }) (map-append messageIn (boxesIn w) (ys ∷ []) ∙ ap (λ (x : Message). map messageIn (boxesIn w) ++ (x ∷ [])) e)
           ∙ sym (send-room m (lineIn w) (omega (arith, messages-length w)));
       ranged = λ s g.
-          in-range (set (put w (2 + n * messageSize) messageSize ys) 0 (n + 1)) (boxesIn w ++ (ys ∷ [])) (omega (arith, sent-count w size n same few ys fits)) bs (every-snoc messageRange (boxesIn w) ys (range-few w g .1) r);
+          in-range (set (put w (boxesAt + n * messageSize) messageSize ys) 0 (n + 1)) (boxesIn w ++ (ys ∷ [])) (omega (arith, sent-count w size n same few ys fits)) bs (every-snoc messageRange (boxesIn w) ys (range-few w g .1) r);
       kept = λ no-size. absurd (no-size size);
     }
 
 -- as the code does it: the part lent from a place k on, and the count stored
-pub sent-by : (w : List ℕ) (size : length w ≡ lineSize) (n : ℕ) (is : n ≡ min (getD w 0 0) heldMost) (few : n < heldMost) (k : ℕ) → k ≡ n → (ys : List ℕ) → length ys ≡ length (part w (2 + k * messageSize) (2 + k * messageSize + messageSize - (2 + k * messageSize))) → (m : Message) → messageIn ys ≡ m → messageRange ys ≡ true → (v : List ℕ)
-    → v ≡ set (put w (2 + k * messageSize) (2 + k * messageSize + messageSize - (2 + k * messageSize)) ys) 0 (n + 1)
+pub sent-by : (w : List ℕ) (size : length w ≡ lineSize) (n : ℕ) (is : n ≡ min (getD w 0 0) heldMost) (few : n < heldMost) (k : ℕ) → k ≡ n → (ys : List ℕ) → length ys ≡ length (part w (boxesAt + k * messageSize) (boxesAt + k * messageSize + messageSize - (boxesAt + k * messageSize))) → (m : Message) → messageIn ys ≡ m → messageRange ys ≡ true → (v : List ℕ)
+    → v ≡ set (put w (boxesAt + k * messageSize) (boxesAt + k * messageSize + messageSize - (boxesAt + k * messageSize)) ys) 0 (n + 1)
     → Stepped lineSize lineIn lineRange (sentOrSame m) w v
 sent-by w size n is few k same ys fits m e r v f =
-    let a = 2 + k * messageSize in
+    let a = boxesAt + k * messageSize in
     let inside : a + messageSize ≤ length w = omega arith in
     let long : length ys ≡ messageSize = lent-size w a messageSize ys inside fits in
-    let g : v ≡ set (put w (2 + n * messageSize) messageSize ys) 0 (n + 1)
-    = f ∙ ap (λ (x : List ℕ). set x 0 (n + 1)) (lent-put w a messageSize ys ∙ ap (λ (j : ℕ). put w (2 + j * messageSize) messageSize ys) same) in
+    let g : v ≡ set (put w (boxesAt + n * messageSize) messageSize ys) 0 (n + 1)
+    = f ∙ ap (λ (x : List ℕ). set x 0 (n + 1)) (lent-put w a messageSize ys ∙ ap (λ (j : ℕ). put w (boxesAt + j * messageSize) messageSize ys) same) in
     subst (λ (x : List ℕ). Stepped lineSize lineIn lineRange (sentOrSame m) w x) (sym g) (sent-step w size n is few ys long m e r)
 
 pub full-step : (w : List ℕ) (n : ℕ) → n ≡ min (getD w 0 0) heldMost → heldMost ≤ n → (m : Message) → Stepped lineSize lineIn lineRange (sentOrSame m) w w
@@ -170,12 +170,12 @@ map-rest : (bs : List (List ℕ)) → map messageIn (drop 1 bs) ≡ drop 1 (map 
 map-rest [] = refl
 map-rest (b ∷ bs) = refl
 
-module _ (w : List ℕ) (size : length w ≡ lineSize) (n : ℕ) (is : n ≡ min (getD w 0 0) heldMost) (some : n ≡ 0 → ⊥) (v : ℕ) (less : v ≡ getD w 1 0 - 1) (ys : List ℕ) (fits : length ys ≡ boxesSize) (moved : ys ≡ shifted (part (set (set w 0 (n - 1)) 1 v) 2 boxesSize) messageSize) where
+module _ (w : List ℕ) (size : length w ≡ lineSize) (n : ℕ) (is : n ≡ min (getD w 0 0) heldMost) (some : n ≡ 0 → ⊥) (v : ℕ) (less : v ≡ getD w 1 0 - 1) (ys : List ℕ) (fits : length ys ≡ boxesSize) (moved : ys ≡ shifted (part (set (set w 0 (n - 1)) 1 v) boxesAt boxesSize) messageSize) where
   abbrev counted : List ℕ
   counted = set (set w 0 (n - 1)) 1 v
 
   abbrev shorter : List ℕ
-  shorter = put counted 2 boxesSize ys
+  shorter = put counted boxesAt boxesSize ys
 
   counted-size : length counted ≡ lineSize
   counted-size = length-set (set w 0 (n - 1)) 1 v ∙ length-set w 0 (n - 1) ∙ size
@@ -185,26 +185,26 @@ module _ (w : List ℕ) (size : length w ≡ lineSize) (n : ℕ) (is : n ≡ min
 
   shorter-count : getD shorter 0 0 ≡ n - 1
   shorter-count =
-      put-getD-below counted 2 boxesSize ys (omega (arith, counted-size)) fits 0 (omega arith)
+      put-getD-below counted boxesAt boxesSize ys (omega (arith, counted-size)) fits 0 (omega arith)
       ∙ getD-set-other (set w 0 (n - 1)) 1 0 v 0 (λ z. omega arith)
       ∙ getD-set-same w 0 (n - 1) 0 (omega arith)
 
   shorter-arrived : getD shorter 1 0 ≡ getD w 1 0 - 1
   shorter-arrived =
-      put-getD-below counted 2 boxesSize ys (omega (arith, counted-size)) fits 1 (omega arith)
+      put-getD-below counted boxesAt boxesSize ys (omega (arith, counted-size)) fits 1 (omega arith)
       ∙ getD-set-same (set w 0 (n - 1)) 1 v 0 (omega (arith, first-size))
       ∙ less
 
   shorter-boxes : boxesIn shorter ≡ drop 1 (boxesIn w)
   shorter-boxes =
-      let bs = part w 2 boxesSize in
+      let bs = part w boxesAt boxesSize in
       let cs = chunks messageSize heldMost bs in
       let bl : length bs ≡ boxesSize = part-size w size in
       let last = drop (length bs - messageSize) bs in
-      let same : part counted 2 boxesSize ≡ bs = ap (take boxesSize) (drop-set-lt 2 (set w 0 (n - 1)) 1 v (omega arith) ∙ drop-set-lt 2 w 0 (n - 1) (omega arith)) in
+      let same : part counted boxesAt boxesSize ≡ bs = ap (take boxesSize) (drop-set-lt boxesAt (set w 0 (n - 1)) 1 v (omega arith) ∙ drop-set-lt boxesAt w 0 (n - 1) (omega arith)) in
       let m : suc (n - 1) ≡ min (getD w 0 0) (length cs) = omega (arith, chunks-length messageSize heldMost bs) in
       ap₂ (λ (k : ℕ) (x : List ℕ). take k (chunks messageSize heldMost x)) shorter-count
-      (put-here counted 2 boxesSize ys (omega (arith, counted-size)) fits ∙ moved ∙ ap (λ (b : List ℕ). shifted b messageSize) same)
+      (put-here counted boxesAt boxesSize ys (omega (arith, counted-size)) fits ∙ moved ∙ ap (λ (b : List ℕ). shifted b messageSize) same)
       ∙ ap (take (n - 1)) (chunks-shift messageSize 15 bs bl)
       ∙ take-append-le (n - 1) (drop 1 cs) (last ∷ []) (omega (arith, length-drop 1 cs, chunks-length messageSize heldMost bs))
       ∙ take-rest (n - 1) cs
@@ -224,14 +224,14 @@ module _ (w : List ℕ) (size : length w ≡ lineSize) (n : ℕ) (is : n ≡ min
       }
 
 -- as the code does it, a store after another
-pub taken-by : (w : List ℕ) (size : length w ≡ lineSize) (n : ℕ) (is : n ≡ min (getD w 0 0) heldMost) (some : n ≡ 0 → ⊥) (x : List ℕ) → x ≡ set w 0 (n - 1) → (v : ℕ) {a : ℕ} → v ≡ a - 1 → a ≡ getD x 1 0 → (y : List ℕ) → y ≡ set x 1 v → (ys : List ℕ) → length ys ≡ length (part y 2 boxesSize) → ys ≡ shifted (part y 2 boxesSize) messageSize
-    → Stepped lineSize lineIn lineRange takenOrSame w (put y 2 boxesSize ys)
+pub taken-by : (w : List ℕ) (size : length w ≡ lineSize) (n : ℕ) (is : n ≡ min (getD w 0 0) heldMost) (some : n ≡ 0 → ⊥) (x : List ℕ) → x ≡ set w 0 (n - 1) → (v : ℕ) {a : ℕ} → v ≡ a - 1 → a ≡ getD x 1 0 → (y : List ℕ) → y ≡ set x 1 v → (ys : List ℕ) → length ys ≡ length (part y boxesAt boxesSize) → ys ≡ shifted (part y boxesAt boxesSize) messageSize
+    → Stepped lineSize lineIn lineRange takenOrSame w (put y boxesAt boxesSize ys)
 taken-by w size n is some x xe v ve ae y ye ys fits moved =
     let e : y ≡ set (set w 0 (n - 1)) 1 v = ye ∙ ap (λ (z : List ℕ). set z 1 v) xe in
     let less : v ≡ getD w 1 0 - 1 = omega (arith, ve, ae, ap (λ (z : List ℕ). getD z 1 0) xe, getD-set-other w 0 1 (n - 1) 0 (λ z. omega arith)) in
     let long : length y ≡ lineSize = ap length e ∙ length-set (set w 0 (n - 1)) 1 v ∙ length-set w 0 (n - 1) ∙ size in
-    subst (λ (z : List ℕ). Stepped lineSize lineIn lineRange takenOrSame w (put z 2 boxesSize ys)) (sym e)
-    (taken-step w size n is some v less ys (fits ∙ part-length y 2 boxesSize (omega arith)) (moved ∙ ap (λ (z : List ℕ). shifted (part z 2 boxesSize) messageSize) e))
+    subst (λ (z : List ℕ). Stepped lineSize lineIn lineRange takenOrSame w (put z boxesAt boxesSize ys)) (sym e)
+    (taken-step w size n is some v less ys (fits ∙ part-length y boxesAt boxesSize (omega arith)) (moved ∙ ap (λ (z : List ℕ). shifted (part z boxesAt boxesSize) messageSize) e))
 
 pub empty-step : (w : List ℕ) (n : ℕ) → n ≡ min (getD w 0 0) heldMost → n ≡ 0 → Stepped lineSize lineIn lineRange takenOrSame w w
 empty-step w n is z = step-same lineSize lineIn lineRange takenOrSame w (take-none (lineIn w) (omega (arith, messages-length w)))
@@ -270,12 +270,41 @@ module _ (w : List ℕ) (size : length w ≡ messageSize) (name : ℕ) (s : Stam
   written-message =
       ap₂ (λ (k : ℕ) (t : Stamp). cond (ltb k recordsMost) (commit k) (dummy t)) written-name (ap stampIn written-stamp ∙ words-back s few)
 
-  count-is : getD written 2 0 ≡ length (s .tuples)
-  unfolding stampWords
-  count-is = sym (part-getD written 1 stampSize 1 (omega arith)) ∙ ap (λ (x : List ℕ). getD x 1 0) written-stamp
-
   pub written-range : messageRange written ≡ true
-  written-range = rw (le-leb (getD written 2 0) room (omega (arith, count-is))) (or-true (ltb (getD written 0 0) recordsMost))
+  unfolding stampWords
+  written-range = rw (ap stampRange written-stamp, le-leb (length (s .tuples)) room few) (or-true (ltb (getD written 0 0) recordsMost))
+
+-- ---- message i, and its name
+pub message-at : (w : List ℕ) (i : ℕ) → i < length (lineIn w .messages) → getD (lineIn w .messages) i (commit 0) ≡ messageIn (part w (boxesAt + i * messageSize) messageSize)
+unfolding lineIn
+message-at w i h =
+    let boxes = part w boxesAt boxesSize in
+    let cs = chunks messageSize heldMost boxes in
+    let few = messages-length w in
+    List·getD-map messageIn (boxesIn w) i []
+    ∙ ap messageIn
+    (getD-take (getD w 0 0) cs i [] (omega arith)
+    ∙ chunks-at messageSize heldMost boxes i (omega arith)
+    ∙ part-part w boxesAt boxesSize (i * messageSize) messageSize (omega arith))
+
+named-by : (x : ℕ) (s : Stamp) → min x recordsMost ≡ nameOf (cond (ltb x recordsMost) (commit x) (dummy s))
+named-by x s = go (ltb x recordsMost) refl
+  where
+    go : (b : Bool) → ltb x recordsMost ≡ b → min x recordsMost ≡ nameOf (cond (ltb x recordsMost) (commit x) (dummy s))
+    go true h = rw h (omega (arith, ltb-true x recordsMost h))
+    go false h = rw h (omega (arith, ltb-false x recordsMost h))
+
+module _ (w : List ℕ) (i : ℕ) where
+  pub name-none : length (lineIn w .messages) ≤ i → 0 ≡ nameOf (getD (lineIn w .messages) i (commit 0))
+  name-none h = sym (ap nameOf (List·getD-eq-default (lineIn w .messages) (commit 0) {n = i} h))
+
+  pub name-some : i < length (lineIn w .messages) → (x : ℕ) → x ≡ getD w (boxesAt + i * messageSize) 0 → min x recordsMost ≡ nameOf (getD (lineIn w .messages) i (commit 0))
+  name-some h x e =
+      let at = boxesAt + i * messageSize in
+      let place : at ≡ at + 0 = omega arith in
+      let own = part w at messageSize in
+      let is : x ≡ getD own 0 0 = e ∙ ap (λ (j : ℕ). getD w j 0) place ∙ sym (part-getD w at messageSize 0 (omega arith)) in
+      ap (λ (y : ℕ). min y recordsMost) is ∙ named-by (getD own 0 0) (stampIn (part own 1 stampSize)) ∙ sym (ap nameOf (message-at w i h))
 
 -- ---- the oldest message
 module _ (w : List ℕ) (size : length w ≡ lineSize) where
@@ -286,15 +315,10 @@ module _ (w : List ℕ) (size : length w ≡ lineSize) where
         unsized = λ no-size. absurd (no-size size);
       }
 
-  pub first-some : (n : ℕ) → n ≡ min (getD w 0 0) heldMost → (n ≡ 0 → ⊥) → (m : Message) → m ≡ messageIn (part w 2 messageSize) → First w m
-  unfolding lineIn
+  pub first-some : (n : ℕ) → n ≡ min (getD w 0 0) heldMost → (n ≡ 0 → ⊥) → (m : Message) → m ≡ messageIn (part w boxesAt messageSize) → First w m
   first-some n is some m e =
-      let cs = chunks messageSize heldMost (part w 2 boxesSize) in
       record {
-        sized = λ s.
-            e
-            ∙ ap messageIn (sym (getD-take (getD w 0 0) cs 0 [] (omega arith) ∙ chunks-at messageSize heldMost (part w 2 boxesSize) 0 (omega arith) ∙ part-part w 2 boxesSize 0 messageSize (omega arith)))
-            ∙ sym (List·getD-map messageIn (boxesIn w) 0 []);
+        sized = λ s. e ∙ sym (message-at w 0 (omega (arith, messages-length w)));
         unsized = λ no-size. absurd (no-size size);
       }
 

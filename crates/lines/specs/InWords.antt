@@ -1,4 +1,4 @@
--- A line in 306 words: how many messages it holds, how many have arrived, and 16 places of 19 words, a name and a timestamp.
+-- A line in words: how many messages it holds, how many have arrived, and 16 places of a name and a timestamp.
 use mathlib.Core.Path.{_≡_}
 use mathlib.Core.Bool.{Bool, cond, _&&_, _||_}
 use mathlib.Core.List.{List, map}
@@ -7,8 +7,8 @@ use lib.ListN.{length, take, getD}
 use lib.Dec.{ltb, leb}
 use Rattle.words.specs.Words.{part, chunks}
 use Rattle.lists.specs.Lists.{every}
-use Rattle.timestamp.specs.Timestamp.{stampOf, room}
-use Rattle.timestamp.specs.InWords.{stampIn, stampSize}
+use Rattle.timestamp.specs.Timestamp.{stampOf}
+use Rattle.timestamp.specs.InWords.{stampIn, stampSize, stampRange}
 use Rattle.lines.specs.declared.Message.{Message as MessageValue}
 use Rattle.lines.specs.Lines.{Message, commit, dummy, Line}
 use Rattle.limits.specs.Limits.{heldMost, recordsMost}
@@ -21,22 +21,26 @@ messageIn w = cond (ltb (getD w 0 0) recordsMost) (commit (getD w 0 0)) (dummy (
 
 -- a dummy's words say at most eight tuples
 abbrev pub messageRange : List ℕ → Bool
-messageRange w = ltb (getD w 0 0) recordsMost || leb (getD w 2 0) room
+messageRange w = ltb (getD w 0 0) recordsMost || stampRange (part w 1 stampSize)
 
 -- what a value of the code means
 abbrev pub messageOf : MessageValue → Message
 messageOf m = cond (ltb (m .name) recordsMost) (commit (m .name)) (dummy (stampOf (m .stamp)))
 
 -- ---- the line
+-- where its messages start, and the words of all of them
+abbrev pub boxesAt : ℕ
+boxesAt = 2
+
 abbrev pub boxesSize : ℕ
 boxesSize = heldMost * messageSize
 
 abbrev pub lineSize : ℕ
-lineSize = 2 + boxesSize
+lineSize = boxesAt + boxesSize
 
 -- the words of each message held
 abbrev pub boxesIn : List ℕ → List (List ℕ)
-boxesIn w = take (getD w 0 0) (chunks messageSize heldMost (part w 2 boxesSize))
+boxesIn w = take (getD w 0 0) (chunks messageSize heldMost (part w boxesAt boxesSize))
 
 abbrev pub lineFrom : ℕ → List (List ℕ) → Line
 lineFrom arrived boxes = record { messages = map messageIn boxes; arrived = arrived }

@@ -4,13 +4,18 @@ use mathlib.Core.List.{List, [], _∷_, _++_}
 use Prim.Native.Nat.{ℕ, _+_, _-_}
 use lib.ListN.{length, drop}
 use lib.Dec.{ltb}
-use Rattle.limits.specs.Limits.{heldMost}
+use Rattle.limits.specs.Limits.{heldMost, recordsMost}
 use Rattle.timestamp.specs.Timestamp.{Stamp}
 
 -- a message names a recorded commit by its number, or is a dummy with its own timestamp
 pub data Message : Type 0 where
   commit : ℕ → Message
   dummy : Stamp → Message
+
+-- the number of the record that a message names; of a dummy a number that no record has
+abbrev pub nameOf : Message → ℕ
+nameOf (commit k) = k
+nameOf (dummy t) = recordsMost
 
 pub record Line : Type 0 where
   pub messages : List Message

@@ -1,4 +1,7 @@
-// A line of messages in 306 words of a lent slice: sent at its end, delivered in order, taken off at its front.
+// A line of messages in words of a lent slice: sent at its end, delivered in order, taken off at its front.
+use limits::MESSAGES;
+use limits::MESSAGES_WIDE;
+use limits::SITES_WIDE;
 use timestamp::Count;
 use timestamp::Epoch;
 use timestamp::Timestamp;
@@ -8,8 +11,8 @@ ghost use mathlib.Core.Bool.{true};
 ghost use Prim.Native.Nat.{min, _-_, _≤_};
 ghost use lib.ListN.{length, getD};
 ghost use Rattle.words.specs.Words.{Stepped};
-ghost use Rattle.lines.specs.Lines.{commit, sentOrSame, deliveredOrSame, takenOrSame};
-ghost use Rattle.limits.specs.Limits.{heldMost};
+ghost use Rattle.lines.specs.Lines.{commit, nameOf, sentOrSame, deliveredOrSame, takenOrSame};
+ghost use Rattle.limits.specs.Limits.{heldMost, recordsMost};
 ghost use Rattle.lines.specs.InWords.{messageIn, messageRange, messageOf, messageSize, lineIn, lineRange, lineSize, First};
 
 // A message: the number of the record that it names, or 256 and more for a dummy, which has its own timestamp.
@@ -18,9 +21,23 @@ pub struct Message {
     pub stamp: Timestamp,
 }
 
-const MESSAGE: usize = 19;
+// Where a message has its name and its timestamp, and its size.
+const NAME: usize = 0;
 
-const LINE: usize = 2 + 16 * MESSAGE;
+const STAMP: usize = NAME + 1;
+
+pub const MESSAGE: usize = STAMP + timestamp::WORDS;
+
+// Where a line has how many messages it holds, how many have arrived, the oldest message and the next; and its size.
+const HELD: usize = 0;
+
+const ARRIVED: usize = HELD + 1;
+
+pub const BOXES: usize = ARRIVED + 1;
+
+const SECOND: usize = BOXES + MESSAGE;
+
+pub const WORDS: usize = BOXES + MESSAGES_WIDE * MESSAGE;
 
 // How many messages the line holds: 16 at most.
 pub fn held(l: &[u32]) -> usize
@@ -33,49 +50,59 @@ pub fn held(l: &[u32]) -> usize
 pub fn arrived(l: &[u32]) -> usize
     ensures { λ r. ⌜ r ≡ lineIn (now (l .entry)) .arrived ⌝ }
 {
-    words::wide(words::word(l, 1))
+    words::wide(words::word(l, ARRIVED))
 }
 
 // The oldest message; the name 0 where there is none, or the slice is no line.
 pub fn first(l: &[u32]) -> Message
     ensures { λ r. ⌜ First (now (l .entry)) (messageOf r) ⌝ }
 {
-    if l.len() != LINE {
+    if l.len() != WORDS {
         return nameless();
     }
     if held_word(l) == 0 {
         return nameless();
     }
-    message_in(&l[2..21])
+    message_in(&l[BOXES..SECOND])
+}
+
+// The name of message i: 256 and more where it is a dummy, 0 where there is none.
+pub fn name(l: &[u32], i: usize) -> u32
+    ensures { λ r. ⌜ min r recordsMost ≡ nameOf (getD (lineIn (now (l .entry)) .messages) i (commit 0)) ⌝ }
+{
+    if held(l) <= i {
+        return 0;
+    }
+    words::word(l, BOXES + i * MESSAGE)
 }
 
 // A message sent, where the line holds less than 16.
 pub fn send(l: &mut [u32], m: Message)
     ensures { λ r. ⌜ Stepped lineSize lineIn lineRange (sentOrSame (messageOf m)) (now (l .entry)) (now (l .exit)) ⌝ }
 {
-    if l.len() != LINE {
+    if l.len() != WORDS {
         return;
     }
     let n = held_word(l);
-    if 16 <= n {
+    if MESSAGES <= n {
         return;
     }
-    let a = 2 + words::wide(n) * MESSAGE;
+    let a = BOXES + words::wide(n) * MESSAGE;
     let e = a + MESSAGE;
     put_message(&mut l[a..e], m);
-    words::store(l, 0, n + 1);
+    words::store(l, HELD, n + 1);
 }
 
 // The oldest message on the way arrives, where there is one.
 pub fn deliver(l: &mut [u32])
     ensures { λ r. ⌜ Stepped lineSize lineIn lineRange deliveredOrSame (now (l .entry)) (now (l .exit)) ⌝ }
 {
-    let n = words::word(l, 1);
-    if l.len() != LINE {
+    let n = words::word(l, ARRIVED);
+    if l.len() != WORDS {
         return;
     }
     if n < held_word(l) {
-        words::store(l, 1, n + 1);
+        words::store(l, ARRIVED, n + 1);
     }
 }
 
@@ -83,26 +110,26 @@ pub fn deliver(l: &mut [u32])
 pub fn take(l: &mut [u32])
     ensures { λ r. ⌜ Stepped lineSize lineIn lineRange takenOrSame (now (l .entry)) (now (l .exit)) ⌝ }
 {
-    if l.len() != LINE {
+    if l.len() != WORDS {
         return;
     }
     let n = held_word(l);
     if n == 0 {
         return;
     }
-    words::store(l, 0, n - 1);
-    words::store(l, 1, less(words::word(l, 1)));
-    words::shift(&mut l[2..LINE], MESSAGE);
+    words::store(l, HELD, n - 1);
+    words::store(l, ARRIVED, less(words::word(l, ARRIVED)));
+    words::shift(&mut l[BOXES..WORDS], MESSAGE);
 }
 
-// ---- one message, in 19 words
+// ---- one message
 fn message_in(w: &[u32]) -> Message
     requires { ⌜ length (now w) ≡ messageSize ⌝ }
     ensures { λ r. ⌜ messageOf r ≡ messageIn (now (w .entry)) ⌝ }
 {
     Message {
-        name: words::word(w, 0),
-        stamp: timestamp::from_words(&w[1..MESSAGE]),
+        name: words::word(w, NAME),
+        stamp: timestamp::from_words(&w[STAMP..MESSAGE]),
     }
 }
 
@@ -110,9 +137,9 @@ fn put_message(w: &mut [u32], m: Message)
     requires { ⌜ length (now w) ≡ messageSize ⌝ }
     ensures { λ r. ⌜ (messageIn (now (w .exit)) ≡ messageOf m) × (messageRange (now (w .exit)) ≡ true) ⌝ }
 {
-    w[0] = m.name;
+    w[NAME] = m.name;
     let t = m.stamp;
-    t.write_to(&mut w[1..MESSAGE]);
+    t.write_to(&mut w[STAMP..MESSAGE]);
 }
 
 // The message of name 0.
@@ -126,7 +153,7 @@ fn nameless() -> Message
     let t = Timestamp {
         epoch: Epoch(0),
         len: 0,
-        tuples: [none; 8],
+        tuples: [none; SITES_WIDE],
     };
     Message { name: 0, stamp: t }
 }
@@ -135,11 +162,11 @@ fn nameless() -> Message
 fn held_word(l: &[u32]) -> u32
     ensures { λ r. ⌜ r ≡ min (getD (now (l .entry)) 0 0) heldMost ⌝ }
 {
-    let n = words::word(l, 0);
-    if n < 16 {
+    let n = words::word(l, HELD);
+    if n < MESSAGES {
         return n;
     }
-    16
+    MESSAGES
 }
 
 // One less, and 0 of 0.

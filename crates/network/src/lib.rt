@@ -1,4 +1,5 @@
 // A network of sites in one lent array of words: set-up, commit, dummy, epoch, deliver, schedule, waiting report; and what the crates above read of a state.
+use limits::RECORDS_WIDE;
 pub use network_commit::commit;
 pub use network_deliver::deliver;
 pub use network_dummy::dummy;
@@ -6,9 +7,7 @@ pub use network_epoch::epoch;
 pub use network_layout::Committed;
 pub use network_layout::Dummied;
 pub use network_layout::Entry;
-use network_layout::HISTORY;
 pub use network_layout::Operation;
-use network_layout::RECORD;
 pub use network_layout::Report;
 pub use network_layout::Scheduled;
 pub use network_layout::Totals;
@@ -17,14 +16,14 @@ pub use network_operations::commit_operations;
 pub use network_schedule::schedule;
 pub use network_set_up::set_up;
 pub use network_waiting::waiting;
+use site::OPERATIONS;
 ghost use mathlib.Core.Path.{_≡_};
 ghost use lib.ListN.{length, getD};
-ghost use Prim.Native.Nat.{_<_};
 ghost use Rattle.timestamp.specs.Timestamp.{stampOf};
-ghost use Rattle.limits.specs.Limits.{recordsMost};
 ghost use Rattle.network_layout.specs.Layout.{stateSize};
 ghost use Rattle.protocol.specs.Network.{noRecord};
 ghost use Rattle.network_layout.specs.InWords.{networkIn, shaped as shapedWords};
+ghost use Rattle.network_layout.specs.At.{HasRecord};
 ghost use Rattle.network_layout.specs.Reading.{Entered};
 
 // Whether a state's words are those of a network.
@@ -39,9 +38,9 @@ pub fn holdings(state: &[u32; WORDS]) -> Totals
     ensures { λ r. ⌜ (r .sites ≡ length (networkIn (now (state .entry)) .sites)) × (r .items ≡ length (networkIn (now (state .entry)) .items)) × (r .records ≡ length (networkIn (now (state .entry)) .history)) ⌝ }
 {
     Totals {
-        sites: state[0],
-        items: state[1],
-        records: state[2],
+        sites: network_access::site_count(state),
+        items: network_access::item_count(state),
+        records: network_access::record_count(state),
     }
 }
 
@@ -56,29 +55,24 @@ fn record_in(state: &[u32], k: usize) -> Entry
     requires { ⌜ length (now state) ≡ stateSize ⌝ }
     ensures { λ r. ⌜ Entered (getD (networkIn (now (state .entry)) .history) k noRecord) (r .site) (stampOf (r .stamp)) (r .count) (r .ops) ⌝ }
 {
-    if words::wide(state[2]) <= k {
+    if words::wide(network_access::record_count(state)) <= k {
         return no_entry();
     }
-    if 256 <= k {
+    if RECORDS_WIDE <= k {
         return no_entry();
     }
     entry_in(state, k)
 }
 
 fn entry_in(state: &[u32], k: usize) -> Entry
-    requires { ⌜ (length (now state) ≡ stateSize) × (k < getD (now state) 2 0) × (k < recordsMost) ⌝ }
+    requires { ⌜ HasRecord (now state) k ⌝ }
     ensures { λ r. ⌜ Entered (getD (networkIn (now (state .entry)) .history) k noRecord) (r .site) (stampOf (r .stamp)) (r .count) (r .ops) ⌝ }
 {
-    let a = HISTORY + k * RECORD;
-    let o = a + 20;
-    let e = a + RECORD;
-    let mut ops = [0u32; 24];
-    words::copy(&mut ops, &state[o..e]);
     Entry {
-        site: state[a],
-        stamp: records::stamp(&state[a..e]),
-        count: records::count(&state[a..e]),
-        ops,
+        site: network_access::record_site(state, k),
+        stamp: network_access::record_stamp(state, k),
+        count: network_access::operation_count(state, k),
+        ops: network_access::record_ops(state, k),
     }
 }
 
@@ -90,6 +84,6 @@ fn no_entry() -> Entry
         site: 0,
         stamp: none,
         count: 0,
-        ops: [0u32; 24],
+        ops: [0u32; OPERATIONS],
     }
 }

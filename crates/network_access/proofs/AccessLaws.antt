@@ -6,137 +6,138 @@ use Prim.Native.Nat.{ℕ, _+_, _-_, _*_, _≤_, _<_, min}
 use native.Mathlib.Omega.{arith}
 use lib.ListN.{length, getD, set}
 use Rattle.words.specs.Words.{part, put, overlaid, Stepped}
-use Rattle.words.proofs.Parts.{part-length, part-part, lent-part, lent-put, lent-size}
+use Rattle.words.proofs.Parts.{part-length, lent-part, lent-put, lent-size}
 use Rattle.words.proofs.Chunks.{chunks-length}
-use Rattle.lists.proofs.Every.{every-at}
 use Rattle.words.proofs.Walks.{overlaid-same}
-use Rattle.site.specs.Site.{Site}
+use Rattle.lists.proofs.Every.{every-at}
 use Rattle.timestamp.specs.Timestamp.{Stamp}
+use Rattle.site.specs.Site.{Site}
 use Rattle.site.specs.InWords.{siteIn, siteRange, siteSize, opsIn, opsSize}
-use Rattle.limits.specs.Limits.{opsMost, sitesMost, recordsMost}
+use Rattle.placement.specs.Placement.{noItem}
+use Rattle.placement.specs.InWords.{itemAt, itemsIn}
+use Rattle.limits.specs.Limits.{opsMost, itemsMost, sitesMost}
 use Rattle.lines.specs.Lines.{Line, noLine}
 use Rattle.lines.specs.InWords.{lineIn, lineRange, lineSize}
 use Rattle.records.specs.Records.{Record}
-use Rattle.records.specs.InWords.{recordIn, recordSize, opsAt, Written}
-use Rattle.records.proofs.Laws.{count-law}
-use Rattle.network_layout.specs.Layout.{sitesAt, sitesSize, linesAt, linesSize, historyAt, stateSize}
+use Rattle.records.specs.InWords.{recordIn, recordSize, opsAt, opsWords, Written}
+use Rattle.records.proofs.Laws.{ops-whole}
 use Rattle.protocol.specs.Network.{linesMost, siteAt, withSite, withLine, withRecord, noRecord}
+use Rattle.network_layout.specs.Layout.{siteCount, itemCount, recordCount, itemsAt, itemsSize, sitesAt, sitesSize, linesAt, linesSize, historyAt}
 use Rattle.network_layout.specs.InWords.{siteWords, lineWords, networkIn, inRange, SiteStep, LineStep, RecordStep}
+use Rattle.network_layout.specs.At.{AtState, AtSite, AtLine, AtRoom, HasLine, HasRecord}
 use Rattle.network_layout.proofs.Assembled.{partsOf, range-parts, line-words, line-read, line-put, line-range, site-words, site-read, site-put, site-range, record-read, longer, record-put, record-range}
+use Rattle.network_layout.proofs.Performs.{items-asked, item-read}
+use Rattle.network_access.specs.Lent.{Lent}
 
--- ---- a part from a place on, as it is lent
-module _ (w : List ℕ) (a k : ℕ) (fits : a + k ≤ length w) where
-  lent-has : length (part w a (a + k - a)) ≡ k
-  lent-has = ap length (lent-part w a k) ∙ part-length w a k fits
+-- ---- the placement's words and the number of items, as its functions are asked
+pub items-lent : (w : List ℕ) → AtState w → (xs : List ℕ) → xs ≡ part w itemsAt itemsSize → (m n : ℕ) → m ≡ itemCount w → n ≡ m → itemsIn (min n itemsMost) xs ≡ networkIn w .items
+items-lent w at xs e m n is same = ap (itemsIn (min n itemsMost)) e ∙ items-asked w (at .ranged) n (same ∙ is)
 
-module _ (w : List ℕ) (size : length w ≡ stateSize) where
-  -- ---- a line
-  module _ (k : ℕ) (b : k < linesMost) where
-    abbrev pub lineStart : ℕ
-    lineStart = linesAt + k * lineSize
+pub item-lent : (w xs : List ℕ) → xs ≡ part w itemsAt itemsSize → (n k : ℕ) → n ≡ k → k < itemCount w → itemAt xs n ≡ getD (networkIn w .items) k noItem
+item-lent w xs e n k is h = ap₂ itemAt e is ∙ item-read w k h
 
-    pub line-lent : lineIn (part w lineStart (lineStart + lineSize - lineStart)) ≡ getD (networkIn w .lines) k noLine
-    line-lent = ap lineIn (lent-part w lineStart lineSize) ∙ sym (line-read w size k b)
+-- ---- where the words of one thing start, and those words as they are lent
+abbrev pub lineStart : ℕ → ℕ
+lineStart k = linesAt + k * lineSize
 
-    pub line-long : length (part w lineStart (lineStart + lineSize - lineStart)) ≡ lineSize
-    line-long = lent-has w lineStart lineSize (omega arith)
+abbrev pub siteStart : ℕ → ℕ
+siteStart k = sitesAt + k * siteSize
 
-    pub line-stepped : inRange w ≡ true → (step : Line → Line) (ys : List ℕ) → length ys ≡ length (part w lineStart (lineStart + lineSize - lineStart))
-        → Stepped lineSize lineIn lineRange step (part w lineStart (lineStart + lineSize - lineStart)) ys
-        → LineStep w (put w lineStart (lineStart + lineSize - lineStart) ys) k step
-    unfolding partsOf
-    line-stepped e step ys long s =
-        let fits : length ys ≡ lineSize = lent-size w lineStart lineSize ys (omega arith) long in
-        let held : lineRange (part w lineStart (lineStart + lineSize - lineStart)) ≡ true
-        = ap lineRange (lent-part w lineStart lineSize ∙ sym (line-words w size k b)) ∙ every-at lineRange (lineWords w) k [] (range-parts w e .line-ranges) (omega (arith, chunks-length lineSize linesMost (part w linesAt linesSize))) in
-        record {
-          meant =
-              ap networkIn (lent-put w lineStart lineSize ys)
-              ∙ line-put w size k b ys fits
-              ∙ ap (withLine (networkIn w) k) (s .meant line-long ∙ ap step line-lent);
-          ranged = ap inRange (lent-put w lineStart lineSize ys) ∙ line-range w size k b ys fits e (s .ranged line-long held);
-        }
+abbrev pub recordStart : ℕ → ℕ
+recordStart k = historyAt + k * recordSize
 
-  -- ---- a site
-  module _ (e : inRange w ≡ true) (i : ℕ) (b : i < getD w 0 0) where
-    abbrev pub siteStart : ℕ
-    siteStart = sitesAt + i * siteSize
+module _ (w : List ℕ) (a k : ℕ) where
+  abbrev pub lent : List ℕ
+  lent = part w a (a + k - a)
 
-    few : getD w 0 0 ≤ sitesMost
-    unfolding partsOf
-    few = range-parts w e .few-sites
+  lent-has : a + k ≤ length w → length lent ≡ k
+  lent-has fits = ap length (lent-part w a k) ∙ part-length w a k fits
 
-    inside : siteStart + siteSize ≤ length w
-    inside = omega (arith, few)
+module _ (w : List ℕ) (k : ℕ) where
+  pub line-lent : HasLine w k → Lent lineSize lineIn (getD (networkIn w .lines) k noLine) (lent w (lineStart k) lineSize)
+  line-lent h =
+      let size = h .sized in
+      record {
+        sized = lent-has w (lineStart k) lineSize (omega (arith, h .few));
+        meant = ap lineIn (lent-part w (lineStart k) lineSize) ∙ sym (line-read w size k (h .few));
+      }
 
-    pub site-lent : siteIn (part w siteStart (siteStart + siteSize - siteStart)) ≡ siteAt (networkIn w) i
-    site-lent = ap siteIn (lent-part w siteStart siteSize) ∙ sym (site-read w size few i b)
+  pub record-lent : HasRecord w k → Lent recordSize recordIn (getD (networkIn w .history) k noRecord) (lent w (recordStart k) recordSize)
+  record-lent h =
+      let size = h .sized in
+      record {
+        sized = lent-has w (recordStart k) recordSize (omega (arith, h .few));
+        meant = ap recordIn (lent-part w (recordStart k) recordSize) ∙ sym (record-read w size k (h .there) (h .few));
+      }
 
-    pub site-long : length (part w siteStart (siteStart + siteSize - siteStart)) ≡ siteSize
-    site-long = lent-has w siteStart siteSize inside
+  -- its operations' words, copied over as many others
+  pub record-copied : (ys : List ℕ) → Lent recordSize recordIn (getD (networkIn w .history) k noRecord) ys → (d out : List ℕ) → length d ≡ opsSize → out ≡ overlaid d (opsWords ys)
+      → opsIn (length (getD (networkIn w .history) k noRecord .ops)) out ≡ getD (networkIn w .history) k noRecord .ops
+  record-copied ys l d out long is =
+      let size = l .sized in
+      ap (λ (r : Record). opsIn (length (r .ops)) out) (sym (l .meant))
+      ∙ ap (opsIn (length (recordIn ys .ops))) (is ∙ overlaid-same d (opsWords ys) (part-length ys opsAt opsSize (omega arith) ∙ sym long))
+      ∙ ops-whole ys
+      ∙ ap (λ (r : Record). r .ops) (l .meant)
 
-    pub site-stepped : (step : Site → Site) (ys : List ℕ) → length ys ≡ length (part w siteStart (siteStart + siteSize - siteStart))
-        → Stepped siteSize siteIn siteRange step (part w siteStart (siteStart + siteSize - siteStart)) ys
-        → SiteStep w (put w siteStart (siteStart + siteSize - siteStart) ys) i step
-    unfolding partsOf
-    site-stepped step ys long s =
-        let fits : length ys ≡ siteSize = lent-size w siteStart siteSize ys inside long in
-        let held : siteRange (part w siteStart (siteStart + siteSize - siteStart)) ≡ true
-        = ap siteRange (lent-part w siteStart siteSize ∙ sym (site-words w size few i b)) ∙ every-at siteRange (siteWords w) i [] (range-parts w e .site-ranges) (omega (arith, chunks-length siteSize (getD w 0 0) (part w sitesAt sitesSize))) in
-        record {
-          meant =
-              ap networkIn (lent-put w siteStart siteSize ys)
-              ∙ site-put w size few i b ys fits
-              ∙ ap (withSite (networkIn w) i) (s .meant site-long ∙ ap step site-lent);
-          ranged = ap inRange (lent-put w siteStart siteSize ys) ∙ site-range w size few i b ys fits e (s .ranged site-long held);
-        }
+  few-sites : AtSite w k → siteCount w ≤ sitesMost
+  unfolding partsOf
+  few-sites h = range-parts w (h .ranged) .few-sites
 
-  -- ---- a record
-  module _ (e : inRange w ≡ true) (k : ℕ) (b : k < getD w 2 0) where
-    abbrev pub recordStart : ℕ
-    recordStart = historyAt + k * recordSize
+  pub site-lent : AtSite w k → Lent siteSize siteIn (siteAt (networkIn w) k) (lent w (siteStart k) siteSize)
+  site-lent h =
+      let size = h .sized in
+      record {
+        sized = lent-has w (siteStart k) siteSize (omega (arith, h .few));
+        meant = ap siteIn (lent-part w (siteStart k) siteSize) ∙ sym (site-read w size (few-sites h) k (h .there));
+      }
 
-    pub record-lent : recordIn (part w recordStart (recordStart + recordSize - recordStart)) ≡ getD (networkIn w .history) k noRecord
-    unfolding partsOf
-    record-lent = ap recordIn (lent-part w recordStart recordSize) ∙ sym (record-read w size (range-parts w e .few-records) k b)
+  -- ---- a step on it
+  pub line-stepped : AtLine w k → (step : Line → Line) (ys : List ℕ) → length ys ≡ length (lent w (lineStart k) lineSize)
+      → Stepped lineSize lineIn lineRange step (lent w (lineStart k) lineSize) ys
+      → LineStep w (put w (lineStart k) (lineStart k + lineSize - lineStart k) ys) k step
+  unfolding partsOf
+  line-stepped h step ys long s =
+      let size = h .sized in
+      let l = line-lent (record { sized = size; few = h .few }) in
+      let fits : length ys ≡ lineSize = long ∙ l .sized in
+      let held : lineRange (lent w (lineStart k) lineSize) ≡ true
+      = ap lineRange (lent-part w (lineStart k) lineSize ∙ sym (line-words w size k (h .few))) ∙ every-at lineRange (lineWords w) k [] (range-parts w (h .ranged) .line-ranges) (omega (arith, h .few, chunks-length lineSize linesMost (part w linesAt linesSize))) in
+      record {
+        meant = ap networkIn (lent-put w (lineStart k) lineSize ys) ∙ line-put w size k (h .few) ys fits ∙ ap (withLine (networkIn w) k) (s .meant (l .sized) ∙ ap step (l .meant));
+        ranged = ap inRange (lent-put w (lineStart k) lineSize ys) ∙ line-range w size k (h .few) ys fits (h .ranged) (s .ranged (l .sized) held);
+      }
 
-    -- its operations' words, as they are lent, and copied over as many others
-    ops-lent : opsIn (length (getD (networkIn w .history) k noRecord .ops)) (part w (recordStart + opsAt) (recordStart + opsAt + opsSize - (recordStart + opsAt))) ≡ getD (networkIn w .history) k noRecord .ops
-    unfolding partsOf recordIn
-    ops-lent =
-        let own = part w recordStart recordSize in
-        let read = record-read w size (range-parts w e .few-records) k b in
-        ap₂ opsIn (ap (λ (r : Record). length (r .ops)) read ∙ count-law own) (lent-part w (recordStart + opsAt) opsSize ∙ sym (part-part w recordStart recordSize opsAt opsSize (omega arith)))
-        ∙ sym (ap (λ (r : Record). r .ops) read)
-
-    pub ops-counted : (n : ℕ) → n ≡ length (getD (networkIn w .history) k noRecord .ops)
-        → opsIn n (part w (recordStart + opsAt) (recordStart + opsAt + opsSize - (recordStart + opsAt))) ≡ getD (networkIn w .history) k noRecord .ops
-    ops-counted n is = ap (λ (m : ℕ). opsIn m (part w (recordStart + opsAt) (recordStart + opsAt + opsSize - (recordStart + opsAt)))) is ∙ ops-lent
-
-    pub record-copied : (d out : List ℕ) → length d ≡ opsSize → out ≡ overlaid d (part w (recordStart + opsAt) (recordStart + opsAt + opsSize - (recordStart + opsAt)))
-        → opsIn (length (getD (networkIn w .history) k noRecord .ops)) out ≡ getD (networkIn w .history) k noRecord .ops
-    unfolding partsOf
-    record-copied d out long is =
-        let few = range-parts w e .few-records in
-        let ops = part w (recordStart + opsAt) (recordStart + opsAt + opsSize - (recordStart + opsAt)) in
-        ap (opsIn (length (getD (networkIn w .history) k noRecord .ops))) (is ∙ overlaid-same d ops (lent-has w (recordStart + opsAt) opsSize (omega arith) ∙ sym long)) ∙ ops-lent
+  pub site-stepped : AtSite w k → (step : Site → Site) (ys : List ℕ) → length ys ≡ length (lent w (siteStart k) siteSize)
+      → Stepped siteSize siteIn siteRange step (lent w (siteStart k) siteSize) ys
+      → SiteStep w (put w (siteStart k) (siteStart k + siteSize - siteStart k) ys) k step
+  unfolding partsOf
+  site-stepped h step ys long s =
+      let size = h .sized in
+      let l = site-lent h in
+      let fits : length ys ≡ siteSize = long ∙ l .sized in
+      let held : siteRange (lent w (siteStart k) siteSize) ≡ true
+      = ap siteRange (lent-part w (siteStart k) siteSize ∙ sym (site-words w size (few-sites h) k (h .there))) ∙ every-at siteRange (siteWords w) k [] (range-parts w (h .ranged) .site-ranges) (omega (arith, h .there, chunks-length siteSize (siteCount w) (part w sitesAt sitesSize))) in
+      record {
+        meant = ap networkIn (lent-put w (siteStart k) siteSize ys) ∙ site-put w size (few-sites h) k (h .there) ys fits ∙ ap (withSite (networkIn w) k) (s .meant (l .sized) ∙ ap step (l .meant));
+        ranged = ap inRange (lent-put w (siteStart k) siteSize ys) ∙ site-range w size (few-sites h) k (h .there) ys fits (h .ranged) (s .ranged (l .sized) held);
+      }
 
   -- a record more, written to the part behind the others
-  pub record-added : inRange w ≡ true → getD w 2 0 < recordsMost → (k : ℕ) → k ≡ getD w 2 0 → (site count : ℕ) → 1 ≤ count → count ≤ opsMost → (stamp : Stamp) (ops : List ℕ) → length ops ≡ opsSize → (ys : List ℕ)
-      → length ys ≡ length (part w (historyAt + k * recordSize) (historyAt + k * recordSize + recordSize - (historyAt + k * recordSize)))
-      → Written (part w (historyAt + k * recordSize) (historyAt + k * recordSize + recordSize - (historyAt + k * recordSize))) ys site count stamp ops
-      → (v : List ℕ) (m : ℕ) → m ≡ getD w 2 0 → v ≡ set (put w (historyAt + k * recordSize) (historyAt + k * recordSize + recordSize - (historyAt + k * recordSize)) ys) 2 (m + 1)
+  pub record-added : (site count : ℕ) → AtRoom w count → k ≡ recordCount w → (stamp : Stamp) (ops : List ℕ) → length ops ≡ opsSize → (ys : List ℕ)
+      → length ys ≡ length (lent w (recordStart k) recordSize) → Written (lent w (recordStart k) recordSize) ys site count stamp ops
+      → (v : List ℕ) (m : ℕ) → m ≡ recordCount w → v ≡ set (put w (recordStart k) (recordStart k + recordSize - recordStart k) ys) 2 (m + 1)
       → RecordStep w v (record { site = site; stamp = stamp; ops = opsIn (min count opsMost) ops })
-  record-added e room k is site count some few stamp ops long ys size′ s v m ms f =
-      let a = historyAt + k * recordSize in
-      let inside : a + recordSize ≤ length w = omega arith in
-      let fits : length ys ≡ recordSize = lent-size w a recordSize ys inside size′ in
-      let held : length (part w a (a + recordSize - a)) ≡ recordSize = lent-has w a recordSize inside in
-      let g : v ≡ longer w size room ys fits
+  record-added site count h is stamp ops long ys size′ s v m ms f =
+      let size = h .sized in
+      let inside : recordStart k + recordSize ≤ length w = omega (arith, h .room) in
+      let fits : length ys ≡ recordSize = lent-size w (recordStart k) recordSize ys inside size′ in
+      let held : length (lent w (recordStart k) recordSize) ≡ recordSize = lent-has w (recordStart k) recordSize inside in
+      let g : v ≡ longer w size (h .room) ys fits
       = f
-      ∙ ap (λ (x : List ℕ). set x 2 (m + 1)) (lent-put w a recordSize ys ∙ ap (λ (j : ℕ). put w (historyAt + j * recordSize) recordSize ys) is)
-      ∙ ap (λ (j : ℕ). set (put w (historyAt + getD w 2 0 * recordSize) recordSize ys) 2 (j + 1)) ms in
+      ∙ ap (λ (x : List ℕ). set x 2 (m + 1)) (lent-put w (recordStart k) recordSize ys ∙ ap (λ (j : ℕ). put w (historyAt + j * recordSize) recordSize ys) is)
+      ∙ ap (λ (j : ℕ). set (put w (historyAt + recordCount w * recordSize) recordSize ys) 2 (j + 1)) ms in
       record {
-        meant = ap networkIn g ∙ record-put w size room ys fits ∙ ap (withRecord (networkIn w)) (s .meant held long);
-        ranged = ap inRange g ∙ record-range w size room ys fits e (s .ranged held long some few);
+        meant = ap networkIn g ∙ record-put w size (h .room) ys fits ∙ ap (withRecord (networkIn w)) (s .meant held long);
+        ranged = ap inRange g ∙ record-range w size (h .room) ys fits (h .ranged) (s .ranged held long (h .some) (h .few));
       }

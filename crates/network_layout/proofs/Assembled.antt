@@ -258,7 +258,7 @@ module _ (w : List ℕ) (size : length w ≡ stateSize) where
           }))
 
   -- ---- one record
-  module _ (few : getD w 2 0 ≤ recordsMost) (k : ℕ) (b : k < getD w 2 0) where
+  module _ (k : ℕ) (b : k < getD w 2 0) (few : k < recordsMost) where
     pub record-words : getD (recordWords w) k [] ≡ part w (historyAt + k * recordSize) recordSize
     record-words = chunks-at recordSize (getD w 2 0) (part w historyAt historySize) k b ∙ part-part w historyAt historySize (k * recordSize) recordSize (omega arith)
 

@@ -13,7 +13,7 @@ use Rattle.protocol.specs.Network.{Network, noStamp, lineNumber, wellShaped}
 use Rattle.protocol.specs.Calls.{Call, Outcome, refused, judged, perform}
 use Rattle.network_layout.specs.InWords.{networkIn, inRange, shaped, meaning}
 use Rattle.network_layout.specs.Promises.{Performed}
-use Rattle.network_layout.specs.At.{AtState, AtSite, AtLine, AtRecord, AtNetwork}
+use Rattle.network_layout.specs.At.{AtState, AtSite, AtLine, HasRecord, AtNetwork}
 use Rattle.network_layout.proofs.Assembled.{partsOf, range-parts}
 use Rattle.network_layout.proofs.Performs.{sites-count, records-count, shaped-range, shaped-well, number-shaped, performs-refused, performs-accepted, meaning-some}
 
@@ -42,12 +42,11 @@ module _ (w : List ℕ) (net : AtNetwork w) where
           few = omega (arith, there, same, few-on);
         }
 
-    pub at-record : i < length (networkIn w .history) → AtRecord w k
+    pub at-record : i < length (networkIn w .history) → HasRecord w k
     unfolding partsOf
     at-record there =
         record {
           sized = net .sized;
-          ranged = ranged-on;
           there = omega (arith, there, same, records-count w);
           few = omega (arith, there, same, records-count w, range-parts w ranged-on .few-records);
         }

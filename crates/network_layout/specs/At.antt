@@ -1,14 +1,15 @@
--- What the inner functions ask of a state's words: that every number in them is in range, and that there is such a site, line or record.
+-- What the inner functions ask of a state's words: that every number in them is in range, and that there is such a site, line, item or record.
 use mathlib.Core.Path.{_≡_}
 use mathlib.Core.Bool.{true}
 use mathlib.Core.List.{List}
-use Prim.Native.Nat.{ℕ, _<_}
-use lib.ListN.{length, getD}
-use Rattle.limits.specs.Limits.{sitesMost, recordsMost}
+use Prim.Native.Nat.{ℕ, _<_, _≤_}
+use lib.ListN.{length}
+use Rattle.limits.specs.Limits.{sitesMost, opsMost, recordsMost}
 use Rattle.protocol.specs.Network.{linesMost}
-use Rattle.network_layout.specs.Layout.{stateSize}
+use Rattle.network_layout.specs.Layout.{siteCount, itemCount, recordCount, stateSize}
 use Rattle.network_layout.specs.InWords.{inRange, shaped}
 
+-- ---- where the state is in range
 pub record AtState (w : List ℕ) : Type 0 where
   pub sized : length w ≡ stateSize
   pub ranged : inRange w ≡ true
@@ -16,7 +17,7 @@ pub record AtState (w : List ℕ) : Type 0 where
 pub record AtSite (w : List ℕ) (i : ℕ) : Type 0 where
   pub sized : length w ≡ stateSize
   pub ranged : inRange w ≡ true
-  pub there : i < getD w 0 0
+  pub there : i < siteCount w
   pub few : i < sitesMost
 
 pub record AtLine (w : List ℕ) (k : ℕ) : Type 0 where
@@ -24,10 +25,26 @@ pub record AtLine (w : List ℕ) (k : ℕ) : Type 0 where
   pub ranged : inRange w ≡ true
   pub few : k < linesMost
 
-pub record AtRecord (w : List ℕ) (k : ℕ) : Type 0 where
+-- a record more, of n operations
+pub record AtRoom (w : List ℕ) (n : ℕ) : Type 0 where
   pub sized : length w ≡ stateSize
   pub ranged : inRange w ≡ true
-  pub there : k < getD w 2 0
+  pub room : recordCount w < recordsMost
+  pub some : 1 ≤ n
+  pub few : n ≤ opsMost
+
+-- ---- what is only read need not be in range
+pub record HasItem (w : List ℕ) (k : ℕ) : Type 0 where
+  pub sized : length w ≡ stateSize
+  pub there : k < itemCount w
+
+pub record HasLine (w : List ℕ) (k : ℕ) : Type 0 where
+  pub sized : length w ≡ stateSize
+  pub few : k < linesMost
+
+pub record HasRecord (w : List ℕ) (k : ℕ) : Type 0 where
+  pub sized : length w ≡ stateSize
+  pub there : k < recordCount w
   pub few : k < recordsMost
 
 -- the words of a network
@@ -35,11 +52,7 @@ pub record AtNetwork (w : List ℕ) : Type 0 where
   pub sized : length w ≡ stateSize
   pub formed : shaped w ≡ true
 
--- two sites, and the line between them
-pub record Pair (p c : ℕ) : Type 0 where
-  pub from : p < sitesMost
-  pub to : c < sitesMost
-
+-- the line between two sites
 pub record AtPair (w : List ℕ) (p c : ℕ) : Type 0 where
   pub sized : length w ≡ stateSize
   pub ranged : inRange w ≡ true

@@ -16,25 +16,25 @@ use Rattle.lines.specs.Lines.{Line, noLine, Message}
 use Rattle.lines.specs.InWords.{lineIn, lineRange, lineSize}
 use Rattle.records.specs.Records.{Record}
 use Rattle.records.specs.InWords.{recordIn, recordRange, recordSize}
-use Rattle.network_layout.specs.Layout.{itemsAt, itemsSize, sitesAt, sitesSize, linesAt, linesSize, historyAt, historySize}
+use Rattle.network_layout.specs.Layout.{siteCount, itemCount, recordCount, itemsAt, itemsSize, sitesAt, sitesSize, linesAt, linesSize, historyAt, historySize}
 use Rattle.protocol.specs.Network.{linesMost, Network, siteAt, withSite, withLine, withLines, withRecord, wellShaped}
 use Rattle.protocol.specs.Steps.{sentTo}
 
 -- ---- the words of each site, each line and each record held
 abbrev pub siteWords : List ℕ → List (List ℕ)
-siteWords w = chunks siteSize (getD w 0 0) (part w sitesAt sitesSize)
+siteWords w = chunks siteSize (siteCount w) (part w sitesAt sitesSize)
 
 abbrev pub lineWords : List ℕ → List (List ℕ)
 lineWords w = chunks lineSize linesMost (part w linesAt linesSize)
 
 abbrev pub recordWords : List ℕ → List (List ℕ)
-recordWords w = chunks recordSize (getD w 2 0) (part w historyAt historySize)
+recordWords w = chunks recordSize (recordCount w) (part w historyAt historySize)
 
 unfoldable pub networkIn : List ℕ → Network
 networkIn w =
     record {
       sites = map siteIn (siteWords w);
-      items = itemsIn (getD w 1 0) (part w itemsAt itemsSize);
+      items = itemsIn (itemCount w) (part w itemsAt itemsSize);
       lines = map lineIn (lineWords w);
       history = map recordIn (recordWords w);
     }
@@ -42,11 +42,11 @@ networkIn w =
 -- every number of things is in range: sites, items, records, and in each of them what it holds
 unfoldable pub inRange : List ℕ → Bool
 inRange w =
-    leb 1 (getD w 0 0)
-    && (leb (getD w 0 0) sitesMost
-    && (leb 1 (getD w 1 0)
-    && (leb (getD w 1 0) itemsMost
-    && (leb (getD w 2 0) recordsMost
+    leb 1 (siteCount w)
+    && (leb (siteCount w) sitesMost
+    && (leb 1 (itemCount w)
+    && (leb (itemCount w) itemsMost
+    && (leb (recordCount w) recordsMost
     && (every siteRange (siteWords w)
     && (every lineRange (lineWords w)
     && every recordRange (recordWords w)))))))

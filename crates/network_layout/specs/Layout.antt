@@ -1,5 +1,7 @@
 -- The layout of a state in words: its head, the placement, the sites, the lines, the history.
+use mathlib.Core.List.{List}
 use Prim.Native.Nat.{ℕ, _+_, _*_}
+use lib.ListN.{getD}
 use Rattle.protocol.specs.Network.{linesMost}
 use Rattle.site.specs.InWords.{siteSize}
 use Rattle.placement.specs.InWords.{itemSize}
@@ -8,6 +10,15 @@ use Rattle.lines.specs.InWords.{lineSize}
 use Rattle.records.specs.InWords.{recordSize}
 
 -- the head: how many sites, how many items, how many records
+abbrev pub siteCount : List ℕ → ℕ
+siteCount w = getD w 0 0
+
+abbrev pub itemCount : List ℕ → ℕ
+itemCount w = getD w 1 0
+
+abbrev pub recordCount : List ℕ → ℕ
+recordCount w = getD w 2 0
+
 abbrev pub headSize : ℕ
 headSize = 3
 

@@ -1,4 +1,8 @@
 // The layout of a state in words, and what the calls answer. No code.
+use limits::ITEMS_WIDE;
+use limits::OPERATIONS_WIDE;
+use limits::RECORDS_WIDE;
+use limits::SITES_WIDE;
 use timestamp::Timestamp;
 
 // An operation of a commit: 0 a read or 1 a write, the item, and the value that is written.
@@ -13,7 +17,7 @@ pub struct Committed {
     pub number: u32,
     pub stamp: Timestamp,
     pub count: usize,
-    pub values: [i32; 8],
+    pub values: [i32; OPERATIONS_WIDE],
 }
 
 // What a dummy answers: its number and the timestamp, which is zero where it is refused.
@@ -33,7 +37,7 @@ pub struct Scheduled {
 pub struct Report {
     pub number: u32,
     pub count: usize,
-    pub items: [u32; 64],
+    pub items: [u32; ITEMS_WIDE],
 }
 
 // How many sites, items and records a state holds.
@@ -48,23 +52,33 @@ pub struct Entry {
     pub site: u32,
     pub stamp: Timestamp,
     pub count: usize,
-    pub ops: [u32; 24],
+    pub ops: [u32; site::OPERATIONS],
 }
 
+// Where the head has how many sites, items and records there are.
+pub const SITE_COUNT: usize = 0;
+
+pub const ITEM_COUNT: usize = SITE_COUNT + 1;
+
+pub const RECORD_COUNT: usize = ITEM_COUNT + 1;
+
+// How many lines there are, one for each two sites.
+pub const LINES_MOST: usize = SITES_WIDE * SITES_WIDE;
+
 // Where the parts of a state start, and its size.
-pub const ITEMS: usize = 3;
+pub const ITEMS: usize = RECORD_COUNT + 1;
 
-pub const SITES: usize = ITEMS + 64 * 2;
+pub const SITES: usize = ITEMS + ITEMS_WIDE * placement::ITEM;
 
-pub const SITE: usize = 82;
+pub const SITE: usize = site::WORDS;
 
-pub const LINES: usize = SITES + 8 * SITE;
+pub const LINES: usize = SITES + SITES_WIDE * SITE;
 
-pub const LINE: usize = 306;
+pub const LINE: usize = lines::WORDS;
 
-pub const HISTORY: usize = LINES + 64 * LINE;
+pub const HISTORY: usize = LINES + LINES_MOST * LINE;
 
-pub const RECORD: usize = 44;
+pub const RECORD: usize = records::WORDS;
 
 // The words of a state.
-pub const WORDS: usize = HISTORY + 256 * RECORD;
+pub const WORDS: usize = HISTORY + RECORDS_WIDE * RECORD;

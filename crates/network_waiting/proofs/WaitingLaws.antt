@@ -2,99 +2,48 @@
 use mathlib.Core.Path.{_≡_, refl, sym, ap, _∙_}
 use mathlib.Core.Bool.{Bool, true, false, cond, _&&_}
 use mathlib.Core.List.{List, [], _∷_, _++_, append-nil}
-use Prim.Native.Nat.{ℕ, zero, suc, _+_, _*_, _%_, _^_, _≤_, _<_, min}
+use Prim.Native.Nat.{ℕ, zero, suc, _+_, _%_, _^_, _≤_, _<_, min}
 use native.Mathlib.Omega.{arith}
 use native.Mathlib.Numerals.{add-one}
 use native.Mathlib.Nat.{zero-div}
-use lib.ListN.{length, getD, set, take, List·getD-map, List·getD-eq-default}
-use lib.Seq.{getD-take, take-suc-set, drop-set-lt}
+use lib.ListN.{length, getD, set, take, List·getD-eq-default}
+use lib.Seq.{take-suc-set, drop-set-lt}
 use lib.Dec.{eqb, ltb}
 use borrow.Author.Tests.{lt-ltb, le-ltb, ltb-true, ltb-false, eq-eqb, ne-eqb, eqb-true, eqb-false}
-use Rattle.words.specs.Words.{part, chunks}
-use Rattle.words.proofs.Parts.{part-getD, part-part}
-use Rattle.words.proofs.Chunks.{chunks-at}
-use Rattle.timestamp.specs.InWords.{stampIn, stampSize}
 use Rattle.placement.specs.Masks.{bit}
 use Rattle.placement.specs.Placement.{Item, noItem, copies}
 use Rattle.lists.specs.Lists.{any, someBelow}
-use Rattle.limits.specs.Limits.{sitesMost, itemsMost, heldMost, recordsMost}
-use Rattle.lines.specs.Lines.{Line, Message, commit, dummy, noLine}
-use Rattle.lines.specs.InWords.{messageIn, messageSize, lineIn, lineSize, boxesIn, boxesSize}
-use Rattle.lines.proofs.Boxes.{messages-length}
+use Rattle.limits.specs.Limits.{sitesMost, itemsMost, recordsMost}
+use Rattle.lines.specs.Lines.{Message, commit, dummy, nameOf}
 use Rattle.records.specs.Records.{Record}
-use Rattle.network_layout.specs.Layout.{linesAt, stateSize}
-use Rattle.protocol.specs.Network.{linesMost, Network, noStamp, noRecord, messageOps, lineNumber}
+use Rattle.protocol.specs.Network.{Network, noStamp, noRecord, messageOps}
 use Rattle.lists.specs.Numbers.{numberIf}
 use Rattle.protocol.specs.Steps.{noSuchSite}
 use Rattle.site.specs.Operations.{writesItem}
 use Rattle.protocol.specs.Waiting.{onLine, isWaiting, waitingNumber, occurrences, EachOnce}
-use Rattle.network_waiting.specs.Collected.{named, Collected}
+use Rattle.network_waiting.specs.Collected.{Collected}
 use Rattle.protocol.specs.Calls.{waiting, accepted, perform}
 use Rattle.network_layout.specs.InWords.{networkIn, inRange, numberIn}
 use Rattle.network_layout.specs.Promises.{Performed}
-use Rattle.network_layout.proofs.Assembled.{partsOf, range-parts, line-read}
+use Rattle.network_layout.proofs.Assembled.{partsOf, range-parts}
 use Rattle.network_layout.proofs.Performs.{records-count, items-count, shaped-range, shaped-well, meaning-some, number-shaped, site-found, site-first, performs-refused, performs-accepted}
 use Rattle.lists.proofs.Some.{some-below-at}
-
--- ---- message i of a line, by its name
-named-by : (x : ℕ) (t : List ℕ) → min x recordsMost ≡ named (cond (ltb x recordsMost) (commit x) (dummy (stampIn t)))
-named-by x t = go (ltb x recordsMost) refl
-  where
-    go : (b : Bool) → ltb x recordsMost ≡ b → min x recordsMost ≡ named (cond (ltb x recordsMost) (commit x) (dummy (stampIn t)))
-    go true h = rw h (omega (arith, ltb-true x recordsMost h))
-    go false h = rw h (omega (arith, ltb-false x recordsMost h))
-
-module _ (w : List ℕ) (size : length w ≡ stateSize) (k : ℕ) (b : k < linesMost) (i : ℕ) (h : i < length (getD (networkIn w .lines) k noLine .messages)) where
-  pub message-low : i < heldMost
-  message-low = omega (arith, messages-length (part w (linesAt + k * lineSize) lineSize), ap (λ (l : Line). length (l .messages)) (line-read w size k b))
-
-  message-at : getD (getD (networkIn w .lines) k noLine .messages) i (commit 0) ≡ messageIn (part w (linesAt + k * lineSize + (2 + i * messageSize)) messageSize)
-  unfolding lineIn
-  message-at =
-      let l = part w (linesAt + k * lineSize) lineSize in
-      let cs = chunks messageSize heldMost (part l 2 boxesSize) in
-      let low : i < heldMost = message-low in
-      let held : i < getD l 0 0 = omega (arith, messages-length l, ap (λ (x : Line). length (x .messages)) (line-read w size k b)) in
-      ap (λ (x : Line). getD (x .messages) i (commit 0)) (line-read w size k b)
-      ∙ List·getD-map messageIn (boxesIn l) i []
-      ∙ ap messageIn
-      (getD-take (getD l 0 0) cs i [] held
-      ∙ chunks-at messageSize heldMost (part l 2 boxesSize) i low
-      ∙ part-part l 2 boxesSize (i * messageSize) messageSize (omega arith)
-      ∙ part-part w (linesAt + k * lineSize) lineSize (2 + i * messageSize) messageSize (omega arith))
-
-  pub message-named : (x : ℕ) → x ≡ getD w (linesAt + k * lineSize + 2 + i * messageSize) 0 → min x recordsMost ≡ named (getD (getD (networkIn w .lines) k noLine .messages) i (commit 0))
-  message-named x e =
-      let at = linesAt + k * lineSize + (2 + i * messageSize) in
-      let place : linesAt + k * lineSize + 2 + i * messageSize ≡ at + 0 = omega arith in
-      let is : x ≡ getD (part w at messageSize) 0 0 = e ∙ ap (λ (j : ℕ). getD w j 0) place ∙ sym (part-getD w at messageSize 0 (omega arith)) in
-      ap (λ (y : ℕ). min y recordsMost) is ∙ named-by (getD (part w at messageSize) 0 0) (part (part w at messageSize) 1 stampSize) ∙ sym (ap named message-at)
 
 -- ---- what a message writes, where x is its name
 pub few-made : (w : List ℕ) → inRange w ≡ true → length (networkIn w .history) ≤ recordsMost
 unfolding partsOf
 few-made w e = omega (arith, records-count w, range-parts w e .few-records)
 
-module _ (item : ℕ) (h : List Record) (few : length h ≤ recordsMost) (m : Message) (x : ℕ) (e : min x recordsMost ≡ named m) where
-  ops-by-name : (m : Message) → messageOps h m ≡ getD h (named m) noRecord .ops
+module _ (item : ℕ) (h : List Record) (few : length h ≤ recordsMost) (m : Message) (x : ℕ) (e : min x recordsMost ≡ nameOf m) where
+  ops-by-name : (m : Message) → messageOps h m ≡ getD h (nameOf m) noRecord .ops
   ops-by-name (commit k) = refl
   ops-by-name (dummy t) = sym (ap (λ (r : Record). r .ops) (List·getD-eq-default h noRecord {n = recordsMost} few))
 
   pub message-none : length h ≤ x → false ≡ any (writesItem item) (messageOps h m)
-  message-none g = sym (ap (any (writesItem item)) (ops-by-name m ∙ ap (λ (r : Record). r .ops) (List·getD-eq-default h noRecord {n = named m} (omega arith))))
+  message-none g = sym (ap (any (writesItem item)) (ops-by-name m ∙ ap (λ (r : Record). r .ops) (List·getD-eq-default h noRecord {n = nameOf m} (omega arith))))
 
   pub message-some : x < length h → any (writesItem item) (getD h x noRecord .ops) ≡ any (writesItem item) (messageOps h m)
-  message-some g = let is : x ≡ named m = omega arith in ap (λ (k : ℕ). any (writesItem item) (getD h k noRecord .ops)) is ∙ sym (ap (any (writesItem item)) (ops-by-name m))
-
--- ---- the messages of line k, and whether one of them writes the item
-abbrev pub onIt : List ℕ → ℕ → List Message
-onIt w k = getD (networkIn w .lines) k noLine .messages
-
-abbrev pub carries : List ℕ → ℕ → Message → Bool
-carries w item m = any (writesItem item) (messageOps (networkIn w .history) m)
-
-pub carried : (w : List ℕ) (p site item k : ℕ) → k ≡ lineNumber p site → any (carries w item) (onIt w k) ≡ onLine (networkIn w) site item p
-carried w p site item k e = ap (λ (j : ℕ). any (carries w item) (onIt w j)) e
+  message-some g = let is : x ≡ nameOf m = omega arith in ap (λ (k : ℕ). any (writesItem item) (getD h k noRecord .ops)) is ∙ sym (ap (any (writesItem item)) (ops-by-name m))
 
 -- ---- an item, by the tests of the code
 module _ (n : Network) (i k : ℕ) where

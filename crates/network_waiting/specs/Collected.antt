@@ -2,19 +2,41 @@
 use mathlib.Core.Path.{_≡_}
 use mathlib.Core.Bool.{Bool, cond}
 use mathlib.Core.List.{List, [], _∷_, _++_}
-use Prim.Native.Nat.{ℕ, _+_, _≤_}
-use lib.ListN.{take, drop}
-use Rattle.limits.specs.Limits.{recordsMost}
-use Rattle.lines.specs.Lines.{Message, commit, dummy}
+use Prim.Native.Nat.{ℕ, _+_, _≤_, _<_}
+use lib.ListN.{length, getD, take, drop}
+use Rattle.lists.specs.Lists.{any}
+use Rattle.limits.specs.Limits.{itemsMost}
+use Rattle.site.specs.Operations.{writesItem}
+use Rattle.lines.specs.Lines.{Message, noLine}
+use Rattle.protocol.specs.Network.{Network, messageOps}
+use Rattle.protocol.specs.Waiting.{EachOnce}
+use Rattle.network_layout.specs.InWords.{networkIn}
+use Rattle.network_layout.specs.At.{AtSite}
+use Rattle.network_layout.specs.Promises.{Filled}
 
--- the number of the record that a message names; for a dummy a number that no record has
-abbrev pub named : Message → ℕ
-named (commit k) = k
-named (dummy t) = recordsMost
+-- ---- the messages of line k, and whether a message writes the item
+abbrev pub onIt : List ℕ → ℕ → List Message
+onIt w k = getD (networkIn w .lines) k noLine .messages
 
--- the places of a report after item k was asked for: one more where it is waiting
+abbrev pub carries : List ℕ → ℕ → Message → Bool
+carries w item m = any (writesItem item) (messageOps (networkIn w .history) m)
+
+-- ---- item k is asked for, after the `count` items that were found before it
+pub record Collecting (items w : List ℕ) (site count k : ℕ) : Type 0 where
+  pub at : AtSite w site
+  pub low : count ≤ k
+  pub few : k < itemsMost
+  pub places : length items ≡ itemsMost
+
+-- the places of a report then: one more where it is waiting
 pub record Collected (waits : Bool) (entry exit : List ℕ) (count count′ k : ℕ) : Type 0 where
   pub above : count ≤ count′
   pub below : count′ ≤ k + 1
   pub items-are : take count′ exit ≡ take count entry ++ cond waits (k ∷ []) []
   pub rest-is : drop count′ exit ≡ drop count′ entry
+
+-- ---- all items have been asked for
+pub record AllCollected (n : Network) (site number count : ℕ) (items : List ℕ) : Type 0 where
+  pub accepted : number ≡ 0
+  pub each-once : EachOnce n site (take count items)
+  pub filled : Filled 0 itemsMost count items

@@ -13,27 +13,17 @@ use Rattle.words.proofs.Chunks.{chunks-length, chunks-at}
 use Rattle.placement.specs.Masks.{bit}
 use Rattle.placement.specs.Placement.{Item, namesMissing, namesBelow, itemNumber, itemsNumber, noItem}
 use Rattle.lists.specs.Lists.{any}
-use Rattle.placement.specs.InWords.{itemSize, itemIn, itemAt, itemsIn}
+use Rattle.placement.specs.InWords.{itemSize, itemIn, itemWords, itemAt, itemsIn}
 use Rattle.lists.proofs.Some.{some-true, some-next, some-done}
 use Rattle.lists.proofs.Numbers.{first-here, first-next, first-done}
 
 -- ---- the words of item k
-module _ (w : List ℕ) (k : ℕ) where
-  pub primary-at : getD w (2 * k) 0 ≡ itemAt w k .primary
-  primary-at =
-      let e : 2 * k ≡ k * itemSize + 0 = omega arith in
-      ap (λ (i : ℕ). getD w i 0) e ∙ sym (part-getD w (k * itemSize) itemSize 0 (omega arith))
+module _ (w : List ℕ) (k j : ℕ) (h : j < itemSize) where
+  pub item-word : getD w (k * itemSize + j) 0 ≡ getD (itemWords w k) j 0
+  item-word = sym (part-getD w (k * itemSize) itemSize j h)
 
-  pub mask-at : getD w (2 * k + 1) 0 ≡ itemAt w k .mask
-  mask-at =
-      let e : 2 * k + 1 ≡ k * itemSize + 1 = omega arith in
-      ap (λ (i : ℕ). getD w i 0) e ∙ sym (part-getD w (k * itemSize) itemSize 1 (omega arith))
-
-  pub primary-past : length w ≤ k → 0 ≡ itemAt w k .primary
-  primary-past h = sym (List·getD-eq-default w 0 {n = 2 * k} (omega arith)) ∙ primary-at
-
-  pub mask-past : length w ≤ k → 0 ≡ itemAt w k .mask
-  mask-past h = sym (List·getD-eq-default w 0 {n = 2 * k + 1} (omega arith)) ∙ mask-at
+  pub item-past : length w ≤ k → 0 ≡ getD (itemWords w k) j 0
+  item-past past = sym (List·getD-eq-default w 0 {n = k * itemSize + j} (omega arith)) ∙ item-word
 
 -- ---- the tests of an item: it has a copy at c, and its primary at p
 abbrev pub copied : ℕ → Item → Bool

@@ -12,8 +12,11 @@ abbrev pub itemIn : List ℕ → Item
 itemIn w = record { primary = getD w 0 0; mask = getD w 1 0 }
 
 -- item k of the words
+abbrev pub itemWords : List ℕ → ℕ → List ℕ
+itemWords w k = part w (k * itemSize) itemSize
+
 abbrev pub itemAt : List ℕ → ℕ → Item
-itemAt w k = itemIn (part w (k * itemSize) itemSize)
+itemAt w k = itemIn (itemWords w k)
 
 -- the first n items of the words
 abbrev pub itemsIn : ℕ → List ℕ → List Item

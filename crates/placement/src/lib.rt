@@ -1,15 +1,25 @@
 // Placement in words of a lent slice: what set-up refuses of it, and the lines, children and parents that it gives.
 mod masks; // masks.rt: masks of sites, tested and built by shifts
 
+use limits::ITEMS_WIDE;
+use limits::SITES;
 pub use masks::bit;
 ghost use mathlib.Core.Path.{_≡_};
 ghost use mathlib.Core.Bool.{_&&_};
-ghost use Prim.Native.Nat.{min};
+ghost use Prim.Native.Nat.{min, _<_};
+ghost use lib.ListN.{getD};
 ghost use lib.Dec.{eqb};
 ghost use Rattle.placement.specs.Masks.{maskOf, bit as bitOf};
 ghost use Rattle.placement.specs.Placement.{itemNumber, itemsNumber, isLine, hasParents};
-ghost use Rattle.placement.specs.InWords.{itemAt, itemsIn};
+ghost use Rattle.placement.specs.InWords.{itemSize, itemWords, itemAt, itemsIn};
 ghost use Rattle.limits.specs.Limits.{itemsMost, sitesMost};
+
+// Where an item has its primary and its mask, and its size.
+const PRIMARY: usize = 0;
+
+const MASK: usize = PRIMARY + 1;
+
+pub const ITEM: usize = MASK + 1;
 
 // The number for which set-up refuses the first faulty of the items, or 0. More than 64 items count as 64.
 pub fn number(sites: u32, w: &[u32], items: usize) -> u32
@@ -50,18 +60,23 @@ fn item_number(sites: u32, primary: u32, mask: u32) -> u32
 pub fn primary(w: &[u32], k: usize) -> u32
     ensures { λ r. ⌜ r ≡ itemAt (now (w .entry)) k .primary ⌝ }
 {
-    if k < w.len() {
-        return words::word(w, 2 * k);
-    }
-    0
+    field(w, k, PRIMARY)
 }
 
 // The copy mask of item k.
 pub fn mask(w: &[u32], k: usize) -> u32
     ensures { λ r. ⌜ r ≡ itemAt (now (w .entry)) k .mask ⌝ }
 {
+    field(w, k, MASK)
+}
+
+// Word j of item k; 0 past the end.
+fn field(w: &[u32], k: usize, j: usize) -> u32
+    requires { ⌜ j < itemSize ⌝ }
+    ensures { λ r. ⌜ r ≡ getD (itemWords (now (w .entry)) k) j 0 ⌝ }
+{
     if k < w.len() {
-        return words::word(w, 2 * k + 1);
+        return words::word(w, k * ITEM + j);
     }
     0
 }
@@ -102,7 +117,7 @@ pub fn children(w: &[u32], items: usize, p: u32) -> u32
 {
     let mut m = 0;
     let mut c = 0;
-    while c < 8 {
+    while c < SITES {
         if is_line(w, items, p, c) {
             m += 1u32 << c;
         }
@@ -117,7 +132,7 @@ pub fn parents(w: &[u32], items: usize, c: u32) -> u32
 {
     let mut m = 0;
     let mut p = 0;
-    while p < 8 {
+    while p < SITES {
         if is_line(w, items, p, c) {
             m += 1u32 << p;
         }
@@ -140,8 +155,8 @@ fn joins(w: &[u32], k: usize, p: u32, c: u32) -> bool
 fn few(items: usize) -> usize
     ensures { λ r. ⌜ r ≡ min items itemsMost ⌝ }
 {
-    if items < 64 {
+    if items < ITEMS_WIDE {
         return items;
     }
-    64
+    ITEMS_WIDE
 }

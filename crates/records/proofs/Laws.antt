@@ -2,41 +2,58 @@
 use mathlib.Core.Path.{_≡_, refl, sym, ap, ap₂, _∙_}
 use mathlib.Core.Bool.{Bool, true, false, _&&_}
 use mathlib.Core.List.{List, [], _∷_}
-use Prim.Native.Nat.{ℕ, _+_, _-_, _*_, _≤_, _<_, min}
+use Prim.Native.Nat.{ℕ, _+_, _-_, _≤_, _<_, min}
 use native.Mathlib.Omega.{arith}
 use lib.ListN.{length, getD, set, take, drop, length-set, length-drop, drop-of-length-le}
 use lib.Seq.{getD-set-same, getD-set-other, take-all}
-use lib.Dec.{ltb, leb, eqb}
+use lib.Dec.{ltb, eqb}
 use borrow.Author.Tests.{lt-ltb, le-ltb, le-leb, lt-leb, eq-eqb, ne-eqb}
 use Rattle.words.specs.Words.{part, put, overlaid}
 use Rattle.lists.specs.Lists.{every}
-use Rattle.words.proofs.Parts.{part-length, part-getD, put-length, put-here, put-below, put-getD-below}
+use Rattle.words.proofs.Parts.{part-length, put-length, put-here, put-below, put-getD-below}
 use Rattle.words.proofs.Walks.{overlaid-same}
 use Rattle.lists.proofs.Every.{every-false, every-next, every-done}
 use Rattle.timestamp.specs.Timestamp.{Stamp, room}
 use Rattle.timestamp.specs.Order.{byNumber}
-use Rattle.timestamp.specs.InWords.{stampIn, stampSize, stampWords}
+use Rattle.timestamp.specs.InWords.{stampIn, stampSize, stampRange, stampWords}
 use Rattle.timestamp.specs.Made.{madeBy, stampShaped}
 use Rattle.timestamp.proofs.Words.{stamp-front, words-back, words-length}
-use Rattle.site.specs.InWords.{opIn, opsIn, opsSize}
+use Rattle.site.specs.Operations.{Op}
+use Rattle.site.specs.InWords.{opIn, opAt, opsIn, opsSize}
 use Rattle.limits.specs.Limits.{opsMost}
-use Rattle.site.proofs.Laws.{op-word, ops-at, ops-length}
+use Rattle.site.proofs.Laws.{ops-at, ops-length}
 use Rattle.records.specs.Records.{opFits, recordFits}
-use Rattle.records.specs.InWords.{opsAt, recordSize, recordIn, recordRange, Written}
+use Rattle.records.specs.InWords.{stampAt, opsAt, opsWords, recordSize, recordIn, recordRange, Written}
 
 -- ---- read
 module _ (w : List ℕ) (s : Stamp) where
-  pub stamp-short : length w < 2 → s ≡ stampIn (0 ∷ []) → s ≡ recordIn w .stamp
+  pub stamp-short : length w < stampAt → s ≡ stampIn (0 ∷ []) → s ≡ recordIn w .stamp
   unfolding recordIn stampIn
-  stamp-short h e = e ∙ ap (λ (x : List ℕ). stampIn (take stampSize x)) (sym (drop-of-length-le w {i = 2} (omega arith)))
+  stamp-short h e = e ∙ ap (λ (x : List ℕ). stampIn (take stampSize x)) (sym (drop-of-length-le w {i = stampAt} (omega arith)))
 
-  pub stamp-long : s ≡ stampIn (part w 2 (length w - 2)) → s ≡ recordIn w .stamp
+  pub stamp-long : s ≡ stampIn (part w stampAt (length w - stampAt)) → s ≡ recordIn w .stamp
   unfolding recordIn
   stamp-long e = e ∙ ap stampIn (take-all (length w - 2) (drop 2 w) (omega (arith, length-drop 2 w))) ∙ sym (stamp-front (drop 2 w))
 
 pub count-law : (w : List ℕ) → length (recordIn w .ops) ≡ min (getD w 1 0) opsMost
 unfolding recordIn
-count-law w = ops-length (min (getD w 1 0) opsMost) (part w opsAt opsSize)
+count-law w = ops-length (min (getD w 1 0) opsMost) (opsWords w)
+
+-- as many operations of their words as the record has
+pub ops-whole : (w : List ℕ) → opsIn (length (recordIn w .ops)) (opsWords w) ≡ recordIn w .ops
+unfolding recordIn
+ops-whole w = ap (λ (n : ℕ). opsIn n (opsWords w)) (count-law w)
+
+-- the operations' words of a slice of any size
+module _ (w : List ℕ) where
+  pub ops-none : length w < opsAt → [] ≡ opsWords w
+  ops-none h = sym (ap (take opsSize) (drop-of-length-le w {i = opsAt} (omega arith)))
+
+  pub ops-some : length w < recordSize → part w opsAt (length w - opsAt) ≡ opsWords w
+  ops-some h =
+      let rest = drop opsAt w in
+      let few : length rest ≤ opsSize = omega (arith, length-drop opsAt w) in
+      take-all (length w - opsAt) rest (omega (arith, length-drop opsAt w)) ∙ sym (take-all opsSize rest few)
 
 -- ---- written: the site and the number of operations, then the timestamp, then the operations
 module _ (w : List ℕ) (size : length w ≡ recordSize) (site n : ℕ) where
@@ -46,18 +63,18 @@ module _ (w : List ℕ) (size : length w ≡ recordSize) (site n : ℕ) where
   headed-size : length headed ≡ recordSize
   headed-size = length-set (set w 0 site) 1 n ∙ length-set w 0 site ∙ size
 
-  module _ (s : Stamp) (ys : List ℕ) (is : ys ≡ overlaid (part headed 2 stampSize) (stampWords s)) where
+  module _ (s : Stamp) (ys : List ℕ) (is : ys ≡ overlaid (part headed stampAt stampSize) (stampWords s)) where
     abbrev stamped : List ℕ
-    stamped = put headed 2 stampSize ys
+    stamped = put headed stampAt stampSize ys
 
     stamp-words : ys ≡ stampWords s
-    stamp-words = is ∙ overlaid-same (part headed 2 stampSize) (stampWords s) (words-length s ∙ sym (part-length headed 2 stampSize (omega (arith, headed-size))))
+    stamp-words = is ∙ overlaid-same (part headed stampAt stampSize) (stampWords s) (words-length s ∙ sym (part-length headed stampAt stampSize (omega (arith, headed-size))))
 
     stamp-fits : length ys ≡ stampSize
     stamp-fits = ap length stamp-words ∙ words-length s
 
     pub stamped-size : length stamped ≡ recordSize
-    stamped-size = put-length headed 2 stampSize ys (omega (arith, headed-size)) stamp-fits ∙ headed-size
+    stamped-size = put-length headed stampAt stampSize ys (omega (arith, headed-size)) stamp-fits ∙ headed-size
 
     module _ (ops : List ℕ) (all : length ops ≡ opsSize) (zs : List ℕ) (are : zs ≡ overlaid (part stamped opsAt opsSize) ops) where
       abbrev filled : List ℕ
@@ -72,10 +89,10 @@ module _ (w : List ℕ) (size : length w ≡ recordSize) (site n : ℕ) where
       pub filled-size : length filled ≡ length w
       filled-size = put-length stamped opsAt opsSize zs (omega (arith, stamped-size)) ops-fit ∙ stamped-size ∙ sym size
 
-      front : (i : ℕ) → i < 2 → getD filled i 0 ≡ getD headed i 0
+      front : (i : ℕ) → i < stampAt → getD filled i 0 ≡ getD headed i 0
       front i h =
           put-getD-below stamped opsAt opsSize zs (omega (arith, stamped-size)) ops-fit i (omega arith)
-          ∙ put-getD-below headed 2 stampSize ys (omega (arith, headed-size)) stamp-fits i h
+          ∙ put-getD-below headed stampAt stampSize ys (omega (arith, headed-size)) stamp-fits i h
 
       filled-site : getD filled 0 0 ≡ site
       filled-site = front 0 (omega arith) ∙ getD-set-other (set w 0 site) 1 0 n 0 (λ z. omega arith) ∙ getD-set-same w 0 site 0 (omega arith)
@@ -83,18 +100,14 @@ module _ (w : List ℕ) (size : length w ≡ recordSize) (site n : ℕ) where
       filled-count : getD filled 1 0 ≡ n
       filled-count = front 1 (omega arith) ∙ getD-set-same (set w 0 site) 1 n 0 (omega (arith, length-set w 0 site))
 
-      filled-stamp : part filled 2 stampSize ≡ stampWords s
+      filled-stamp : part filled stampAt stampSize ≡ stampWords s
       filled-stamp =
-          put-below stamped opsAt opsSize zs (omega (arith, stamped-size)) ops-fit 2 stampSize (omega arith)
-          ∙ put-here headed 2 stampSize ys (omega (arith, headed-size)) stamp-fits
+          put-below stamped opsAt opsSize zs (omega (arith, stamped-size)) ops-fit stampAt stampSize (omega arith)
+          ∙ put-here headed stampAt stampSize ys (omega (arith, headed-size)) stamp-fits
           ∙ stamp-words
 
       filled-ops : part filled opsAt opsSize ≡ ops
       filled-ops = put-here stamped opsAt opsSize zs (omega (arith, stamped-size)) ops-fit ∙ ops-words
-
-      tuples-count : getD filled 3 0 ≡ length (s .tuples)
-      unfolding stampWords
-      tuples-count = sym (part-getD filled 2 stampSize 1 (omega arith)) ∙ ap (λ (x : List ℕ). getD x 1 0) filled-stamp
 
       module _ (few : length (s .tuples) ≤ room) where
         filled-record : recordIn filled ≡ record { site = site; stamp = s; ops = opsIn (min n opsMost) ops }
@@ -105,8 +118,8 @@ module _ (w : List ℕ) (size : length w ≡ recordSize) (site n : ℕ) where
             λ t. record { site = filled-site t; stamp = stamp t; ops = held t }
 
         filled-range : 1 ≤ n → n ≤ opsMost → recordRange filled ≡ true
-        unfolding recordRange
-        filled-range some most = rw (filled-count, le-leb 1 n some, le-leb n opsMost most) (le-leb (getD filled 3 0) room (omega (arith, tuples-count)))
+        unfolding recordRange stampWords
+        filled-range some most = rw (filled-count, le-leb 1 n some, le-leb n opsMost most, ap stampRange filled-stamp) (le-leb (length (s .tuples)) room few)
 
         pub written : Written w filled site n s ops
         written = record { meant = λ _ _. filled-record; ranged = λ _ _. filled-range; kept = λ other. absurd (other size all) }
@@ -114,32 +127,30 @@ module _ (w : List ℕ) (size : length w ≡ recordSize) (site n : ℕ) where
 pub not-written : (w : List ℕ) (site n : ℕ) (s : Stamp) (ops : List ℕ) → (length w ≡ recordSize → length ops ≡ opsSize → ⊥) → Written w w site n s ops
 not-written w site n s ops other = record { meant = λ a b. absurd (other a b); ranged = λ a b. absurd (other a b); kept = λ _. refl }
 
--- ---- the walk over the operations
+-- ---- one operation, and the walk over all
+module _ (items : ℕ) (o : Op) (kind : ℕ) (k : kind ≡ o .kind) where
+  pub kind-unknown : 1 < kind → false ≡ opFits items o
+  kind-unknown h = sym (rw (lt-leb (o .kind) 1 (omega arith)))
+
+  pub kind-known : kind ≤ 1 → (item : ℕ) → item ≡ o .item → ltb item items ≡ opFits items o
+  kind-known h item j = ap (λ (x : ℕ). ltb x items) j ∙ sym (rw (le-leb (o .kind) 1 (omega arith)))
+
 module _ (items n : ℕ) (ops : List ℕ) (i : ℕ) (e : every (opFits items) (opsIn n ops) ≡ every (opFits items) (drop i (opsIn n ops))) where
   pub walk-done : n ≤ i → true ≡ every (opFits items) (opsIn n ops)
   walk-done h = sym (every-done (opFits items) (opsIn n ops) i (opIn []) e (omega (arith, ops-length n ops)))
 
-  module _ (h : i < n) (kind : ℕ) (k : kind ≡ getD ops (3 * i) 0) where
+  module _ (h : i < n) (r : Bool) (is : r ≡ opFits items (opAt ops i)) where
     inside : i < length (opsIn n ops)
     inside = omega (arith, ops-length n ops)
 
-    fits-at : opFits items (getD (opsIn n ops) i (opIn [])) ≡ (leb kind 1 && ltb (getD ops (3 * i + 1) 0) items)
-    fits-at =
-        ap (opFits items) (ops-at n ops i h)
-        ∙ ap₂ (λ (x y : ℕ). leb x 1 && ltb y items) (sym (k ∙ op-word ops i (3 * i) 0 (omega arith) (omega arith))) (sym (op-word ops i (3 * i + 1) 1 refl (omega arith)))
+    fits-at : opFits items (getD (opsIn n ops) i (opIn [])) ≡ r
+    fits-at = ap (opFits items) (ops-at n ops i h) ∙ sym is
 
-    pub kind-unknown : 1 < kind → false ≡ every (opFits items) (opsIn n ops)
-    kind-unknown b = sym (every-false (opFits items) (opsIn n ops) i (opIn []) e inside (fits-at ∙ rw (lt-leb kind 1 b)))
+    pub walk-false : r ≡ false → false ≡ every (opFits items) (opsIn n ops)
+    walk-false f = sym (every-false (opFits items) (opsIn n ops) i (opIn []) e inside (fits-at ∙ f))
 
-    module _ (known : kind ≤ 1) (item : ℕ) (j : item ≡ getD ops (3 * i + 1) 0) where
-      fits-by-item : opFits items (getD (opsIn n ops) i (opIn [])) ≡ ltb item items
-      fits-by-item = fits-at ∙ rw (le-leb kind 1 known, sym j)
-
-      pub item-unknown : items ≤ item → false ≡ every (opFits items) (opsIn n ops)
-      item-unknown b = sym (every-false (opFits items) (opsIn n ops) i (opIn []) e inside (fits-by-item ∙ le-ltb item items b))
-
-      pub walk-next : item < items → every (opFits items) (opsIn n ops) ≡ every (opFits items) (drop (i + 1) (opsIn n ops))
-      walk-next b = every-next (opFits items) (opsIn n ops) i (opIn []) e inside (fits-by-item ∙ lt-ltb item items b)
+    pub walk-next : r ≡ true → every (opFits items) (opsIn n ops) ≡ every (opFits items) (drop (i + 1) (opsIn n ops))
+    walk-next t = every-next (opFits items) (opsIn n ops) i (opIn []) e inside (fits-at ∙ t)
 
 -- ---- the test for shape
 turned : (a b c d : Bool) → (a && (b && (c && d))) ≡ (b && ((a && c) && d))
@@ -165,17 +176,17 @@ module _ (w : List ℕ) (sites items : ℕ) where
       shape-many h = sym (rw (eq-eqb (length w) recordSize size, le-leb 1 (getD w 1 0) (omega arith), lt-leb (getD w 1 0) opsMost (omega arith)))
 
       module _ (few : n ≤ opsMost) (site : ℕ) (at : site ≡ getD w 0 0) where
-        shape-is : shape ≡ (ltb site sites && (stampShaped site (part w 2 stampSize) && every (opFits items) (opsIn n (part w opsAt opsSize))))
+        shape-is : shape ≡ (ltb site sites && (stampShaped site (part w stampAt stampSize) && every (opFits items) (opsIn n (part w opsAt opsSize))))
         unfolding recordRange recordFits recordIn stampShaped
         shape-is =
             let m : min n opsMost ≡ n = omega arith in
-            rw (eq-eqb (length w) recordSize size, ← is, ← at, le-leb 1 n (omega arith), le-leb n opsMost few, m, part-getD w 2 stampSize 1 (omega arith))
-            (turned (leb (getD w 3 0) room) (ltb site sites) (madeBy byNumber site (stampIn (part w 2 stampSize))) (every (opFits items) (opsIn n (part w opsAt opsSize))))
+            rw (eq-eqb (length w) recordSize size, ← is, ← at, le-leb 1 n (omega arith), le-leb n opsMost few, m)
+            (turned (stampRange (part w stampAt stampSize)) (ltb site sites) (madeBy byNumber site (stampIn (part w stampAt stampSize))) (every (opFits items) (opsIn n (part w opsAt opsSize))))
 
         pub shape-elsewhere : sites ≤ site → false ≡ shape
         shape-elsewhere h = sym (shape-is ∙ rw (le-ltb site sites h))
 
-        module _ (here : site < sites) (made : Bool) (m : made ≡ stampShaped site (part w 2 stampSize)) where
+        module _ (here : site < sites) (made : Bool) (m : made ≡ stampShaped site (part w stampAt stampSize)) where
           pub shape-unmade : made ≡ false → false ≡ shape
           shape-unmade f = sym (shape-is ∙ rw (lt-ltb site sites here, sym m ∙ f))
 

@@ -5,9 +5,9 @@ use Prim.Native.Nat.{ℕ, suc, _+_, _*_, _≤_, _<_}
 use native.Mathlib.Omega.{arith}
 use native.Mathlib.Numerals.{add-one}
 use lib.IntN.{ℤ, pos}
-use lib.ListN.{length, getD, set, drop, length-map, drop-of-length-le, List·getD-map}
+use lib.ListN.{length, getD, set, drop, length-map, drop-of-length-le, List·getD-map, List·getD-eq-default}
 use lib.Seq.{drop-cons}
-use mathlib.Core.Bool.{true}
+use mathlib.Core.Bool.{Bool, true, false, cond}
 use borrow.Author.Tests.{eq-eqb, ne-eqb, le-leb}
 use mir.Val.{toZ}
 use mir.Syntax.{w32}
@@ -20,59 +20,54 @@ use Rattle.lists.proofs.Lists.{map-set}
 use Rattle.timestamp.specs.Timestamp.{Stamp, room}
 use Rattle.timestamp.specs.InWords.{stampIn, stampWords, stampSize}
 use Rattle.timestamp.proofs.Words.{stamp-front, written-back, words-length}
-use Rattle.site.specs.Operations.{Op, recorded, written, work, worked}
+use Rattle.site.specs.Operations.{Op, reads, readValue, recorded, written, work, worked}
 use Rattle.site.specs.Site.{Site}
-use Rattle.site.specs.InWords.{opIn, opAt, opsIn, opsSize, opSize, tableIn, tableSize, siteIn, siteFrom, siteSize, siteRange, Changed}
+use Rattle.site.specs.InWords.{opOf, opIn, opWords, opAt, opsIn, opsSize, opSize, tableIn, tableSize, siteIn, siteFrom, siteSize, siteRange, Changed}
 use Rattle.limits.specs.Limits.{opsMost}
 
 -- ---- one operation, word by word
-abbrev pub opOf : ℕ → ℕ → ℕ → Op
-opOf kind item v = record { kind = kind; item = item; value = toZ w32 v }
+pub op-word : (ops : List ℕ) (i p n : ℕ) → p ≡ opSize * i + n → n < opSize → getD ops p 0 ≡ getD (opWords ops i) n 0
+op-word ops i p n e h = let f : p ≡ i * opSize + n = omega arith in ap (λ (q : ℕ). getD ops q 0) f ∙ sym (part-getD ops (i * opSize) opSize n h)
 
-module _ (ops : List ℕ) (i : ℕ) where
-  pub op-word : (p n : ℕ) → p ≡ 3 * i + n → n < opSize → getD ops p 0 ≡ getD (part ops (i * opSize) opSize) n 0
-  op-word p n e h = let f : p ≡ i * 3 + n = omega arith in ap (λ (q : ℕ). getD ops q 0) f ∙ sym (part-getD ops (i * opSize) opSize n h)
+pub op-past : (ops : List ℕ) (i n : ℕ) → length ops ≤ i → n < opSize → 0 ≡ getD (opWords ops i) n 0
+op-past ops i n past h = sym (part-getD ops (i * opSize) opSize n h ∙ List·getD-eq-default ops 0 {n = i * opSize + n} (omega arith))
 
-  module _ (kind : ℕ) (k : kind ≡ getD ops (3 * i) 0) where
-    op-kind : kind ≡ opAt ops i .kind
-    op-kind = k ∙ op-word (3 * i) 0 (omega arith) (omega arith)
+module _ (o : Op) where
+  -- what is not a write leaves the table
+  pub write-none : (table : List ℤ) (kind : ℕ) → kind ≡ o .kind → (kind ≡ 1 → ⊥) → table ≡ written table o
+  write-none table kind k z = sym (rw (ne-eqb (o .kind) 1 (λ f. z (k ∙ f))))
 
-    -- what is not a write leaves the table
-    pub write-none : (table : List ℤ) → (kind ≡ 1 → ⊥) → table ≡ written table (opAt ops i)
-    write-none table z = sym (rw (ne-eqb (opAt ops i .kind) 1 (λ f. z (op-kind ∙ f))))
+  -- a write is done to the table
+  pub write-done : (table : List ℕ) (kind item v : ℕ) → kind ≡ o .kind → kind ≡ 1 → item ≡ o .item → toZ w32 v ≡ o .value → tableIn (set table item v) ≡ written (tableIn table) o
+  write-done table kind item v k z j e = map-set (toZ w32) table item v ∙ ap₂ (set (tableIn table)) j e ∙ sym (rw (eq-eqb (o .kind) 1 (sym k ∙ z)))
 
-    module _ (item v : ℕ) (j : item ≡ getD ops (3 * i + 1) 0) where
-      op-item : item ≡ opAt ops i .item
-      op-item = j ∙ op-word (3 * i + 1) 1 refl (omega arith)
+  -- a read is kept with the value of the table, another operation with its own
+  pub kept-read : (table : List ℕ) (kind item v : ℕ) → kind ≡ o .kind → kind ≡ 0 → item ≡ o .item → v ≡ getD table item 0 → toZ w32 v ≡ recorded (tableIn table) (tableIn table) o .value
+  kept-read table kind item v k z j e =
+      ap (toZ w32) e
+      ∙ sym (List·getD-map (toZ w32) table item 0)
+      ∙ ap (λ (n : ℕ). getD (tableIn table) n (pos 0)) j
+      ∙ sym (rw (eq-eqb (o .kind) 0 (sym k ∙ z)))
 
-      -- a read is kept with the value of the table
-      pub kept-read : (table : List ℕ) → kind ≡ 0 → v ≡ getD table item 0 → opOf kind item v ≡ recorded (tableIn table) (tableIn table) (opAt ops i)
-      kept-read table z e =
-          let value = ap (toZ w32) e ∙ sym (List·getD-map (toZ w32) table item 0) ∙ ap (λ (n : ℕ). getD (tableIn table) n (pos 0)) op-item in
-          (λ t. record { kind = op-kind t; item = op-item t; value = value t }) ∙ sym (rw (eq-eqb (opAt ops i .kind) 0 (sym op-kind ∙ z)))
+  pub kept-other : (b : List ℤ) (kind v : ℕ) → kind ≡ o .kind → (kind ≡ 0 → ⊥) → toZ w32 v ≡ o .value → toZ w32 v ≡ recorded b b o .value
+  kept-other b kind v k z e = e ∙ sym (rw (ne-eqb (o .kind) 0 (λ f. z (k ∙ f))))
 
-      module _ (e : v ≡ getD ops (3 * i + 2) 0) where
-        op-value : toZ w32 v ≡ opAt ops i .value
-        op-value = ap (toZ w32) (e ∙ op-word (3 * i + 2) 2 refl (omega arith))
-
-        -- another operation is kept as it is
-        pub kept-other : (b : List ℤ) → (kind ≡ 0 → ⊥) → opOf kind item v ≡ recorded b b (opAt ops i)
-        kept-other b z =
-            (λ t. record { kind = op-kind t; item = op-item t; value = op-value t }) ∙ sym (rw (ne-eqb (opAt ops i .kind) 0 (λ f. z (op-kind ∙ f))))
-
-        -- a write is done to the table
-        pub write-done : (table : List ℕ) → kind ≡ 1 → tableIn (set table item v) ≡ written (tableIn table) (opAt ops i)
-        write-done table z =
-            map-set (toZ w32) table item v ∙ ap₂ (set (tableIn table)) op-item op-value ∙ sym (rw (eq-eqb (opAt ops i .kind) 1 (sym op-kind ∙ z)))
+  -- kind and item are kept as they are
+  pub kept-op : (b : List ℤ) (kind item v : ℕ) → kind ≡ o .kind → item ≡ o .item → toZ w32 v ≡ recorded b b o .value → opOf kind item v ≡ recorded b b o
+  kept-op b kind item v k j e = (λ t. record { kind = k t; item = j t; value = e t }) ∙ same (reads o) (readValue b b o)
+    where
+      same : (r : Bool) (x : ℤ) → record { kind = o .kind; item = o .item; value = cond r (record { kind = o .kind; item = o .item; value = x }) o .value } ≡ cond r (record { kind = o .kind; item = o .item; value = x }) o
+      same true x = refl
+      same false x = refl
 
 -- operation i laid after the i before it
 pub laid-op : (out out′ : List ℕ) (i kind item v : ℕ) (o : Op) → length out ≡ opsSize → i < opsMost
-    → out′ ≡ laid out (3 * i) (kind ∷ (item ∷ (v ∷ []))) → opOf kind item v ≡ o → opsIn (i + 1) out′ ≡ opsIn i out ++ (o ∷ [])
+    → out′ ≡ laid out (opSize * i) (kind ∷ (item ∷ (v ∷ []))) → opOf kind item v ≡ o → opsIn (i + 1) out′ ≡ opsIn i out ++ (o ∷ [])
 laid-op out out′ i kind item v o size h e f =
     let ys : List ℕ = kind ∷ (item ∷ (v ∷ [])) in
-    let at : 3 * i ≡ i * 3 = omega arith in
+    let at : opSize * i ≡ i * opSize = omega arith in
     let new : List ℕ = put out (i * opSize) opSize ys in
-    ap₂ opsIn (add-one i) (e ∙ laid-in out (3 * i) ys (omega arith) ∙ ap (λ (p : ℕ). put out p opSize ys) at)
+    ap₂ opsIn (add-one i) (e ∙ laid-in out (opSize * i) ys (omega arith) ∙ ap (λ (p : ℕ). put out p opSize ys) at)
     ∙ ap (map opIn) (chunks-last opSize i new)
     ∙ map-append opIn (chunks opSize i new) (part new (i * opSize) opSize ∷ [])
     ∙ ap₂ {C = List Op} (λ (x : List (List ℕ)) (y : List ℕ). map opIn x ++ (opIn y ∷ []))

@@ -1,17 +1,15 @@
 -- A site in 82 words, its timestamp and its table; and operations in three words each: kind, item, value.
 use mathlib.Core.Path.{_≡_}
 use mathlib.Core.Bool.{Bool}
-use mathlib.Core.List.{List, map}
-use Prim.Native.Nat.{ℕ, _+_, _*_}
+use mathlib.Core.List.{List, [], _∷_, _++_, map}
+use Prim.Native.Nat.{ℕ, _+_, _*_, _≤_, _<_}
 use lib.IntN.{ℤ}
 use lib.ListN.{getD, length}
-use lib.Dec.{leb}
 use mir.Val.{toZ}
 use mir.Syntax.{w32}
-use Rattle.limits.specs.Limits.{opsMost}
+use Rattle.limits.specs.Limits.{itemsMost, opsMost}
 use Rattle.words.specs.Words.{part, chunks, Stepped}
-use Rattle.timestamp.specs.Timestamp.{room}
-use Rattle.timestamp.specs.InWords.{stampIn, stampSize}
+use Rattle.timestamp.specs.InWords.{stampIn, stampSize, stampRange}
 use Rattle.site.specs.Operations.{Op, worked}
 use Rattle.site.specs.Site.{Site, committed}
 
@@ -22,20 +20,32 @@ opSize = 3
 abbrev pub opsSize : ℕ
 opsSize = opsMost * opSize
 
+-- the operation of a kind, an item and the word of a value
+abbrev pub opOf : ℕ → ℕ → ℕ → Op
+opOf kind item v = record { kind = kind; item = item; value = toZ w32 v }
+
 abbrev pub opIn : List ℕ → Op
-opIn w = record { kind = getD w 0 0; item = getD w 1 0; value = toZ w32 (getD w 2 0) }
+opIn w = opOf (getD w 0 0) (getD w 1 0) (getD w 2 0)
 
 -- operation i of the words
+abbrev pub opWords : List ℕ → ℕ → List ℕ
+opWords w i = part w (i * opSize) opSize
+
 abbrev pub opAt : List ℕ → ℕ → Op
-opAt w i = opIn (part w (i * opSize) opSize)
+opAt w i = opIn (opWords w i)
 
 -- the first n operations of the words
 abbrev pub opsIn : ℕ → List ℕ → List Op
 opsIn n w = map opIn (chunks opSize n w)
 
+-- what laying operation i leaves: the i before it and then it, and past the last place the words as they were
+pub record Put (entry exit : List ℕ) (i : ℕ) (o : Op) : Type 0 where
+  pub laid : i < opsMost → opsIn (i + 1) exit ≡ opsIn i entry ++ (o ∷ [])
+  pub kept : opsMost ≤ i → exit ≡ entry
+
 -- ---- a site
 abbrev pub tableSize : ℕ
-tableSize = 64
+tableSize = itemsMost
 
 abbrev pub siteSize : ℕ
 siteSize = stampSize + tableSize
@@ -51,7 +61,7 @@ siteIn w = siteFrom (part w 0 stampSize) (part w stampSize tableSize)
 
 -- its timestamp's words say at most eight tuples
 unfoldable pub siteRange : List ℕ → Bool
-siteRange w = leb (getD w 1 0) room
+siteRange w = stampRange w
 
 -- what a call leaves of a site's words
 abbrev pub Changed : List ℕ → List ℕ → (Site → Site) → Type 0

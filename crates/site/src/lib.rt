@@ -1,6 +1,9 @@
-// One site on a part of the state that is its own: 18 words of its timestamp, then its table of signed values, a word each.
+// One site on a part of the state that is its own: the words of its timestamp, then its table of signed values, a word each.
 pub mod operations; // operations.rt: what a commit's operations read and write
 
+use limits::ITEMS_WIDE;
+pub use operations::OPERATION;
+pub use operations::OPERATIONS;
 use timestamp::Epoch;
 use timestamp::Timestamp;
 ghost use mathlib.Core.Path.{_≡_};
@@ -12,9 +15,10 @@ ghost use Rattle.site.specs.Site.{dummied, atEpoch, received};
 ghost use Rattle.site.specs.InWords.{siteIn, siteRange, siteSize, opsIn, Changed, Committed};
 ghost use Rattle.limits.specs.Limits.{opsMost};
 
-const STAMP: usize = 18;
+// Where the table starts, and the words of a site.
+const TABLE: usize = timestamp::WORDS;
 
-const SITE: usize = STAMP + 64;
+pub const WORDS: usize = TABLE + ITEMS_WIDE;
 
 // The timestamp of a site.
 pub fn stamp(part: &[u32]) -> Timestamp
@@ -24,14 +28,14 @@ pub fn stamp(part: &[u32]) -> Timestamp
 }
 
 // A commit: the operations as the history keeps them, the table after their writes, the own count one higher.
-pub fn commit(part: &mut [u32], ops: &[u32], n: usize) -> [u32; 24]
+pub fn commit(part: &mut [u32], ops: &[u32], n: usize) -> [u32; OPERATIONS]
     ensures { λ r. ⌜ Committed (now (part .entry)) (now (part .exit)) (opsIn (min n opsMost) (now (ops .entry))) (opsIn (min n opsMost) r) ⌝ }
 {
-    if part.len() != SITE {
-        return [0u32; 24];
+    if part.len() != WORDS {
+        return [0u32; OPERATIONS];
     }
-    let done = operations::record(&part[STAMP..SITE], ops, n);
-    operations::write(&mut part[STAMP..SITE], ops, n);
+    let done = operations::record(&part[TABLE..WORDS], ops, n);
+    operations::write(&mut part[TABLE..WORDS], ops, n);
     put_stamp(part, stamp(part).raise());
     done
 }
@@ -40,7 +44,7 @@ pub fn commit(part: &mut [u32], ops: &[u32], n: usize) -> [u32; 24]
 pub fn dummy(part: &mut [u32])
     ensures { λ r. ⌜ Changed (now (part .entry)) (now (part .exit)) dummied ⌝ }
 {
-    if part.len() == SITE {
+    if part.len() == WORDS {
         put_stamp(part, stamp(part).raise());
     }
 }
@@ -49,7 +53,7 @@ pub fn dummy(part: &mut [u32])
 pub fn epoch(part: &mut [u32], number: u32)
     ensures { λ r. ⌜ Changed (now (part .entry)) (now (part .exit)) (atEpoch number) ⌝ }
 {
-    if part.len() == SITE {
+    if part.len() == WORDS {
         put_stamp(part, stamp(part).at_epoch(Epoch(number)));
     }
 }
@@ -58,8 +62,8 @@ pub fn epoch(part: &mut [u32], number: u32)
 pub fn receive(part: &mut [u32], ops: &[u32], n: usize, t: Timestamp)
     ensures { λ r. ⌜ Changed (now (part .entry)) (now (part .exit)) (received (opsIn (min n opsMost) (now (ops .entry))) (stampOf t)) ⌝ }
 {
-    if part.len() == SITE {
-        operations::write(&mut part[STAMP..SITE], ops, n);
+    if part.len() == WORDS {
+        operations::write(&mut part[TABLE..WORDS], ops, n);
         let own = stamp(part).own();
         let count = own.count;
         put_stamp(part, t.append(own.site, count));
@@ -71,5 +75,5 @@ fn put_stamp(part: &mut [u32], t: Timestamp)
     requires { ⌜ length (now part) ≡ siteSize ⌝ }
     ensures { λ r. ⌜ (siteIn (now (part .exit)) ≡ record { table = siteIn (now (part .entry)) .table; stamp = stampOf t }) × (siteRange (now (part .exit)) ≡ true) ⌝ }
 {
-    t.write_to(&mut part[0..STAMP]);
+    t.write_to(&mut part[0..TABLE]);
 }

@@ -12,7 +12,7 @@ use borrow.Author.Tests.{lt-ltb, le-ltb, le-leb, lt-leb, ltb-true, leb-true, leb
 use Rattle.lists.proofs.Every.{and-true}
 use Rattle.timestamp.specs.Timestamp.{Pair, Stamp, noPair, room, appended, raisedLast, raised, lastPair, ownSite}
 use Rattle.timestamp.specs.Order.{byNumber, Below}
-use Rattle.timestamp.specs.InWords.{pairAt, pairsAt, stampIn}
+use Rattle.timestamp.specs.InWords.{pairAt, pairsAt, pairsStart, pairSize, pairPlace, stampIn}
 use Rattle.timestamp.specs.Made.{rising, madeBy, stampShaped}
 use Rattle.timestamp.proofs.Value.{last-at, last-snoc}
 
@@ -47,28 +47,28 @@ module _ (place : ℕ → ℕ) (ps : List Pair) (k : ℕ) where
 -- ---- in words
 pairs-length : (w : List ℕ) (at n : ℕ) → length (pairsAt w at n) ≡ n
 pairs-length w at zero = refl
-pairs-length w at (suc n) = ap suc (pairs-length w (at + 2) n)
+pairs-length w at (suc n) = ap suc (pairs-length w (at + pairSize) n)
 
-pairs-at : (w : List ℕ) (at n i : ℕ) → i < n → getD (pairsAt w at n) i noPair ≡ pairAt w (at + 2 * i)
+pairs-at : (w : List ℕ) (at n i : ℕ) → i < n → getD (pairsAt w at n) i noPair ≡ pairAt w (at + i * pairSize)
 pairs-at w at zero i h = absurd (not-suc-le-zero h)
-pairs-at w at (suc n) zero h = let e : at ≡ at + 2 * 0 = omega arith in ap (pairAt w) e
-pairs-at w at (suc n) (suc i) h = let e : at + 2 + 2 * i ≡ at + 2 * suc i = omega arith in pairs-at w (at + 2) n i (omega arith) ∙ ap (pairAt w) e
+pairs-at w at (suc n) zero h = let e : at ≡ at + 0 * pairSize = omega arith in ap (pairAt w) e
+pairs-at w at (suc n) (suc i) h = let e : at + pairSize + i * pairSize ≡ at + suc i * pairSize = omega arith in pairs-at w (at + pairSize) n i (omega arith) ∙ ap (pairAt w) e
 
 module _ (w : List ℕ) (n : ℕ) (few : n ≤ room) where
   abbrev held : List Pair
-  held = take n (pairsAt w 2 room)
+  held = take n (pairsAt w pairsStart room)
 
   pub held-length : length held ≡ n
-  held-length = length-take-le n (pairsAt w 2 room) (omega (arith, pairs-length w 2 room))
+  held-length = length-take-le n (pairsAt w pairsStart room) (omega (arith, pairs-length w pairsStart room))
 
-  pub held-site : (i at : ℕ) → i < n → at ≡ 2 + 2 * i → getD held i noPair .site ≡ getD w at 0
-  held-site i at h e =
-      ap (λ (p : Pair). p .site) (getD-take n (pairsAt w 2 room) i noPair h ∙ pairs-at w 2 room i (omega arith)) ∙ ap (λ (j : ℕ). getD w j 0) (sym e)
+  pub held-site : (i : ℕ) → i < n → getD held i noPair .site ≡ pairAt w (pairPlace i) .site
+  held-site i h = ap (λ (p : Pair). p .site) (getD-take n (pairsAt w pairsStart room) i noPair h ∙ pairs-at w pairsStart room i (omega arith))
 
-  pub held-own : 0 < n → lastPair held .site ≡ getD w (2 * n) 0
+  pub held-own : 0 < n → lastPair held .site ≡ pairAt w (pairPlace (n - 1)) .site
   held-own h =
       ap (λ (p : Pair). p .site) (last-at held)
-      ∙ held-site (length held - 1) (2 * n) (omega (arith, held-length)) (omega (arith, held-length))
+      ∙ held-site (length held - 1) (omega (arith, held-length))
+      ∙ ap (λ (k : ℕ). pairAt w (pairPlace (k - 1)) .site) held-length
 
 -- ---- the test, from what is found to the answer
 module _ (j : ℕ) (w : List ℕ) where
@@ -77,14 +77,14 @@ module _ (j : ℕ) (w : List ℕ) where
   shaped-many h = sym (rw (lt-leb (getD w 1 0) room h))
 
   module _ (n : ℕ) (is : n ≡ getD w 1 0) (few : n ≤ room) where
-    tuples-are : stampIn w .tuples ≡ take n (pairsAt w 2 room)
+    tuples-are : stampIn w .tuples ≡ take n (pairsAt w pairsStart room)
     unfolding stampIn
-    tuples-are = ap (λ (k : ℕ). take k (pairsAt w 2 room)) (sym is)
+    tuples-are = ap (λ (k : ℕ). take k (pairsAt w pairsStart room)) (sym is)
 
     tuples-size : length (stampIn w .tuples) ≡ n
     tuples-size = ap length tuples-are ∙ held-length w n few
 
-    shaped-is : stampShaped j w ≡ (ltb 0 n && (rising byNumber (take n (pairsAt w 2 room)) && eqb (lastPair (take n (pairsAt w 2 room)) .site) j))
+    shaped-is : stampShaped j w ≡ (ltb 0 n && (rising byNumber (take n (pairsAt w pairsStart room)) && eqb (lastPair (take n (pairsAt w pairsStart room)) .site) j))
     unfolding stampShaped madeBy
     shaped-is =
         rw (le-leb (getD w 1 0) room (omega arith))
@@ -93,11 +93,11 @@ module _ (j : ℕ) (w : List ℕ) where
     pub shaped-none : n ≡ 0 → false ≡ stampShaped j w
     shaped-none z = sym (shaped-is ∙ rw (le-ltb 0 n (omega arith)))
 
-    module _ (some : 0 < n) (r : Bool) (e : r ≡ rising byNumber (take n (pairsAt w 2 room))) where
+    module _ (some : 0 < n) (r : Bool) (e : r ≡ rising byNumber (take n (pairsAt w pairsStart room))) where
       pub shaped-not-rising : r ≡ false → false ≡ stampShaped j w
       shaped-not-rising f = sym (shaped-is ∙ rw (lt-ltb 0 n some, sym e ∙ f))
 
-      pub shaped-by-site : r ≡ true → (x : ℕ) → x ≡ getD w (2 * n) 0 → eqb x j ≡ stampShaped j w
+      pub shaped-by-site : r ≡ true → (x : ℕ) → x ≡ pairAt w (pairPlace (n - 1)) .site → eqb x j ≡ stampShaped j w
       shaped-by-site f x g =
           sym (shaped-is ∙ rw (lt-ltb 0 n some, sym e ∙ f) (ap (λ (s : ℕ). eqb s j) (held-own w n few some ∙ sym g)))
 

@@ -1,11 +1,23 @@
 -- A timestamp in 18 words: its epoch, how many tuples it has, and eight places of site and count.
+use mathlib.Core.Bool.{Bool}
 use mathlib.Core.List.{List, [], _∷_}
 use Prim.Native.Nat.{ℕ, zero, suc, _+_, _*_}
 use lib.ListN.{length, take, getD}
+use lib.Dec.{leb}
 use Rattle.timestamp.specs.Timestamp.{Pair, Stamp, noPair, room}
 
+-- where the tuples start, the words of one, and where tuple i starts
+abbrev pub pairsStart : ℕ
+pairsStart = 2
+
+abbrev pub pairSize : ℕ
+pairSize = 2
+
+abbrev pub pairPlace : ℕ → ℕ
+pairPlace i = pairsStart + i * pairSize
+
 abbrev pub stampSize : ℕ
-stampSize = 2 + 2 * room
+stampSize = pairPlace room
 
 -- ---- read
 -- the tuple whose words start at a place
@@ -15,10 +27,14 @@ pairAt w at = record { site = getD w at 0; count = getD w (at + 1) 0 }
 -- n tuples, one after another from a place on
 abbrev pub pairsAt : List ℕ → ℕ → ℕ → List Pair
 pairsAt w at zero = []
-pairsAt w at (suc n) = pairAt w at ∷ pairsAt w (at + 2) n
+pairsAt w at (suc n) = pairAt w at ∷ pairsAt w (at + pairSize) n
 
 unfoldable pub stampIn : List ℕ → Stamp
-stampIn w = record { epoch = getD w 0 0; tuples = take (getD w 1 0) (pairsAt w 2 room) }
+stampIn w = record { epoch = getD w 0 0; tuples = take (getD w 1 0) (pairsAt w pairsStart room) }
+
+-- they say no more tuples than there are places
+abbrev pub stampRange : List ℕ → Bool
+stampRange w = leb (getD w 1 0) room
 
 -- ---- written
 -- the words of n tuples from number i on, zeros where there is none

@@ -2,11 +2,11 @@
 use mathlib.Core.Bool.{Bool, true, _&&_}
 use mathlib.Core.List.{List, [], _∷_}
 use Prim.Native.Nat.{ℕ}
-use lib.ListN.{length, getD}
-use lib.Dec.{eqb, ltb, leb}
-use Rattle.timestamp.specs.Timestamp.{Pair, Stamp, ownSite, room}
+use lib.ListN.{length}
+use lib.Dec.{eqb, ltb}
+use Rattle.timestamp.specs.Timestamp.{Pair, Stamp, ownSite}
 use Rattle.timestamp.specs.Order.{byNumber}
-use Rattle.timestamp.specs.InWords.{stampIn}
+use Rattle.timestamp.specs.InWords.{stampIn, stampRange}
 
 -- each site stands before the next
 unfoldable pub rising : (ℕ → ℕ) → List Pair → Bool
@@ -20,4 +20,4 @@ madeBy place j s = ltb 0 (length (s .tuples)) && (rising place (s .tuples) && eq
 
 -- words of such a timestamp: at most eight tuples, as many as they say
 unfoldable pub stampShaped : ℕ → List ℕ → Bool
-stampShaped j w = leb (getD w 1 0) room && madeBy byNumber j (stampIn w)
+stampShaped j w = stampRange w && madeBy byNumber j (stampIn w)

@@ -4,6 +4,7 @@ use mathlib.Core.List.{List, [], _∷_, _++_, map}
 use Prim.Native.Nat.{ℕ, _+_}
 use lib.ListN.{length, take}
 use lib.Dec.{ltb}
+use Rattle.limits.specs.Limits.{sitesMost}
 use Rattle.timestamp.specs.declared.Tuple.{Tuple}
 use Rattle.timestamp.specs.declared.Timestamp.{Timestamp}
 
@@ -24,9 +25,9 @@ pairOf t = record { site = t .site; count = t .count .0 }
 abbrev pub stampOf : Timestamp → Stamp
 stampOf t = record { epoch = t .epoch .0; tuples = map pairOf (take (t .len) (t .tuples)) }
 
--- ---- the most tuples that a value holds, and the largest count
+-- ---- the most tuples that a value holds, one for each site that there can be; and the largest count
 abbrev pub room : ℕ
-room = 8
+room = sitesMost
 
 abbrev pub greatest : ℕ
 greatest = 4294967295

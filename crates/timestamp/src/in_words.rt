@@ -3,6 +3,7 @@ use crate::Count;
 use crate::Epoch;
 use crate::Timestamp;
 use crate::Tuple;
+use limits::SITES_WIDE;
 ghost use mathlib.Core.Path.{_≡_};
 ghost use mathlib.Core.List.{map};
 ghost use Prim.Native.Nat.{_<_, _≤_};
@@ -11,15 +12,26 @@ ghost use Rattle.words.specs.Words.{overlaid};
 ghost use Rattle.timestamp.specs.Timestamp.{stampOf, pairOf, room};
 ghost use Rattle.timestamp.specs.Order.{byNumber};
 ghost use Rattle.timestamp.specs.Made.{rising as risingOf, stampShaped};
-ghost use Rattle.timestamp.specs.InWords.{stampIn, stampWords, pairAt, pairsAt, stampSize};
+ghost use Rattle.timestamp.specs.InWords.{stampIn, stampWords, pairAt, pairsAt, pairsStart, pairPlace};
+
+// Where the words have the epoch, the number of tuples and the tuples, of two words each; and their size.
+const EPOCH: usize = 0;
+
+const COUNT: usize = EPOCH + 1;
+
+const TUPLES: usize = COUNT + 1;
+
+const TUPLE: usize = 2;
+
+pub const WORDS: usize = TUPLES + SITES_WIDE * TUPLE;
 
 // The timestamp that words stand for. Words past the end count as 0, and more than eight tuples as eight.
 pub fn from_words(w: &[u32]) -> Timestamp
     ensures { λ r. ⌜ stampOf r ≡ stampIn (now (w .entry)) ⌝ }
 {
     Timestamp {
-        epoch: Epoch(words::word(w, 0)),
-        len: words::wide(words::word(w, 1)),
+        epoch: Epoch(words::word(w, EPOCH)),
+        len: words::wide(words::word(w, COUNT)),
         tuples: tuples_in(w),
     }
 }
@@ -28,8 +40,8 @@ pub fn from_words(w: &[u32]) -> Timestamp
 pub fn made_by(w: &[u32], site: u32) -> bool
     ensures { λ r. ⌜ r ≡ stampShaped site (now (w .entry)) ⌝ }
 {
-    let n = words::wide(words::word(w, 1));
-    if 8 < n {
+    let n = words::wide(words::word(w, COUNT));
+    if SITES_WIDE < n {
         return false;
     }
     if n == 0 {
@@ -38,17 +50,17 @@ pub fn made_by(w: &[u32], site: u32) -> bool
     if !rising(w, n) {
         return false;
     }
-    words::word(w, 2 * n) == site
+    site_in(w, n - 1) == site
 }
 
 // Whether the sites of the first n tuples rise.
 fn rising(w: &[u32], n: usize) -> bool
     requires { ⌜ n ≤ room ⌝ }
-    ensures { λ r. ⌜ r ≡ risingOf byNumber (take n (pairsAt (now (w .entry)) 2 room)) ⌝ }
+    ensures { λ r. ⌜ r ≡ risingOf byNumber (take n (pairsAt (now (w .entry)) pairsStart room)) ⌝ }
 {
     let mut i = 1;
     while i < n {
-        if words::word(w, 2 * i + 2) <= words::word(w, 2 * i) {
+        if site_in(w, i) <= site_in(w, i - 1) {
             return false;
         }
         i += 1;
@@ -58,7 +70,7 @@ fn rising(w: &[u32], n: usize) -> bool
 
 impl Timestamp {
     // The words of a timestamp; the places past its last tuple are 0.
-    pub fn to_words(self) -> [u32; 18]
+    pub fn to_words(self) -> [u32; WORDS]
         ensures { λ r. ⌜ (r ≡ stampWords (stampOf self)) × (length (stampOf self .tuples) ≤ room) ⌝ }
     {
         let a = self.tuple(0);
@@ -101,30 +113,38 @@ impl Timestamp {
 }
 
 // The eight places of a timestamp's words.
-fn tuples_in(w: &[u32]) -> [Tuple; 8]
-    ensures { λ r. ⌜ map pairOf r ≡ pairsAt (now (w .entry)) 2 room ⌝ }
+fn tuples_in(w: &[u32]) -> [Tuple; SITES_WIDE]
+    ensures { λ r. ⌜ map pairOf r ≡ pairsAt (now (w .entry)) pairsStart room ⌝ }
 {
     [
+        tuple_in(w, 0),
+        tuple_in(w, 1),
         tuple_in(w, 2),
+        tuple_in(w, 3),
         tuple_in(w, 4),
+        tuple_in(w, 5),
         tuple_in(w, 6),
-        tuple_in(w, 8),
-        tuple_in(w, 10),
-        tuple_in(w, 12),
-        tuple_in(w, 14),
-        tuple_in(w, 16),
+        tuple_in(w, 7),
     ]
 }
 
-// The tuple whose two words start at a place.
-fn tuple_in(w: &[u32], at: usize) -> Tuple
-    requires { ⌜ at < stampSize ⌝ }
-    ensures { λ r. ⌜ pairOf r ≡ pairAt (now (w .entry)) at ⌝ }
+// Tuple i of a timestamp's words.
+fn tuple_in(w: &[u32], i: usize) -> Tuple
+    requires { ⌜ i < room ⌝ }
+    ensures { λ r. ⌜ pairOf r ≡ pairAt (now (w .entry)) (pairPlace i) ⌝ }
 {
     Tuple {
-        site: words::word(w, at),
-        count: Count(words::word(w, at + 1)),
+        site: site_in(w, i),
+        count: Count(words::word(w, TUPLES + i * TUPLE + 1)),
     }
+}
+
+// The site of tuple i.
+fn site_in(w: &[u32], i: usize) -> u32
+    requires { ⌜ i < room ⌝ }
+    ensures { λ r. ⌜ r ≡ pairAt (now (w .entry)) (pairPlace i) .site ⌝ }
+{
+    words::word(w, TUPLES + i * TUPLE)
 }
 
 // A number of tuples as a word.

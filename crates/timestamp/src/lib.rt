@@ -2,8 +2,10 @@
 mod comparison; // comparison.rt: the order of timestamps
 mod in_words; // in_words.rt: a timestamp in words of a lent slice
 
+pub use in_words::WORDS;
 pub use in_words::from_words;
 pub use in_words::made_by;
+use limits::SITES_WIDE;
 ghost use mathlib.Core.Path.{_≡_};
 ghost use Prim.Native.Nat.{min, _≤_};
 ghost use lib.ListN.{length, getD};
@@ -15,6 +17,9 @@ pub struct Epoch(pub u32);
 // A count of commits and dummies of one site.
 pub struct Count(pub u32);
 
+// The largest count.
+pub const GREATEST: u32 = 4294967295;
+
 pub struct Tuple {
     pub site: u32,
     pub count: Count,
@@ -24,7 +29,7 @@ pub struct Tuple {
 pub struct Timestamp {
     pub epoch: Epoch,
     pub len: usize,
-    pub tuples: [Tuple; 8],
+    pub tuples: [Tuple; SITES_WIDE],
 }
 
 // What a comparison finds of the first timestamp.
@@ -82,7 +87,7 @@ impl Timestamp {
         ensures { λ r. ⌜ stampOf r ≡ appendedOrSame (stampOf self) site (count .0) ⌝ }
     {
         let n = used(self.len);
-        if 8 <= n {
+        if SITES_WIDE <= n {
             return self;
         }
         self.tuples[n] = Tuple { site, count };
@@ -100,7 +105,7 @@ impl Timestamp {
         }
         let last = self.tuples[n - 1];
         let c = last.count.0;
-        if 4294967295 <= c {
+        if GREATEST <= c {
             return self;
         }
         self.tuples[n - 1] = Tuple {
@@ -115,8 +120,8 @@ impl Timestamp {
 fn used(len: usize) -> usize
     ensures { λ r. ⌜ r ≡ min len room ⌝ }
 {
-    if len < 8 {
+    if len < SITES_WIDE {
         return len;
     }
-    8
+    SITES_WIDE
 }

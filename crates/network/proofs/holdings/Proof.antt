@@ -1,22 +1,25 @@
 -- `holdings` reads the three counts.
-use mathlib.Core.Path.{sym}
+use mathlib.Core.Path.{sym, _∙_}
 use Rattle.network_layout.proofs.Performs.{sites-count, items-count, records-count}
 use borrow.Author.Needs.{needs}
 use Rattle.network.proofs.holdings.Statement.{statement}
 use Rattle.network.proofs.holdings.Tie as tie
 
-element-copy-out-t4 : tie.Need-element-copy-out-t4
-element-copy-out-t4 c = search needs
+site-count-requires : tie.Need-site-count-requires
+site-count-requires c κs = search needs
 
-element-copy-out-t7 : tie.Need-element-copy-out-t7
-element-copy-out-t7 c = search needs
+item-count-requires : tie.Need-item-count-requires
+item-count-requires c κs = search needs
 
-element-copy-out-t10 : tie.Need-element-copy-out-t10
-element-copy-out-t10 c = search needs
+record-count-requires : tie.Need-record-count-requires
+record-count-requires c κs = search needs
 
 returns : tie.Need-returns
-returns c = let w = c .before .before .before .args .state .now in (sym (sites-count w), sym (items-count w 0), sym (records-count w))
+returns c =
+    let sites = c .before .before .before .before in
+    let w = sites .before .before .args .state .now in
+    (sites .site-count .ensures ∙ sym (sites-count w), c .before .before .item-count .ensures ∙ sym (items-count w 0), c .record-count .ensures ∙ sym (records-count w))
 
 pub holdings-spec : {M : Type 1} → statement M
 holdings-spec =
-    tie.close (tie.spec element-copy-out-t4 element-copy-out-t7 element-copy-out-t10 returns)
+    tie.close (tie.spec site-count-requires item-count-requires record-count-requires returns)

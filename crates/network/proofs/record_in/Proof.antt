@@ -9,8 +9,8 @@ use borrow.Author.Needs.{needs}
 use Rattle.network.proofs.record_in.Statement.{statement}
 use Rattle.network.proofs.record_in.Tie as tie
 
-shared-slice-read-wide : tie.Need-shared-slice-read-wide
-shared-slice-read-wide c = search needs
+record-count-requires : tie.Need-record-count-requires
+record-count-requires c κs = search needs
 
 wide-requires : tie.Need-wide-requires
 wide-requires c κs = search needs
@@ -20,18 +20,21 @@ no-entry-requires c κs = search needs
 
 returns : tie.Need-returns
 returns c =
-    let A = c .before .before .before .before .before .args in
+    let counted = c .before .before .before in
+    let A = counted .before .before .args in
     let e = c .no-entry .result in
-    subst (λ (r : Record). Entered r (e .site) (stampOf (e .stamp)) (e .count) (e .ops)) (record-past (A .state .now) (A .k) (omega (arith, c .before .before .wide .ensures, c .before .if1 .taken))) (c .no-entry .ensures)
+    subst (λ (r : Record). Entered r (e .site) (stampOf (e .stamp)) (e .count) (e .ops)) (record-past (A .state .now) (A .k) (omega (arith, c .before .before .wide .ensures, counted .record-count .ensures, c .before .if1 .taken))) (c .no-entry .ensures)
 
 no-entry-requires-2 : tie.Need-no-entry-requires-2
 no-entry-requires-2 c κs = search needs
 
 returns-2 : tie.Need-returns-2
 returns-2 c =
-    let S = c .before .before .before .before .before .before in
+    let tested = c .before .before in
+    let counted = tested .before .before in
+    let S = counted .before .before in
     let e = c .no-entry2 .result in
-    subst (λ (r : Record). Entered r (e .site) (stampOf (e .stamp)) (e .count) (e .ops)) (record-beyond (S .args .state .now) (S .args .k) (S .pre) (omega (arith, c .before .before .before .wide .ensures, c .before .before .if1 .left)) (c .before .if2 .taken)) (c .no-entry2 .ensures)
+    subst (λ (r : Record). Entered r (e .site) (stampOf (e .stamp)) (e .count) (e .ops)) (record-beyond (S .args .state .now) (S .args .k) (S .pre) (omega (arith, tested .before .wide .ensures, counted .record-count .ensures, tested .if1 .left)) (c .before .if2 .taken)) (c .no-entry2 .ensures)
 
 entry-in-requires : tie.Need-entry-in-requires
 entry-in-requires c κs = search needs
@@ -43,7 +46,7 @@ pub record-in-spec : {M : Type 1} → statement M
 record-in-spec =
     tie.close
     (tie.spec
-    shared-slice-read-wide
+    record-count-requires
     wide-requires
     no-entry-requires
     returns

@@ -1,5 +1,5 @@
 -- `add_record` writes the record behind the others, and counts it.
-use mathlib.Core.Path.{_≡_, refl}
+use mathlib.Core.Path.{_≡_, _∙_}
 use native.Mathlib.Omega.{arith}
 use lib.ListN.{length}
 use Rattle.timestamp.specs.Timestamp.{stampOf}
@@ -9,8 +9,8 @@ use borrow.Author.Needs.{needs}
 use Rattle.network_access.proofs.add_record.Statement.{statement}
 use Rattle.network_access.proofs.add_record.Tie as tie
 
-slice-read-made : tie.Need-slice-read-made
-slice-read-made c = search needs
+record-count-requires : tie.Need-record-count-requires
+record-count-requires c κs = search needs
 
 wide-requires : tie.Need-wide-requires
 wide-requires c κs = search needs
@@ -50,16 +50,19 @@ same-length c = search needs
 
 returns : tie.Need-returns
 returns c =
-    let A = c .before .before .before .before .before .before .before .before .before .before .before .before .args in
-    let P = c .before .before .before .before .before .before .before .before .before .before .before .before .pre in
-    let long : length (A .ops .now) ≡ opsSize = omega (arith, c .before .before .before .before .before .before .before .before .before .before .before .before .good) in
-    record-added (A .state .now) (P .0) (P .1) (P .2) (c .before .before .before .before .before .before .before .before .before .wide .result) (c .before .before .before .before .before .before .before .before .before .wide .ensures) (A .site) (A .n) (P .3) (P .4) (stampOf (A .t)) (A .ops .now) long (c .before .before .before .before .before .before .write .last .0) (c .before .before .before .before .before .before .write .kept .0) (c .before .before .before .before .before .before .write .ensures) (c .before .before .store .last .0) _ refl (c .before .before .store .ensures)
+    let stored = c .before .before .store in
+    let done = c .before .before .before .before .before .before in
+    let s = done .before .before .before .before .before .before .before in
+    let at = done .before .before .before .wide in
+    let made = done .before .before .before .before .record-count in
+    let long : length (s .args .ops .now) ≡ opsSize = omega (arith, s .good) in
+    record-added (s .args .state .now) (at .result) (s .args .site) (s .args .n) (s .pre) (at .ensures ∙ made .ensures) (stampOf (s .args .t)) (s .args .ops .now) long (done .write .last .0) (done .write .kept .0) (done .write .ensures) (stored .last .0) (made .result) (made .ensures) (stored .ensures)
 
 pub add-record-spec : {M : Type 1} → statement M
 add-record-spec =
     tie.close
     (tie.spec
-    slice-read-made
+    record-count-requires
     wide-requires
     mul-a
     add-a

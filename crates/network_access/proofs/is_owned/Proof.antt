@@ -2,23 +2,14 @@
 use mathlib.Core.Path.{ap, _∙_}
 use Prim.Native.Nat.{ℕ}
 use lib.Dec.{eqb}
-use Rattle.words.specs.Words.{part}
 use Rattle.placement.specs.Placement.{Item}
-use Rattle.placement.specs.InWords.{itemAt}
-use Rattle.network_layout.specs.Layout.{itemsAt, itemsSize}
-use Rattle.network_layout.proofs.Performs.{item-read}
+use Rattle.network_access.proofs.AccessLaws.{item-lent}
 use borrow.Author.Needs.{needs}
 use Rattle.network_access.proofs.is_owned.Statement.{statement}
 use Rattle.network_access.proofs.is_owned.Tie as tie
 
-sub-primary : tie.Need-sub-primary
-sub-primary c = search needs
-
-part-primary-start : tie.Need-part-primary-start
-part-primary-start c = search needs
-
-part-primary-end : tie.Need-part-primary-end
-part-primary-end c = search needs
+placed-requires : tie.Need-placed-requires
+placed-requires c κs = search needs
 
 wide-requires : tie.Need-wide-requires
 wide-requires c κs = search needs
@@ -28,16 +19,10 @@ primary-requires c κs = search needs
 
 returns : tie.Need-returns
 returns c =
-    let A = c .before .before .before .before .args in
-    ap (λ (p : ℕ). eqb p (A .i)) (c .primary .ensures ∙ ap (λ (k : ℕ). itemAt (part (A .state .now) itemsAt itemsSize) k .primary) (c .before .wide .ensures) ∙ ap (λ (x : Item). x .primary) (item-read (A .state .now) (A .item) (c .before .before .before .before .pre .2)))
+    let s = c .before .before .before .before in
+    let lent = c .before .before .placed in
+    let item = item-lent (s .args .state .now) (lent .result .now) (lent .ensures) (c .before .wide .result) (s .args .item) (c .before .wide .ensures) (s .pre .there) in
+    ap (λ (p : ℕ). eqb p (s .args .i)) (c .primary .ensures ∙ ap (λ (x : Item). x .primary) item)
 
 pub is-owned-spec : {M : Type 1} → statement M
-is-owned-spec =
-    tie.close
-    (tie.spec
-    sub-primary
-    part-primary-start
-    part-primary-end
-    wide-requires
-    primary-requires
-    returns)
+is-owned-spec = tie.close (tie.spec placed-requires wide-requires primary-requires returns)

@@ -34,7 +34,10 @@ same-length : tie.Need-same-length
 same-length c = search needs
 
 returns : tie.Need-returns
-returns c = line-stepped (c .before .before .before .before .before .args .state .now) (c .before .before .before .before .before .pre .0) (c .before .before .before .before .before .args .k) (c .before .before .before .before .before .pre .1) (c .before .before .before .before .before .pre .2) (sentOrSame (messageOf (c .before .before .before .before .before .args .m))) (c .before .before .send .last .0) (c .before .before .send .kept .0) (c .before .before .send .ensures)
+returns c =
+    let s = c .before .before .before .before .before in
+    let done = c .before .before .send in
+    line-stepped (s .args .state .now) (s .args .k) (s .pre) (sentOrSame (messageOf (s .args .m))) (done .last .0) (done .kept .0) (done .ensures)
 
 pub line-send-spec : {M : Type 1} → statement M
 line-send-spec =

@@ -1,48 +1,18 @@
 -- `record_stamp` reads the timestamp of the record's own words.
 use mathlib.Core.Path.{ap, _∙_}
 use Rattle.records.specs.Records.{Record}
-use Rattle.network_access.proofs.AccessLaws.{record-lent}
 use borrow.Author.Needs.{needs}
 use Rattle.network_access.proofs.record_stamp.Statement.{statement}
 use Rattle.network_access.proofs.record_stamp.Tie as tie
 
-mul-a : tie.Need-mul-a
-mul-a c = search needs
-
-add-a : tie.Need-add-a
-add-a c = search needs
-
-add-e : tie.Need-add-e
-add-e c = search needs
-
-mul-stamp : tie.Need-mul-stamp
-mul-stamp c = search needs
-
-sub-stamp : tie.Need-sub-stamp
-sub-stamp c = search needs
-
-part-stamp-start : tie.Need-part-stamp-start
-part-stamp-start c = search needs
-
-part-stamp-end : tie.Need-part-stamp-end
-part-stamp-end c = search needs
+record-at-requires : tie.Need-record-at-requires
+record-at-requires c κs = search needs
 
 stamp-requires : tie.Need-stamp-requires
 stamp-requires c κs = search needs
 
 returns : tie.Need-returns
-returns c = c .stamp .ensures ∙ ap (λ (r : Record). r .stamp) (record-lent (c .before .before .before .args .state .now) (c .before .before .before .pre .0) (c .before .before .before .pre .1) (c .before .before .before .args .k) (c .before .before .before .pre .2))
+returns c = c .stamp .ensures ∙ ap (λ (r : Record). r .stamp) (c .before .record-at .ensures .meant)
 
 pub record-stamp-spec : {M : Type 1} → statement M
-record-stamp-spec =
-    tie.close
-    (tie.spec
-    mul-a
-    add-a
-    add-e
-    mul-stamp
-    sub-stamp
-    part-stamp-start
-    part-stamp-end
-    stamp-requires
-    returns)
+record-stamp-spec = tie.close (tie.spec record-at-requires stamp-requires returns)

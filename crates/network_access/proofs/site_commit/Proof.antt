@@ -5,7 +5,7 @@ use Rattle.site.specs.Operations.{worked}
 use Rattle.site.specs.Site.{Site, committed}
 use Rattle.site.specs.InWords.{opsIn}
 use Rattle.limits.specs.Limits.{opsMost}
-use Rattle.network_access.proofs.AccessLaws.{site-stepped, site-lent, site-long}
+use Rattle.network_access.proofs.AccessLaws.{site-stepped, site-lent}
 use borrow.Author.Needs.{needs}
 use Rattle.network_access.proofs.site_commit.Statement.{statement}
 use Rattle.network_access.proofs.site_commit.Tie as tie
@@ -39,12 +39,11 @@ same-length c = search needs
 
 returns : tie.Need-returns
 returns c =
-    let A = c .before .before .before .before .before .before .args in
-    let P = c .before .before .before .before .before .before .pre in
-    let os = opsIn (min (A .n) opsMost) (A .ops .now) in (
-      site-stepped (A .state .now) (P .0) (P .1) (A .i) (P .2) (committed os) (c .before .before .commit .last .0) (c .before .before .commit .kept .0) (c .before .before .commit .ensures .changed),
-      c .before .before .commit .ensures .sized (site-long (A .state .now) (P .0) (P .1) (A .i) (P .2)) ∙ ap (λ (s : Site). worked (s .table) os .ops) (site-lent (A .state .now) (P .0) (P .1) (A .i) (P .2)),
-    )
+    let s = c .before .before .before .before .before .before in
+    let done = c .before .before .commit in
+    let os = opsIn (min (s .args .n) opsMost) (s .args .ops .now) in
+    let lent = site-lent (s .args .state .now) (s .args .i) (s .pre) in
+    (site-stepped (s .args .state .now) (s .args .i) (s .pre) (committed os) (done .last .0) (done .kept .0) (done .ensures .changed), done .ensures .sized (lent .sized) ∙ ap (λ (x : Site). worked (x .table) os .ops) (lent .meant))
 
 pub site-commit-spec : {M : Type 1} → statement M
 site-commit-spec =

@@ -33,7 +33,10 @@ same-length : tie.Need-same-length
 same-length c = search needs
 
 returns : tie.Need-returns
-returns c = site-stepped (c .before .before .before .before .before .args .state .now) (c .before .before .before .before .before .pre .0) (c .before .before .before .before .before .pre .1) (c .before .before .before .before .before .args .i) (c .before .before .before .before .before .pre .2) dummied (c .before .before .dummy .last .0) (c .before .before .dummy .kept .0) (c .before .before .dummy .ensures)
+returns c =
+    let s = c .before .before .before .before .before in
+    let done = c .before .before .dummy in
+    site-stepped (s .args .state .now) (s .args .i) (s .pre) dummied (done .last .0) (done .kept .0) (done .ensures)
 
 pub site-dummy-spec : {M : Type 1} → statement M
 site-dummy-spec =

@@ -33,7 +33,10 @@ same-length : tie.Need-same-length
 same-length c = search needs
 
 returns : tie.Need-returns
-returns c = site-stepped (c .before .before .before .before .before .args .state .now) (c .before .before .before .before .before .pre .0) (c .before .before .before .before .before .pre .1) (c .before .before .before .before .before .args .i) (c .before .before .before .before .before .pre .2) (atEpoch (c .before .before .before .before .before .args .number)) (c .before .before .epoch .last .0) (c .before .before .epoch .kept .0) (c .before .before .epoch .ensures)
+returns c =
+    let s = c .before .before .before .before .before in
+    let done = c .before .before .epoch in
+    site-stepped (s .args .state .now) (s .args .i) (s .pre) (atEpoch (s .args .number)) (done .last .0) (done .kept .0) (done .ensures)
 
 pub site-epoch-spec : {M : Type 1} → statement M
 site-epoch-spec =

@@ -37,7 +37,11 @@ same-length : tie.Need-same-length
 same-length c = search needs
 
 returns : tie.Need-returns
-returns c = site-stepped (c .before .before .before .before .before .before .args .state .now) (c .before .before .before .before .before .before .pre .0) (c .before .before .before .before .before .before .pre .1) (c .before .before .before .before .before .before .args .i) (c .before .before .before .before .before .before .pre .2) (received (opsIn (min (c .before .before .before .before .before .before .args .n) opsMost) (c .before .before .before .before .before .before .args .ops .now)) (stampOf (c .before .before .before .before .before .before .args .t))) (c .before .before .receive .last .0) (c .before .before .receive .kept .0) (c .before .before .receive .ensures)
+returns c =
+    let s = c .before .before .before .before .before .before in
+    let done = c .before .before .receive in
+    let os = opsIn (min (s .args .n) opsMost) (s .args .ops .now) in
+    site-stepped (s .args .state .now) (s .args .i) (s .pre) (received os (stampOf (s .args .t))) (done .last .0) (done .kept .0) (done .ensures)
 
 pub site-receive-spec : {M : Type 1} → statement M
 site-receive-spec =

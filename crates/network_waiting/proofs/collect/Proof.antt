@@ -2,14 +2,15 @@
 use mathlib.Core.Path.{_≡_, refl, _∙_}
 use Prim.Native.Nat.{_≤_, _-_}
 use native.Mathlib.Omega.{arith}
-use lib.ListN.{length, getD, take}
+use lib.ListN.{length, take}
+use borrow.Author.Needs.{needs}
 use Rattle.limits.specs.Limits.{itemsMost}
 use Rattle.protocol.specs.Waiting.{isWaiting}
+use Rattle.network_layout.specs.Layout.{itemCount}
 use Rattle.network_layout.specs.InWords.{networkIn}
 use Rattle.network_layout.specs.Promises.{Filled}
 use Rattle.network_layout.proofs.Places.{filled-more}
 use Rattle.network_waiting.proofs.WaitingLaws.{passing, each-once, collected-next, few-placed}
-use borrow.Author.Needs.{needs}
 use Rattle.network_waiting.proofs.collect.Statement.{statement}
 use Rattle.network_waiting.proofs.collect.Tie as tie
 
@@ -19,8 +20,8 @@ Inv-loop state site items₀ placed count₀ k₀ items count k = (k ≤ placed)
 abbrev μ-loop : tie.MeasureT-loop
 μ-loop state site items₀ placed count₀ k₀ items count k = placed - k
 
-shared-slice-read-placed : tie.Need-shared-slice-read-placed Inv-loop μ-loop
-shared-slice-read-placed c = search needs
+item-count-requires : tie.Need-item-count-requires Inv-loop μ-loop
+item-count-requires c κs = search needs
 
 loop-holds : tie.Need-loop-holds Inv-loop μ-loop
 loop-holds c = (omega arith, omega arith, refl, refl, record { fits = omega arith; rest-is = refl })
@@ -30,34 +31,39 @@ slice-aggregate-collect-one c = search needs
 
 collect-one-requires : tie.Need-collect-one-requires Inv-loop μ-loop
 collect-one-requires c κs =
-    let s = c .before .before .before .before .before in
     let l = c .before .before .loop in
-    (s .pre .0, s .pre .1, s .pre .2, l .inv .1, omega (arith, c .before .loop-test .taken, few-placed (s .args .state .now) (s .pre .1)), l .inv .2)
+    let counted = c .before .before .before in
+    let s = counted .before .before in
+    record { at = s .pre; low = l .inv .1; few = omega (arith, c .before .loop-test .taken, counted .item-count .ensures, few-placed (s .args .state .now) (s .pre .ranged)); places = l .inv .2 }
 
 add-k : tie.Need-add-k Inv-loop μ-loop
-add-k c = omega (arith, c .before .before .before .loop-test .taken, few-placed (c .before .before .before .before .before .before .before .args .state .now) (c .before .before .before .before .before .before .before .pre .1))
+add-k c = search needs
 
 loop-less : tie.Need-loop-less Inv-loop μ-loop
 loop-less c = search needs
 
 loop-again : tie.Need-loop-again Inv-loop μ-loop
 loop-again c =
-    let A = c .before .before .before .before .before .before .before .args in
-    let l = c .before .before .before .before .loop in
-    let q = c .before .collect-one in (
+    let turn = c .before .before .before in
+    let q = c .before .collect-one in
+    let l = turn .before .loop in
+    let counted = turn .before .before in
+    let s = counted .before .before in
+    let A = s .args in
+    let few : q .result ≤ itemsMost = omega (arith, q .ensures .below, turn .loop-test .taken, counted .item-count .ensures, few-placed (A .state .now) (s .pre .ranged)) in (
       omega arith,
       q .ensures .below,
       q .kept .0 ∙ l .inv .2,
       collected-next (isWaiting (networkIn (A .state .now)) (A .site)) (l .items) (q .last .0) (l .count) (q .result) (l .k) (l .inv .3) (q .ensures),
-      filled-more 0 itemsMost (l .count) (q .result) (l .items) (q .last .0) (l .inv .4) (q .ensures .above) (omega (arith, q .ensures .below, few-placed (A .state .now) (c .before .before .before .before .before .before .before .pre .1))) (q .ensures .rest-is),
+      filled-more 0 itemsMost (l .count) (q .result) (l .items) (q .last .0) (l .inv .4) (q .ensures .above) few (q .ensures .rest-is),
     )
 
 returns : tie.Need-returns Inv-loop μ-loop
 returns c =
-    let A = c .before .before .before .before .args in
     let l = c .before .loop in
-    let all : l .k ≡ getD (A .state .now) 1 0 = omega (arith, l .inv .0, c .loop-test .left) in
-    (refl, each-once (A .state .now) (A .site) (take (l .count) (l .items)) (l .k) all (l .inv .3), l .inv .4)
+    let A = c .before .before .before .before .args in
+    let all : l .k ≡ itemCount (A .state .now) = omega (arith, l .inv .0, c .loop-test .left, c .before .before .item-count .ensures) in
+    record { accepted = refl; each-once = each-once (A .state .now) (A .site) (take (l .count) (l .items)) (l .k) all (l .inv .3); filled = l .inv .4 }
 
 pub collect-spec : {M : Type 1} → statement M
 collect-spec =
@@ -65,7 +71,7 @@ collect-spec =
     (tie.spec
     Inv-loop
     μ-loop
-    shared-slice-read-placed
+    item-count-requires
     loop-holds
     slice-aggregate-collect-one
     collect-one-requires

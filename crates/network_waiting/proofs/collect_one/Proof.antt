@@ -16,7 +16,8 @@ returns : tie.Need-returns
 returns c =
     let s = c .before .before .before .before in
     let A = s .args in
-    collected-none (isWaiting (networkIn (A .state .now)) (A .site) (A .k)) (A .items .now) (A .count) (A .k) (s .pre .3) (sym (c .before .is-waiting .ensures) ∙ not-true (c .before .is-waiting .result) (c .if1 .taken))
+    let asked = c .before .is-waiting in
+    collected-none (isWaiting (networkIn (A .state .now)) (A .site) (A .k)) (A .items .now) (A .count) (A .k) (s .pre .low) (sym (asked .ensures) ∙ not-true (asked .result) (c .if1 .taken))
 
 mul-items : tie.Need-mul-items
 mul-items c = search needs
@@ -34,7 +35,8 @@ returns-2 : tie.Need-returns-2
 returns-2 c =
     let s = c .before .before .before .before in
     let A = s .args in
-    collected-one (isWaiting (networkIn (A .state .now)) (A .site) (A .k)) (A .items .now) (A .count) (A .k) (s .pre .3) (sym (c .before .is-waiting .ensures) ∙ not-false (c .before .is-waiting .result) (c .if1 .left)) (omega arith)
+    let asked = c .before .is-waiting in
+    collected-one (isWaiting (networkIn (A .state .now)) (A .site) (A .k)) (A .items .now) (A .count) (A .k) (s .pre .low) (sym (asked .ensures) ∙ not-false (asked .result) (c .if1 .left)) (omega arith)
 
 pub collect-one-spec : {M : Type 1} → statement M
 collect-one-spec =

@@ -31,7 +31,8 @@ collect-requires c κs =
     let A = c .before .before .before .args in
     let q = site-found (A .state .now) (A .site) (sym (c .before .site-number .ensures) ∙ c .if1 .left) in
     let r = shaped-range (A .state .now) (q .0) in
-    (c .before .before .before .pre, r, site-below (A .state .now) r (A .site) (q .1) .1)
+    let below = site-below (A .state .now) r (A .site) (q .1) in
+    record { sized = c .before .before .before .pre; ranged = r; there = below .0; few = below .1 }
 
 returns-2 : tie.Need-returns-2
 returns-2 c =
@@ -39,10 +40,10 @@ returns-2 c =
     let w = A .state .now in
     let e = c .collect .ensures in
     record {
-      performed = subst (λ (r : ℕ). Performed (waiting (A .site)) w w r 0 noStamp []) (sym (e .0)) (waiting-done w (A .site) (sym (c .before .before .site-number .ensures) ∙ c .before .if1 .left));
-      each-once = λ _. e .1;
-      none-refused = λ h. absurd (h (e .0));
-      filled = e .2;
+      performed = subst (λ (r : ℕ). Performed (waiting (A .site)) w w r 0 noStamp []) (sym (e .accepted)) (waiting-done w (A .site) (sym (c .before .before .site-number .ensures) ∙ c .before .if1 .left));
+      each-once = λ _. e .each-once;
+      none-refused = λ h. absurd (h (e .accepted));
+      filled = e .filled;
     }
 
 pub waiting-in-spec : {M : Type 1} → statement M

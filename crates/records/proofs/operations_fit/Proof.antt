@@ -1,13 +1,14 @@
--- `operations_fit` leaves at the first operation of another kind or on no item: up to i all fit.
+-- `operations_fit` leaves at the first operation that does not fit: up to i all do.
 use mathlib.Core.Path.{_≡_, refl}
 use Prim.Native.Nat.{_≤_, _-_}
 use native.Mathlib.Omega.{arith}
 use lib.ListN.{drop}
+use borrow.Author.Needs.{needs}
+use borrow.Author.Tests.{not-true, not-false}
 use Rattle.lists.specs.Lists.{every}
 use Rattle.site.specs.InWords.{opsIn}
 use Rattle.records.specs.Records.{opFits}
-use Rattle.records.proofs.Laws.{kind-unknown, item-unknown, walk-next, walk-done}
-use borrow.Author.Needs.{needs}
+use Rattle.records.proofs.Laws.{walk-false, walk-next, walk-done}
 use Rattle.records.proofs.operations_fit.Statement.{statement}
 use Rattle.records.proofs.operations_fit.Tie as tie
 
@@ -20,30 +21,15 @@ abbrev μ-loop : tie.MeasureT-loop
 loop-holds : tie.Need-loop-holds Inv-loop μ-loop
 loop-holds c = (omega arith, refl)
 
-mul-word : tie.Need-mul-word Inv-loop μ-loop
-mul-word c = search needs
-
-word-requires : tie.Need-word-requires Inv-loop μ-loop
-word-requires c κs = search needs
+operation-fits-requires : tie.Need-operation-fits-requires Inv-loop μ-loop
+operation-fits-requires c κs = search needs
 
 returns : tie.Need-returns Inv-loop μ-loop
 returns c =
-    let A = c .before .before .before .before .before .args in
-    kind-unknown (A .items) (A .n) (A .ops .now) (c .before .before .before .loop .i) (c .before .before .before .loop .inv .1) (c .before .before .loop-test .taken) (c .before .word .result) (c .before .word .ensures) (c .if1 .taken)
-
-mul-word-2 : tie.Need-mul-word-2 Inv-loop μ-loop
-mul-word-2 c = search needs
-
-add-word : tie.Need-add-word Inv-loop μ-loop
-add-word c = search needs
-
-word-requires-2 : tie.Need-word-requires-2 Inv-loop μ-loop
-word-requires-2 c κs = search needs
-
-returns-2 : tie.Need-returns-2 Inv-loop μ-loop
-returns-2 c =
-    let A = c .before .before .before .before .before .before .before .args in
-    item-unknown (A .items) (A .n) (A .ops .now) (c .before .before .before .before .before .loop .i) (c .before .before .before .before .before .loop .inv .1) (c .before .before .before .before .loop-test .taken) (c .before .before .before .word .result) (c .before .before .before .word .ensures) (c .before .before .if1 .left) (c .before .word2 .result) (c .before .word2 .ensures) (c .if2 .taken)
+    let turn = c .before .before in
+    let A = turn .before .before .before .args in
+    let l = turn .before .loop in
+    walk-false (A .items) (A .n) (A .ops .now) (l .i) (l .inv .1) (turn .loop-test .taken) (c .before .operation-fits .result) (c .before .operation-fits .ensures) (not-true _ (c .if1 .taken))
 
 add-i : tie.Need-add-i Inv-loop μ-loop
 add-i c = search needs
@@ -53,11 +39,13 @@ loop-less c = search needs
 
 loop-again : tie.Need-loop-again Inv-loop μ-loop
 loop-again c =
-    let A = c .before .before .before .before .before .before .before .args in
-    (omega arith, walk-next (A .items) (A .n) (A .ops .now) (c .before .before .before .before .before .loop .i) (c .before .before .before .before .before .loop .inv .1) (c .before .before .before .before .loop-test .taken) (c .before .before .before .word .result) (c .before .before .before .word .ensures) (c .before .before .if1 .left) (c .before .word2 .result) (c .before .word2 .ensures) (c .if2 .left))
+    let turn = c .before .before in
+    let A = turn .before .before .before .args in
+    let l = turn .before .loop in
+    (omega arith, walk-next (A .items) (A .n) (A .ops .now) (l .i) (l .inv .1) (turn .loop-test .taken) (c .before .operation-fits .result) (c .before .operation-fits .ensures) (not-false _ (c .if1 .left)))
 
-returns-3 : tie.Need-returns-3 Inv-loop μ-loop
-returns-3 c =
+returns-2 : tie.Need-returns-2 Inv-loop μ-loop
+returns-2 c =
     let A = c .before .before .before .args in
     walk-done (A .items) (A .n) (A .ops .now) (c .before .loop .i) (c .before .loop .inv .1) (c .loop-test .left)
 
@@ -68,14 +56,9 @@ operations-fit-spec =
     Inv-loop
     μ-loop
     loop-holds
-    mul-word
-    word-requires
+    operation-fits-requires
     returns
-    mul-word-2
-    add-word
-    word-requires-2
-    returns-2
     add-i
     loop-less
     loop-again
-    returns-3)
+    returns-2)

@@ -35,18 +35,18 @@ returns-3 c =
     let A = s .before .before .before .args in
     shaped-not-rising (A .site) (A .w .now) (s .wide .result) (s .wide .ensures ∙ s .before .word .ensures) (d .before .before .if1 .left) (omega (arith, d .before .if2 .left)) (d .rising .result) (d .rising .ensures) (not-true (d .rising .result) (c .if3 .taken))
 
-mul-word : tie.Need-mul-word
-mul-word c = search needs
+sub-site-in : tie.Need-sub-site-in
+sub-site-in c = search needs
 
-word-requires-2 : tie.Need-word-requires-2
-word-requires-2 c κs = search needs
+site-in-requires : tie.Need-site-in-requires
+site-in-requires c κs = search needs
 
 returns-4 : tie.Need-returns-4
 returns-4 c =
     let d = c .before .before in
     let s = d .before .before .before in
     let A = s .before .before .before .args in
-    shaped-by-site (A .site) (A .w .now) (s .wide .result) (s .wide .ensures ∙ s .before .word .ensures) (d .before .before .if1 .left) (omega (arith, d .before .if2 .left)) (d .rising .result) (d .rising .ensures) (not-false (d .rising .result) (c .before .if3 .left)) (c .word2 .result) (c .word2 .ensures)
+    shaped-by-site (A .site) (A .w .now) (s .wide .result) (s .wide .ensures ∙ s .before .word .ensures) (d .before .before .if1 .left) (omega (arith, d .before .if2 .left)) (d .rising .result) (d .rising .ensures) (not-false (d .rising .result) (c .before .if3 .left)) (c .site-in .result) (c .site-in .ensures)
 
 pub made-by-spec : {M : Type 1} → statement M
 made-by-spec =
@@ -58,6 +58,6 @@ made-by-spec =
     returns-2
     rising-requires
     returns-3
-    mul-word
-    word-requires-2
+    sub-site-in
+    site-in-requires
     returns-4)

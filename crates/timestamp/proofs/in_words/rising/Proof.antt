@@ -1,12 +1,12 @@
 -- `rising` leaves at the first site that does not rise: up to i - 1 the list is passed.
 use mathlib.Core.Path.{_≡_, refl, sym, ap, _∙_}
 use mathlib.Core.List.{List}
-use Prim.Native.Nat.{ℕ, suc, _+_, _*_, _≤_, _<_, _-_}
+use Prim.Native.Nat.{ℕ, suc, _+_, _≤_, _<_, _-_}
 use native.Mathlib.Omega.{arith}
 use lib.ListN.{length, getD, take, drop}
 use Rattle.timestamp.specs.Timestamp.{Pair, noPair, room}
 use Rattle.timestamp.specs.Order.{byNumber}
-use Rattle.timestamp.specs.InWords.{pairsAt}
+use Rattle.timestamp.specs.InWords.{pairsAt, pairsStart}
 use Rattle.timestamp.specs.Made.{rising}
 use Rattle.timestamp.proofs.Made.{held-length, held-site, rise-stops, rise-goes-on, rise-ends}
 use borrow.Author.Needs.{needs}
@@ -14,21 +14,21 @@ use Rattle.timestamp.proofs.in_words.rising.Statement.{statement}
 use Rattle.timestamp.proofs.in_words.rising.Tie as tie
 
 abbrev Inv-loop : tie.InvT-loop
-Inv-loop w n i₀ i = (1 ≤ i) × (rising byNumber (take n (pairsAt w 2 room)) ≡ rising byNumber (drop (i - 1) (take n (pairsAt w 2 room))))
+Inv-loop w n i₀ i = (1 ≤ i) × (rising byNumber (take n (pairsAt w pairsStart room)) ≡ rising byNumber (drop (i - 1) (take n (pairsAt w pairsStart room))))
 
 abbrev μ-loop : tie.MeasureT-loop
 μ-loop w n i₀ i = n - i
 
 -- the tuples, and the two that a turn looks at
 passed : tie.At-loop Inv-loop μ-loop → List Pair
-passed h = take (h .before .before .args .n) (pairsAt (h .before .before .args .w .now) 2 room)
+passed h = take (h .before .before .args .n) (pairsAt (h .before .before .args .w .now) pairsStart room)
 
 record Turn (h : tie.At-loop Inv-loop μ-loop) (before after : ℕ) : Type 0 where
   inside : suc (h .loop .i - 1) < length (passed h)
   first : getD (passed h) (h .loop .i - 1) noPair .site ≡ before
   second : getD (passed h) (suc (h .loop .i - 1)) noPair .site ≡ after
 
-turn : (c : tie.After-word2 Inv-loop μ-loop) → Turn (c .before .before .before) (c .word2 .result) (c .before .word .result)
+turn : (c : tie.After-site-in2 Inv-loop μ-loop) → Turn (c .before .before .before) (c .site-in2 .result) (c .before .site-in .result)
 unfolding passed
 turn c =
     let h = c .before .before .before in
@@ -36,29 +36,24 @@ turn c =
     let few = h .before .before .pre in
     let i = h .loop .i in
     let in-turn = c .before .before .loop-test .taken in
+    let here : suc (i - 1) ≡ i = omega arith in
     record {
       inside = omega (arith, held-length (A .w .now) (A .n) few, in-turn);
-      first = held-site (A .w .now) (A .n) few (i - 1) (2 * i) (omega (arith, in-turn)) (omega arith) ∙ sym (c .word2 .ensures);
-      second = held-site (A .w .now) (A .n) few (suc (i - 1)) (2 * i + 2) (omega (arith, in-turn)) (omega arith) ∙ sym (c .before .word .ensures);
+      first = held-site (A .w .now) (A .n) few (i - 1) (omega (arith, in-turn)) ∙ sym (c .site-in2 .ensures);
+      second = ap (λ (k : ℕ). getD (passed h) k noPair .site) here ∙ held-site (A .w .now) (A .n) few i in-turn ∙ sym (c .before .site-in .ensures);
     }
 
 loop-holds : tie.Need-loop-holds Inv-loop μ-loop
 loop-holds c = (omega arith, refl)
 
-mul-word : tie.Need-mul-word Inv-loop μ-loop
-mul-word c = search needs
+site-in-requires : tie.Need-site-in-requires Inv-loop μ-loop
+site-in-requires c κs = search needs
 
-add-word : tie.Need-add-word Inv-loop μ-loop
-add-word c = search needs
+sub-site-in : tie.Need-sub-site-in Inv-loop μ-loop
+sub-site-in c = search needs
 
-word-requires : tie.Need-word-requires Inv-loop μ-loop
-word-requires c κs = search needs
-
-mul-word-2 : tie.Need-mul-word-2 Inv-loop μ-loop
-mul-word-2 c = search needs
-
-word-requires-2 : tie.Need-word-requires-2 Inv-loop μ-loop
-word-requires-2 c κs = search needs
+site-in-requires-2 : tie.Need-site-in-requires-2 Inv-loop μ-loop
+site-in-requires-2 c κs = search needs
 
 returns : tie.Need-returns Inv-loop μ-loop
 unfolding passed
@@ -90,11 +85,9 @@ rising-spec =
     Inv-loop
     μ-loop
     loop-holds
-    mul-word
-    add-word
-    word-requires
-    mul-word-2
-    word-requires-2
+    site-in-requires
+    sub-site-in
+    site-in-requires-2
     returns
     add-i
     loop-less
