@@ -43,7 +43,7 @@ fn lacks_arrived(state: &[u32], j: u32) -> bool
 {
     let mask = network_access::parents(state, j);
     let mut p = 0;
-    while p < 8 {
+    while p < limits::SITES {
         if lacks_from(state, mask, p, j) {
             return true;
         }
@@ -60,14 +60,7 @@ fn lacks_from(state: &[u32], mask: u32, p: u32, j: u32) -> bool
     if !placement::bit(mask, p) {
         return false;
     }
-    network_access::line_arrived(state, line_number(p, j)) == 0
-}
-
-// The number of the line from p to j.
-pub fn line_number(p: u32, j: u32) -> usize
-    ensures { λ r. ⌜ r ≡ lineNumber p j ⌝ }
-{
-    words::wide(p) * 8 + words::wide(j)
+    network_access::line_arrived(state, network_access::line_number(p, j)) == 0
 }
 
 // ---- the parent with the earliest message, at a site whose schedule is not refused
@@ -77,11 +70,11 @@ pub fn chosen(state: &[u32], j: u32) -> Head
 {
     let mask = network_access::parents(state, j);
     let mut best = Head {
-        parent: 8,
+        parent: limits::SITES,
         stamp: network_access::no_stamp(),
     };
     let mut p = 0;
-    while p < 8 {
+    while p < limits::SITES {
         best = better(state, mask, p, j, best);
         p += 1;
     }
@@ -97,7 +90,7 @@ fn better(state: &[u32], mask: u32, p: u32, j: u32, best: Head) -> Head
         return best;
     }
     let stamp = head_stamp(state, p, j);
-    if 8 <= best.parent {
+    if limits::SITES <= best.parent {
         return Head { parent: p, stamp };
     }
     if earlier(stamp, best.stamp) {
@@ -121,8 +114,8 @@ fn head_stamp(state: &[u32], p: u32, j: u32) -> Timestamp
     requires { ⌜ ChoosingFrom (now state) p j ⌝ }
     ensures { λ r. ⌜ stampOf r ≡ headStamp (networkIn (now (state .entry))) p j ⌝ }
 {
-    let m = network_access::line_first(state, line_number(p, j));
-    if m.name < 256 {
+    let m = network_access::line_first(state, network_access::line_number(p, j));
+    if m.name < limits::RECORDS {
         return network_access::record_stamp(state, words::wide(m.name));
     }
     m.stamp

@@ -35,7 +35,7 @@ pub fn due_mask(state: &[u32], ops: &[u32], n: usize) -> u32
 {
     let mut m = 0;
     let mut c = 0;
-    while c < 8 {
+    while c < limits::SITES {
         if due(state, ops, n, c) {
             m += 1u32 << c;
         }

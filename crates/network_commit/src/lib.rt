@@ -4,7 +4,9 @@ mod operations; // operations.rt: a commit's operations in words, and the values
 
 use lines::Message;
 use network_layout::Committed;
+use network_layout::RECORD_COUNT;
 use network_layout::WORDS;
+use site::OPERATIONS;
 use timestamp::Timestamp;
 ghost use mathlib.Core.Path.{_≡_};
 ghost use Prim.Native.Nat.{_≤_};
@@ -26,7 +28,7 @@ ghost use Rattle.network_commit.specs.Done.{CommitAt, Masked, CommitRead
 // The timestamp of a commit, and its operations as the history keeps them.
 struct Worked {
     stamp: Timestamp,
-    ops: [u32; 24],
+    ops: [u32; OPERATIONS],
 }
 
 // A commit at a site: operations as three lists of their fields. It answers its number, the timestamp and the values read.
@@ -87,7 +89,7 @@ fn refused(number: u32) -> Committed
         number,
         stamp: none,
         count: 0,
-        values: [0; 8],
+        values: [0; limits::OPERATIONS_WIDE],
     }
 }
 
@@ -115,7 +117,7 @@ fn commit_cause(state: &[u32], site: u32, ops: &[u32], n: usize, mask: u32) -> u
     if cause != 0 {
         return cause;
     }
-    if limits::RECORDS <= state[2] {
+    if limits::RECORDS <= state[RECORD_COUNT] {
         return 12;
     }
     if network_sending::some_line_full(state, site, mask) {
@@ -133,7 +135,7 @@ fn commit_done(state: &mut [u32], site: u32, ops: &[u32], n: usize, mask: u32) -
     ensures { λ r. ⌜ CommitDone (now (state .entry)) (now (state .exit)) site (opsIn n (now (ops .entry))) (r .number) (stampOf (r .stamp)) (take (r .count) (r .values)) ⌝ }
     ensures { λ r. ⌜ Filled (pos 0) opsMost (r .count) (r .values) ⌝ }
 {
-    let name = state[2];
+    let name = state[RECORD_COUNT];
     let worked = work(state, site, ops, n);
     let t = worked.stamp;
     let done = worked.ops;
@@ -171,7 +173,7 @@ fn wrong_lists(kinds: usize, items: usize, values: usize) -> bool
     if kinds < 1 {
         return true;
     }
-    if 8 < kinds {
+    if limits::OPERATIONS_WIDE < kinds {
         return true;
     }
     if items != kinds {

@@ -13,15 +13,15 @@ ghost use Rattle.network_layout.specs.Promises.{Filled};
 // The values that reads gave: the first `count` of eight places, in order; the rest are 0.
 pub struct Given {
     pub count: usize,
-    pub values: [i32; 8],
+    pub values: [i32; limits::OPERATIONS_WIDE],
 }
 
 // The words of the operations, three each: kind, item, value.
-pub fn op_words(kinds: &[u8], items: &[u32], values: &[i32]) -> [u32; 24]
+pub fn op_words(kinds: &[u8], items: &[u32], values: &[i32]) -> [u32; site::OPERATIONS]
     requires { ⌜ (length (now kinds) ≤ opsMost) × (length (now items) ≡ length (now kinds)) × (length (now values) ≡ length (now kinds)) ⌝ }
     ensures { λ r. ⌜ opsIn (length (now (kinds .entry))) r ≡ opsOf (now (kinds .entry)) (now (items .entry)) (now (values .entry)) ⌝ }
 {
-    let mut out = [0u32; 24];
+    let mut out = [0u32; site::OPERATIONS];
     let n = kinds.len();
     let mut i = 0;
     while i < n {
@@ -37,7 +37,7 @@ pub fn values_read(ops: &[u32], n: usize) -> Given
     ensures { λ r. ⌜ take (r .count) (r .values) ≡ valuesRead (opsIn n (now (ops .entry))) ⌝ }
     ensures { λ r. ⌜ Filled (pos 0) opsMost (r .count) (r .values) ⌝ }
 {
-    let mut values = [0i32; 8];
+    let mut values = [0i32; limits::OPERATIONS_WIDE];
     let mut count = 0;
     let mut i = 0;
     while i < n {
@@ -48,7 +48,7 @@ pub fn values_read(ops: &[u32], n: usize) -> Given
 }
 
 // Operation i, from the lists of the fields, after the i before it.
-fn op_word(out: &mut [u32; 24], kinds: &[u8], items: &[u32], values: &[i32], i: usize)
+fn op_word(out: &mut [u32; site::OPERATIONS], kinds: &[u8], items: &[u32], values: &[i32], i: usize)
     requires { ⌜ (i < opsMost) × (i < length (now kinds)) × (i < length (now items)) × (i < length (now values)) ⌝ }
     ensures { λ r. ⌜ opsIn (i + 1) (now (out .exit)) ≡ opsIn i (now (out .entry)) ++ opsOf (getD (now (kinds .entry)) i 0 ∷ []) (getD (now (items .entry)) i 0 ∷ []) (getD (now (values .entry)) i (pos 0) ∷ []) ⌝ }
 {

@@ -14,9 +14,9 @@ use Rattle.lists.proofs.Chains.{keep-more}
 use Rattle.timestamp.specs.Timestamp.{Stamp, stampOf}
 use Rattle.site.specs.Operations.{Op}
 use Rattle.site.specs.Site.{received}
-use Rattle.site.specs.InWords.{opAt, opsIn}
+use Rattle.site.specs.InWords.{opAt, opsIn, opOf}
 use Rattle.limits.specs.Limits.{opsMost, sitesMost}
-use Rattle.site.proofs.Laws.{opOf, op-word, ops-last}
+use Rattle.site.proofs.Laws.{op-word, ops-last}
 use Rattle.placement.specs.Placement.{Item, copies}
 use Rattle.lines.specs.Lines.{Message, commit, dummy, noLine, takenOrSame}
 use Rattle.lines.proofs.Boxes.{take-some}

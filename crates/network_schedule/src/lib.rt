@@ -25,7 +25,7 @@ ghost use Rattle.network_schedule.specs.Wanted.{wantedAt, Laid, Recorded
 // Operations in words, three each: the first `count` of eight.
 struct Writes {
     count: usize,
-    ops: [u32; 24],
+    ops: [u32; site::OPERATIONS],
 }
 
 // Schedule at a site. It answers its number, and the parent and the timestamp of the message done.
@@ -80,7 +80,7 @@ fn take_chosen(state: &mut [u32], j: u32) -> Scheduled
     let parent = best.parent;
     let stamp = best.stamp;
     receive(state, parent, j, stamp);
-    network_access::line_take(state, network_choice::line_number(parent, j));
+    network_access::line_take(state, network_access::line_number(parent, j));
     Scheduled {
         number: 0,
         parent,
@@ -104,11 +104,11 @@ fn head_writes(state: &[u32], p: u32, j: u32) -> Writes
     requires { ⌜ ChoosingFrom (now state) p j ⌝ }
     ensures { λ r. ⌜ Laid opsMost (r .count) (r .ops) (writesFor (networkIn (now (state .entry))) j (head (networkIn (now (state .entry))) p j)) ⌝ }
 {
-    let m = network_access::line_first(state, network_choice::line_number(p, j));
-    if 256 <= m.name {
+    let m = network_access::line_first(state, network_access::line_number(p, j));
+    if limits::RECORDS <= m.name {
         return Writes {
             count: 0,
-            ops: [0u32; 24],
+            ops: [0u32; site::OPERATIONS],
         };
     }
     record_writes(state, words::wide(m.name), j)
@@ -119,7 +119,7 @@ fn record_writes(state: &[u32], k: usize, j: u32) -> Writes
     requires { ⌜ Recorded (now state) k ⌝ }
     ensures { λ r. ⌜ Laid opsMost (r .count) (r .ops) (keep (wantedAt (networkIn (now (state .entry)) .items) j) (getD (networkIn (now (state .entry)) .history) k noRecord .ops)) ⌝ }
 {
-    let n = network_access::record_count(state, k);
+    let n = network_access::operation_count(state, k);
     let ops = network_access::record_ops(state, k);
     wanted(state, &ops, n, j)
 }
@@ -129,7 +129,7 @@ fn wanted(state: &[u32], ops: &[u32], n: usize, j: u32) -> Writes
     requires { ⌜ Wanting (now state) n ⌝ }
     ensures { λ r. ⌜ Laid n (r .count) (r .ops) (keep (wantedAt (networkIn (now (state .entry)) .items) j) (opsIn n (now (ops .entry)))) ⌝ }
 {
-    let mut out = [0u32; 24];
+    let mut out = [0u32; site::OPERATIONS];
     let mut count = 0;
     let mut i = 0;
     while i < n {
@@ -141,7 +141,7 @@ fn wanted(state: &[u32], ops: &[u32], n: usize, j: u32) -> Writes
 
 // Operation i too, where it is wanted. It answers how many there are now.
 fn wanted_one(
-    out: &mut [u32; 24],
+    out: &mut [u32; site::OPERATIONS],
     count: usize,
     state: &[u32],
     ops: &[u32],
@@ -171,7 +171,7 @@ fn is_wanted(state: &[u32], ops: &[u32], i: usize, j: u32) -> bool
 }
 
 // Operation i behind the first `count`.
-fn copy_one(out: &mut [u32; 24], count: usize, ops: &[u32], i: usize)
+fn copy_one(out: &mut [u32; site::OPERATIONS], count: usize, ops: &[u32], i: usize)
     requires { ⌜ Copying count i ⌝ }
     ensures { λ r. ⌜ opsIn (count + 1) (now (out .exit)) ≡ opsIn count (now (out .entry)) ++ (opAt (now (ops .entry)) i ∷ []) ⌝ }
 {

@@ -36,7 +36,7 @@ fn set_up_in(state: &mut [u32], sites: u32, items: u32, primaries: &[u32], masks
     requires { ⌜ length (now state) ≡ stateSize ⌝ }
     ensures { λ r. ⌜ Performed (setUpCall sites items (now (primaries .entry)) (now (masks .entry))) (now (state .entry)) (now (state .exit)) r 0 noStamp [] ⌝ }
 {
-    if outside(1, 8, sites) {
+    if outside(1, limits::SITES, sites) {
         return 1;
     }
     if items_wrong(items, primaries.len(), masks.len()) {
@@ -61,7 +61,7 @@ fn outside(low: u32, high: u32, k: u32) -> bool
 fn items_wrong(items: u32, primaries: usize, masks: usize) -> bool
     ensures { λ r. ⌜ r ≡ wrongItems items primaries masks ⌝ }
 {
-    if outside(1, 64, items) {
+    if outside(1, limits::ITEMS, items) {
         return true;
     }
     let n = words::wide(items);

@@ -1,6 +1,6 @@
 -- `head_stamp` reads the line's oldest message: the record that it names has its timestamp, or it has one of its own.
 use Rattle.timestamp.specs.Timestamp.{stampOf}
-use Rattle.network_layout.specs.At.{AtLine, AtRecord}
+use Rattle.network_layout.specs.At.{AtLine, HasRecord}
 use Rattle.network_layout.proofs.OnNetwork.{at-record}
 use Rattle.network_choice.proofs.ChoiceLaws.{parent-line, head-recorded, stamp-commit, stamp-dummy}
 use borrow.Author.Needs.{needs}
@@ -28,7 +28,7 @@ record-stamp-requires c κs =
     let k = read .before .line-number in
     let m = read .line-first in
     let held = head-recorded (A .state .now) (A .j) (start .pre .free) (A .p) (start .pre .line) (k .result) (k .ensures) (m .result) (m .ensures) (c .before .if1 .taken) in
-    let at : AtRecord (A .state .now) (c .wide .result) = at-record (A .state .now) (start .pre .free .net) (m .result .name) (c .wide .result) (c .wide .ensures) held in
+    let at : HasRecord (A .state .now) (c .wide .result) = at-record (A .state .now) (start .pre .free .net) (m .result .name) (c .wide .result) (c .wide .ensures) held in
     search needs
 
 returns : tie.Need-returns

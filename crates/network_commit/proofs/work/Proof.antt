@@ -87,7 +87,13 @@ add-record-requires c κs =
     let done = c .before .before .before .before .before .before .before in
     let start = done .before .before .before .before .before in
     let n = c .before .short in
-    (done .site-commit .kept .0 ∙ start .pre .sized, stepped done .ranged, room done, omega (arith, n .ensures, start .pre .some-ops), omega (arith, n .ensures, start .pre .few-ops))
+    record {
+      sized = done .site-commit .kept .0 ∙ start .pre .sized;
+      ranged = stepped done .ranged;
+      room = room done;
+      some = omega (arith, n .ensures, start .pre .some-ops);
+      few = omega (arith, n .ensures, start .pre .few-ops);
+    }
 
 same-length : tie.Need-same-length
 same-length c = search needs

@@ -31,7 +31,7 @@ returns c =
     deliver-refused (A .state .now) (start .pre) (A .parent) (A .child) (c .before .deliver-number .result) (c .before .deliver-number .ensures) (c .if1 .taken)
 
 line-number-requires : tie.Need-line-number-requires
-line-number-requires c κs = let at = pair (c .before) in record { from = at .from; to = at .to }
+line-number-requires c κs = search needs
 
 line-deliver-requires : tie.Need-line-deliver-requires
 line-deliver-requires c κs =

@@ -3,7 +3,7 @@ use mathlib.Core.Path.{refl}
 use lib.ListN.{getD}
 use Rattle.protocol.specs.Network.{noRecord}
 use Rattle.network_layout.specs.InWords.{networkIn}
-use Rattle.network_layout.specs.At.{AtRecord}
+use Rattle.network_layout.specs.At.{HasRecord}
 use Rattle.network_layout.proofs.OnNetwork.{at-state, at-record}
 use Rattle.network_schedule.specs.Wanted.{wantedAt}
 use Rattle.network_schedule.proofs.ScheduleLaws.{laid-record}
@@ -11,18 +11,18 @@ use borrow.Author.Needs.{needs}
 use Rattle.network_schedule.proofs.record_writes.Statement.{statement}
 use Rattle.network_schedule.proofs.record_writes.Tie as tie
 
-record-count-requires : tie.Need-record-count-requires
-record-count-requires c κs =
+operation-count-requires : tie.Need-operation-count-requires
+operation-count-requires c κs =
     let start = c .before in
     let A = start .args in
-    let at : AtRecord (A .state .now) (A .k) = at-record (A .state .now) (start .pre .net) (A .k) (A .k) refl (start .pre .there) in
+    let at : HasRecord (A .state .now) (A .k) = at-record (A .state .now) (start .pre .net) (A .k) (A .k) refl (start .pre .there) in
     search needs
 
 record-ops-requires : tie.Need-record-ops-requires
 record-ops-requires c κs =
     let start = c .before .before in
     let A = start .args in
-    let at : AtRecord (A .state .now) (A .k) = at-record (A .state .now) (start .pre .net) (A .k) (A .k) refl (start .pre .there) in
+    let at : HasRecord (A .state .now) (A .k) = at-record (A .state .now) (start .pre .net) (A .k) (A .k) refl (start .pre .there) in
     search needs
 
 slice-aggregate-wanted : tie.Need-slice-aggregate-wanted
@@ -32,7 +32,7 @@ wanted-requires : tie.Need-wanted-requires
 wanted-requires c κs =
     let counted = c .before .before in
     let start = counted .before .before in
-    record { at = at-state (start .args .state .now) (start .pre .net); few = counted .record-count .ensures .1 }
+    record { at = at-state (start .args .state .now) (start .pre .net); few = counted .operation-count .ensures .1 }
 
 returns : tie.Need-returns
 returns c =
@@ -40,13 +40,13 @@ returns c =
     let counted = read .before in
     let A = counted .before .before .args in
     let n = networkIn (A .state .now) in
-    laid-record (wantedAt (n .items) (A .j)) (getD (n .history) (A .k) noRecord .ops) (counted .record-count .result) (read .record-ops .result) (counted .record-count .ensures) (read .record-ops .ensures) (c .wanted .result .count) (c .wanted .result .ops) (c .wanted .ensures)
+    laid-record (wantedAt (n .items) (A .j)) (getD (n .history) (A .k) noRecord .ops) (counted .operation-count .result) (read .record-ops .result) (counted .operation-count .ensures) (read .record-ops .ensures) (c .wanted .result .count) (c .wanted .result .ops) (c .wanted .ensures)
 
 pub record-writes-spec : {M : Type 1} → statement M
 record-writes-spec =
     tie.close
     (tie.spec
-    record-count-requires
+    operation-count-requires
     record-ops-requires
     slice-aggregate-wanted
     wanted-requires
