@@ -1,5 +1,5 @@
 -- Laws of a run: a block part by part, a script's end, and one turn behind another.
-use mathlib.Core.Path.{_≡_, refl, sym, ap, ap₂, subst, _∙_}
+use mathlib.Core.Path.{_≡_, refl, sym, ap, ap₂, _∙_}
 use mathlib.Core.Bool.{Bool, true, false}
 use mathlib.Core.List.{List, [], _++_}
 use mathlib.Core.Option.{Option}
@@ -7,19 +7,18 @@ use Prim.Native.Nat.{ℕ, _+_, _-_, _≤_, _<_}
 use native.Mathlib.Omega.{arith}
 use lib.ListN.{length, take, drop, length-take, length-drop}
 use lib.Seq.{take-all, take-add}
-use lib.Dec.{leb}
 use borrow.Author.Tests.{le-leb}
 use Rattle.protocol.specs.Network.{Network}
 use Rattle.network_layout.specs.InWords.{meaning}
 use Rattle.console_lines.specs.declared.Held.{Held}
 use Rattle.console_lines.specs.declared.Progress.{Progress}
-use Rattle.console_lines.specs.Lines.{ending, afterLines, heldMost, lineMost, Told, told, used}
+use Rattle.console_lines.specs.Lines.{ending, clipMost, lineMost, Told, told, used}
 use Rattle.console_lines.specs.Promises.{heldOf, Fed}
 use Rattle.console_lines.proofs.Cutting.{andThen, told-append, told-none}
 use Rattle.console_lines.proofs.Feeding.{used-some, used-within, used-ending}
 use Rattle.console_lines.proofs.Steps.{partFrom, part-from}
 use Rattle.console.specs.declared.Run.{Run}
-use Rattle.console.specs.Runs.{Ran, Went, Replied, Closed}
+use Rattle.console.specs.Runs.{Ran, Went, Passed, Closed}
 
 -- where a run has ended nothing is asked of what is held
 ended : {A : Type 0} → false ≡ true → A
@@ -32,16 +31,16 @@ pub record Reached (block line entry state : List ℕ) (used : ℕ) (held : Held
   pub held-is : heldOf held ≡ told (meaning entry) line (take used block) .held
   pub within : used ≤ length block
 
-pub reached-none : (block entry : List ℕ) (h : Held) → length (h .bytes) ≡ heldMost → Reached block (heldOf h) entry entry 0 h
-reached-none block entry h e =
+pub reached-none : {block entry : List ℕ} {h : Held} → length (h .bytes) ≡ clipMost → Reached block (heldOf h) entry entry 0 h
+reached-none {block} {entry} {h} e =
     let t = told-none (meaning entry) (heldOf h) in
     record {
       after-is = ap (λ (o : Told). o .after) (sym t);
-      held-is = sym (take-all heldMost (heldOf h) (omega (arith, length-take (h .count) (h .bytes)))) ∙ ap (λ (o : Told). o .held) (sym t);
+      held-is = sym (take-all clipMost (heldOf h) (omega (arith, length-take (h .count) (h .bytes)))) ∙ ap (λ (o : Told). o .held) (sym t);
       within = omega arith;
     }
 
-module _ (block line entry mid exit out₀ out : List ℕ) (u : ℕ) (h : Held) (r : Progress) (w : Reached block line entry mid u h) (f : Fed (partFrom u block) (heldOf h) mid exit out₀ out 0 r) where
+module _ {block line entry mid exit out₀ out : List ℕ} {u : ℕ} {h : Held} {r : Progress} (w : Reached block line entry mid u h) (f : Fed (partFrom u block) (heldOf h) mid exit out₀ out 0 r) where
   pub part-within : r .used ≤ length block - u
   part-within = omega (arith, f .used-is, used-within (meaning mid) (length out₀) 0 (heldOf h) (partFrom u block), length-take (length block - u) (drop u block))
 
@@ -65,16 +64,16 @@ module _ (block line entry mid exit out₀ out : List ℕ) (u : ℕ) (h : Held) 
       }
 
 -- it ends there
-pub reached-end : (block line entry exit : List ℕ) (u : ℕ) (h : Held) (well : Bool) → Reached block line entry exit u h → Replied block line entry exit (record { held = h; more = false; well = well })
-reached-end block line entry exit u h well w = record { went = record { bytes = take u block; after-is = w .after-is; held-is = λ e. w .held-is }; whole = ended }
+pub reached-end : {block line entry exit : List ℕ} {u : ℕ} {h : Held} {well : Bool} → Reached block line entry exit u h → Passed block line entry exit (record { held = h; more = false; well = well })
+reached-end {block} {u = u} w = record { went = record { bytes = take u block; after-is = w .after-is; held-is = λ e. w .held-is }; whole = ended }
 
 -- all of it
-pub reached-all : (block line entry exit : List ℕ) (u : ℕ) (h : Held) (well : Bool) → length block ≤ u → Reached block line entry exit u h → Replied block line entry exit (record { held = h; more = true; well = well })
-reached-all block line entry exit u h well g w = record { went = record { bytes = take u block; after-is = w .after-is; held-is = λ e. w .held-is }; whole = λ e. take-all u block g }
+pub reached-all : {block line entry exit : List ℕ} {u : ℕ} {h : Held} {well : Bool} → length block ≤ u → Reached block line entry exit u h → Passed block line entry exit (record { held = h; more = true; well = well })
+reached-all {block} {u = u} g w = record { went = record { bytes = take u block; after-is = w .after-is; held-is = λ e. w .held-is }; whole = λ e. take-all u block g }
 
 -- ---- the end of a script
-pub closed : (line entry exit out₀ out : List ℕ) (r : Progress) (h : Held) (well : Bool) → lineMost ≤ length out₀ → Fed (ending line) line entry exit out₀ out 0 r → Closed line entry exit (record { held = h; more = false; well = well })
-closed line entry exit out₀ out r h well k f =
+pub closed : {line entry exit out₀ out : List ℕ} {r : Progress} {h : Held} {well : Bool} → lineMost ≤ length out₀ → Fed (ending line) line entry exit out₀ out 0 r → Closed line entry exit (record { held = h; more = false; well = well })
+closed {line} {entry} {exit} {out₀} {out} {r} k f =
     let all : take (r .used) (ending line) ≡ ending line
     = take-all (r .used) (ending line) (omega (arith, f .used-is, used-ending (meaning entry) (length out₀) 0 (le-leb (0 + lineMost) (length out₀) (omega arith)) line)) in
     record {
@@ -83,16 +82,16 @@ closed line entry exit out₀ out r h well k f =
     }
 
 -- ---- one turn behind another
-pub went-none : (line entry : List ℕ) (r : Run) → r .more ≡ false → Went line entry entry r
-went-none line entry r e = record { bytes = []; after-is = ap (λ (o : Told). o .after) (sym (told-none (meaning entry) line)); held-is = λ f. ended (sym e ∙ f) }
+pub went-none : {line entry : List ℕ} {r : Run} → r .more ≡ false → Went line entry entry r
+went-none {line} {entry} e = record { bytes = []; after-is = ap (λ (o : Told). o .after) (sym (told-none (meaning entry) line)); held-is = λ f. ended (sym e ∙ f) }
 
-pub went-first : (entry : List ℕ) (r : Run) → heldOf (r .held) ≡ [] → Went [] entry entry r
-went-first entry r e =
+pub went-first : {entry : List ℕ} {r : Run} → heldOf (r .held) ≡ [] → Went [] entry entry r
+went-first {entry} e =
     let t = told-none (meaning entry) [] in
     record { bytes = []; after-is = ap (λ (o : Told). o .after) (sym t); held-is = λ f. e ∙ ap (λ (o : Told). o .held) (sym t) }
 
-pub went-then : (line entry mid exit : List ℕ) (r q : Run) → r .more ≡ true → Went line entry mid r → Went (heldOf (r .held)) mid exit q → Went line entry exit q
-went-then line entry mid exit r q o w v =
+pub went-then : {line entry mid exit : List ℕ} {r q : Run} → Went line entry mid r → r .more ≡ true → Went (heldOf (r .held)) mid exit q → Went line entry exit q
+went-then {line} {entry} {mid} {exit} {r} {q} w o v =
     let s = meaning entry in
     let t = told s line (w .bytes) in
     let all : told s line (w .bytes ++ v .bytes) ≡ andThen t (told (meaning mid) (heldOf (r .held)) (v .bytes))
@@ -103,6 +102,6 @@ went-then line entry mid exit r q o w v =
       held-is = λ e. v .held-is e ∙ ap (λ (z : Told). z .held) (sym all);
     }
 
-pub ran : (entry exit : List ℕ) (r : Run) → Went [] entry exit r → Ran entry exit
+pub ran : {entry exit : List ℕ} {r : Run} → Went [] entry exit r → Ran entry exit
 unfolding told
-ran entry exit r w = record { input = w .bytes; after-is = w .after-is }
+ran w = record { input = w .bytes; after-is = w .after-is }

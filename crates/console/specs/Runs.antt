@@ -21,7 +21,7 @@ pub record Went (line entry exit : List ℕ) (r : Run) : Type 0 where
   pub held-is : r .more ≡ true → heldOf (r .held) ≡ told (meaning entry) line bytes .held
 
 -- where the run goes on, they are a whole block
-pub record Replied (block line entry exit : List ℕ) (r : Run) : Type 0 where
+pub record Passed (block line entry exit : List ℕ) (r : Run) : Type 0 where
   pub went : Went line entry exit r
   pub whole : r .more ≡ true → went .bytes ≡ block
 

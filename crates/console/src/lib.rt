@@ -1,17 +1,17 @@
 // Scripts from a file descriptor, their answers to another: a block is read, its lines are answered, and the answers are written before the next is read.
-use network::WORDS;
 pub use console_lines::Held;
 pub use console_lines::Progress;
 pub use console_lines::feed;
 pub use console_lines::finish;
 pub use console_lines::nothing;
+use network::WORDS;
 ghost use mathlib.Core.Path.{_≡_};
 ghost use mathlib.Core.List.{[]};
 ghost use Prim.Native.Nat.{_≤_};
 ghost use lib.ListN.{length};
 ghost use Rattle.console_lines.specs.Lines.{lineMost};
 ghost use Rattle.console_lines.specs.Promises.{heldOf};
-ghost use Rattle.console.specs.Runs.{Ran, Went, Replied, Closed};
+ghost use Rattle.console.specs.Runs.{Ran, Went, Passed, Closed};
 
 // What is held of a line where the run goes on, whether it does, and whether everything was read and written so far.
 pub struct Run {
@@ -88,15 +88,9 @@ fn fetch(from: i32, block: &mut [u8]) -> isize {
 }
 
 // The lines of a block; where the answers fill their buffer, they are written and it goes on.
-fn reply(
-    block: &[u8],
-    held: Held,
-    state: &mut [u32; WORDS],
-    answers: &mut [u8],
-    out: i32,
-) -> Run
+fn reply(block: &[u8], held: Held, state: &mut [u32; WORDS], answers: &mut [u8], out: i32) -> Run
     requires { ⌜ lineMost ≤ length (now answers) ⌝ }
-    ensures { λ r. ⌜ Replied (now (block .entry)) (heldOf held) (now (state .entry)) (now (state .exit)) r ⌝ }
+    ensures { λ r. ⌜ Passed (now (block .entry)) (heldOf held) (now (state .entry)) (now (state .exit)) r ⌝ }
 {
     let mut line = held;
     let mut used = 0;

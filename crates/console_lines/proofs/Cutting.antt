@@ -3,30 +3,30 @@ use mathlib.Core.Path.{_≡_, refl, sym, ap, _∙_}
 use mathlib.Core.Bool.{Bool, true, false, cond}
 use mathlib.Core.List.{List, [], _∷_, _++_, append-assoc, append-nil}
 use mathlib.Core.Option.{Option}
-use Prim.Native.Nat.{ℕ, zero, suc, _+_, _-_, _≤_, _<_}
+use Prim.Native.Nat.{ℕ, zero, suc, _≤_, _<_}
 use native.Mathlib.Omega.{arith}
-use lib.ListN.{length, take, drop, length-take}
-use lib.Seq.{take-all, take-take, take-append-le, length-take-le}
+use lib.ListN.{length, take}
+use lib.Seq.{take-all, take-take, length-take-le}
 use lib.Dec.{eqb, leb}
-use borrow.Author.Tests.{leb-true, leb-false, le-leb, lt-leb}
+use borrow.Author.Tests.{leb-true, leb-false, lt-leb}
 use Rattle.protocol.specs.Network.{Network}
 use Rattle.script_notation.specs.Fields.{position}
 use Rattle.script_notation.specs.Parse.{parse, longest}
 use Rattle.script_notation.specs.Answers.{Answer, replied, answer, answers}
-use Rattle.console_lines.specs.Lines.{newline, Cut, lineBefore, cut, text, afterLines, heldMost, clipped, Told, toldOf, told, lineMost, used}
+use Rattle.console_lines.specs.Lines.{newline, Cut, lineBefore, cut, ending, scriptLines, text, afterLines, clipMost, clipped, Told, toldOf, told}
 
 -- ---- bytes behind others
-abbrev pub joined : Cut → Cut → Cut
-joined c d = record { lines = c .lines ++ d .lines; rest = d .rest }
+abbrev pub followed : Cut → Cut → Cut
+followed c d = record { lines = c .lines ++ d .lines; rest = d .rest }
 
 -- cutting a ++ b is cutting a, then b behind what is left of a
-pub cut-append : (line a b : List ℕ) → cut line (a ++ b) ≡ joined (cut line a) (cut (cut line a .rest) b)
+pub cut-append : (line a b : List ℕ) → cut line (a ++ b) ≡ followed (cut line a) (cut (cut line a .rest) b)
 unfolding cut
 cut-append line [] b = refl
 cut-append line (x ∷ xs) b = go (eqb x newline) (cut-append [] xs b) (cut-append (line ++ (x ∷ [])) xs b)
   where
-    go : (t : Bool) → cut [] (xs ++ b) ≡ joined (cut [] xs) (cut (cut [] xs .rest) b) → cut (line ++ (x ∷ [])) (xs ++ b) ≡ joined (cut (line ++ (x ∷ [])) xs) (cut (cut (line ++ (x ∷ [])) xs .rest) b)
-        → cond t (lineBefore line (cut [] (xs ++ b))) (cut (line ++ (x ∷ [])) (xs ++ b)) ≡ joined (cond t (lineBefore line (cut [] xs)) (cut (line ++ (x ∷ [])) xs)) (cut (cond t (lineBefore line (cut [] xs)) (cut (line ++ (x ∷ [])) xs) .rest) b)
+    go : (t : Bool) → cut [] (xs ++ b) ≡ followed (cut [] xs) (cut (cut [] xs .rest) b) → cut (line ++ (x ∷ [])) (xs ++ b) ≡ followed (cut (line ++ (x ∷ [])) xs) (cut (cut (line ++ (x ∷ [])) xs .rest) b)
+        → cond t (lineBefore line (cut [] (xs ++ b))) (cut (line ++ (x ∷ [])) (xs ++ b)) ≡ followed (cond t (lineBefore line (cut [] xs)) (cut (line ++ (x ∷ [])) xs)) (cut (cond t (lineBefore line (cut [] xs)) (cut (line ++ (x ∷ [])) xs) .rest) b)
     go true e f = ap (lineBefore line) e
     go false e f = f
 
@@ -52,10 +52,10 @@ unfolding parse
 parse-clipped line = go (leb (length line) longest) refl
   where
     go : (t : Bool) → leb (length line) longest ≡ t → parse (clipped line) ≡ parse line
-    go true e = ap parse (take-all heldMost line (let h : length line ≤ longest = leb-true (length line) longest e in omega arith))
+    go true e = ap parse (take-all clipMost line (let h : length line ≤ longest = leb-true (length line) longest e in omega arith))
     go false e =
         let h : longest < length line = leb-false (length line) longest e in
-        let k : length (clipped line) ≡ heldMost = length-take-le heldMost line (omega arith) in
+        let k : length (clipped line) ≡ clipMost = length-take-le clipMost line (omega arith) in
         rw (e, lt-leb (length (clipped line)) longest (omega arith))
 
 same-answer : (s : Option Network) (l m : List ℕ) → clipped l ≡ clipped m → answer s l ≡ answer s m
@@ -68,7 +68,7 @@ take-front (suc n) [] b = refl
 take-front (suc n) (x ∷ l) b = ap (λ (z : List ℕ). x ∷ z) (take-front n l b)
 
 clipped-behind : (l m b : List ℕ) → clipped l ≡ clipped m → clipped (l ++ b) ≡ clipped (m ++ b)
-clipped-behind l m b e = sym (take-front heldMost l b) ∙ ap (λ (z : List ℕ). clipped (z ++ b)) e ∙ take-front heldMost m b
+clipped-behind l m b e = sym (take-front clipMost l b) ∙ ap (λ (z : List ℕ). clipped (z ++ b)) e ∙ take-front clipMost m b
 
 module _ (s : Option Network) where
   same-told : (l m b : List ℕ) → clipped l ≡ clipped m → told s l b ≡ told s m b
@@ -82,7 +82,7 @@ module _ (s : Option Network) where
       go false f = f
 
   pub told-clipped : (line b : List ℕ) → told s (clipped line) b ≡ told s line b
-  told-clipped line b = same-told (clipped line) line b (take-take heldMost heldMost line (omega arith))
+  told-clipped line b = same-told (clipped line) line b (take-take clipMost clipMost line (omega arith))
 
 -- ---- what bytes lead to, and then others
 abbrev pub andThen : Told → Told → Told
@@ -123,22 +123,43 @@ cut-line line (x ∷ xs) h = go (eqb x newline) refl h (cut-line (line ++ (x ∷
     go false e g f = rw e (f (omega arith) ∙ ap (λ (l : List ℕ). record { lines = l ∷ []; rest = [] }) (append-assoc line (x ∷ []) (take (position newline xs) xs)))
 
 -- a line that ends: its answer and a newline, and nothing is held
-abbrev pub answered : Answer → Told
-answered a = record { bytes = a .bytes ++ (newline ∷ []); after = a .after; held = [] }
+abbrev pub lineTold : Answer → Told
+lineTold a = record { bytes = a .bytes ++ (newline ∷ []); after = a .after; held = [] }
 
 module _ (s : Option Network) (line b : List ℕ) where
   pub told-part : told s line (take (position newline b) b) ≡ record { bytes = []; after = s; held = clipped (line ++ take (position newline b) b) }
   unfolding told answers afterLines text
   told-part = ap (toldOf s) (cut-part line b)
 
-  pub told-line : position newline b < length b → told s line (take (suc (position newline b)) b) ≡ answered (answer s (line ++ take (position newline b) b))
+  pub told-line : position newline b < length b → told s line (take (suc (position newline b)) b) ≡ lineTold (answer s (line ++ take (position newline b) b))
   unfolding told answers afterLines text
   told-line h = ap (toldOf s) (cut-line line b h)
 
-pub told-newline : (s : Option Network) (line : List ℕ) → told s line (newline ∷ []) ≡ answered (answer s line)
+pub told-newline : (s : Option Network) (line : List ℕ) → told s line (newline ∷ []) ≡ lineTold (answer s line)
 unfolding told cut answers afterLines text
 told-newline s line = refl
 
 pub told-none : (s : Option Network) (line : List ℕ) → told s line [] ≡ record { bytes = []; after = s; held = clipped line }
 unfolding told cut answers afterLines text
 told-none s line = refl
+
+-- ---- a whole script
+ending-clipped : (line : List ℕ) → ending (clipped line) ≡ ending line
+ending-clipped [] = refl
+ending-clipped (x ∷ xs) = refl
+
+-- behind the end of a script no line is left open
+cut-ending : (line : List ℕ) → cut line (ending line) .rest ≡ []
+unfolding cut
+cut-ending [] = refl
+cut-ending (x ∷ xs) = refl
+
+-- what a script's blocks lead to, however it is cut into them, and then its end, is what its lines answer and leave
+pub told-script : (s : Option Network) (input : List ℕ)
+    → andThen (told s [] input) (told (told s [] input .after) (told s [] input .held) (ending (told s [] input .held))) ≡ record { bytes = text (answers s (scriptLines input)); after = afterLines s (scriptLines input); held = [] }
+unfolding told
+told-script s input =
+    let rest = cut [] input .rest in
+    sym (told-append s [] input (ending (clipped rest)))
+    ∙ ap (λ (l : List ℕ). told s [] (input ++ l)) (ending-clipped rest)
+    ∙ ap (λ (l : List ℕ). record { bytes = text (answers s (scriptLines input)); after = afterLines s (scriptLines input); held = clipped l }) (ap (λ (c : Cut). c .rest) (cut-append [] input (ending rest)) ∙ cut-ending rest)

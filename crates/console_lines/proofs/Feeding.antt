@@ -3,15 +3,15 @@ use mathlib.Core.Path.{_≡_, refl, sym, ap, _∙_}
 use mathlib.Core.Bool.{Bool, true, false, cond, _&&_}
 use mathlib.Core.List.{List, [], _∷_, _++_, append-assoc, append-nil}
 use mathlib.Core.Option.{Option}
-use Prim.Native.Nat.{ℕ, zero, suc, _+_, _-_, _≤_, _<_}
+use Prim.Native.Nat.{ℕ, suc, _+_, _≤_, _<_}
 use native.Mathlib.Omega.{arith}
-use lib.ListN.{length, take, drop, drop-of-length-le}
+use lib.ListN.{length, getD, take, drop, drop-of-length-le, length-append}
 use lib.Dec.{eqb, leb, ltb}
-use borrow.Author.Tests.{ltb-false}
+use borrow.Author.Tests.{ltb-false, leb-false, eqb-true}
 use Rattle.protocol.specs.Network.{Network}
 use Rattle.script_notation.specs.Fields.{position}
-use Rattle.script_notation.specs.Answers.{Answer, answer}
-use Rattle.console_lines.specs.Lines.{newline, ending, lineMost, used}
+use Rattle.script_notation.specs.Answers.{answer, answers}
+use Rattle.console_lines.specs.Lines.{newline, ending, cut, text, afterLines, told, lineMost, used}
 
 -- the first newline stands at the front of what it starts
 position-there : (b : List ℕ) → position newline (drop (position newline b) b) ≡ 0
@@ -59,7 +59,7 @@ module _ (s : Option Network) (size at : ℕ) where
       go : (t : Bool) → cond t 0 (suc (position newline xs)) < suc (length xs)
           → (position newline xs < length xs → used s size at (line ++ (x ∷ [])) xs ≡ suc (position newline xs) + behind ((line ++ (x ∷ [])) ++ take (position newline xs) xs) (drop (suc (position newline xs)) xs))
           → cond t (cond (leb (at + lineMost) size) (suc (behind line xs)) 0) (suc (used s size at (line ++ (x ∷ [])) xs))
-              ≡ suc (cond t 0 (suc (position newline xs))) + behind (line ++ take (cond t 0 (suc (position newline xs))) (x ∷ xs)) (drop (suc (cond t 0 (suc (position newline xs)))) (x ∷ xs))
+          ≡ suc (cond t 0 (suc (position newline xs))) + behind (line ++ take (cond t 0 (suc (position newline xs))) (x ∷ xs)) (drop (suc (cond t 0 (suc (position newline xs)))) (x ∷ xs))
       go true g e = let f : behind line xs ≡ behind (line ++ []) xs = ap (λ (l : List ℕ). behind l xs) (sym (append-nil line)) in rw r (omega arith)
       go false g e =
           let f : behind ((line ++ (x ∷ [])) ++ take (position newline xs) xs) (drop (suc (position newline xs)) xs) ≡ behind (line ++ (x ∷ take (position newline xs) xs)) (drop (suc (position newline xs)) xs) = ap (λ (l : List ℕ). behind l (drop (suc (position newline xs)) xs)) (append-assoc line (x ∷ []) (take (position newline xs) xs)) in
@@ -110,3 +110,37 @@ used-within s size at line (x ∷ xs) =
     go true true e f = omega arith
     go true false e f = omega arith
     go false u e f = omega arith
+
+-- where not all are used, the next one is a newline, and behind the answers of those before it there is no room for one more
+pub record Full (s : Option Network) (size at : ℕ) (line b : List ℕ) (u : ℕ) : Type 0 where
+  pub newline-there : getD b u 0 ≡ newline
+  pub no-room : size < at + length (told s line (take u b) .bytes) + lineMost
+
+pub used-or-full : (s : Option Network) (size at : ℕ) (line b : List ℕ) → used s size at line b < length b → Full s size at line b (used s size at line b)
+unfolding used told cut answers afterLines text
+used-or-full s size at line [] h = absurd (omega arith)
+used-or-full s size at line (x ∷ xs) h =
+    go (eqb x newline) refl (leb (at + lineMost) size) refl h (used-or-full (answer s line .after) size (at + suc (length (answer s line .bytes))) [] xs) (used-or-full s size at (line ++ (x ∷ [])) xs)
+  where
+    a : List ℕ
+    a = answer s line .bytes
+
+    u : ℕ
+    u = used (answer s line .after) size (at + suc (length (answer s line .bytes))) [] xs
+
+    v : ℕ
+    v = used s size at (line ++ (x ∷ [])) xs
+
+    go : (t : Bool) → eqb x newline ≡ t → (r : Bool) → leb (at + lineMost) size ≡ r → cond t (cond r (suc u) 0) (suc v) < suc (length xs)
+        → (u < length xs → Full (answer s line .after) size (at + suc (length a)) [] xs u) → (v < length xs → Full s size at (line ++ (x ∷ [])) xs v) → Full s size at line (x ∷ xs) (cond t (cond r (suc u) 0) (suc v))
+    go true e true f g i j =
+        let w = i (omega arith) in
+        let bytes = told (answer s line .after) [] (take u xs) .bytes in
+        record {
+          newline-there = w .newline-there;
+          no-room = rw e (omega (arith, w .no-room, length-append a (newline ∷ bytes)));
+        }
+    go true e false f g i j = record { newline-there = eqb-true x newline e; no-room = omega (arith, leb-false (at + lineMost) size f) }
+    go false e r f g i j =
+        let w = j (omega arith) in
+        record { newline-there = w .newline-there; no-room = rw e (w .no-room) }

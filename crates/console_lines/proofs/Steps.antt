@@ -3,7 +3,7 @@ use mathlib.Core.Path.{_≡_, refl, sym, ap, ap₂, subst, _∙_}
 use mathlib.Core.Bool.{Bool, true, false, _&&_}
 use mathlib.Core.List.{List, [], _∷_, _++_, append-assoc, append-nil}
 use mathlib.Core.Option.{Option}
-use Prim.Native.Nat.{ℕ, zero, suc, _+_, _-_, _≤_, _<_, min}
+use Prim.Native.Nat.{ℕ, suc, _+_, _-_, _≤_, _<_, min}
 use native.Mathlib.Omega.{arith}
 use native.Mathlib.Numerals.{add-one}
 use lib.ListN.{length, take, drop, set, take-append-drop, length-append, length-take, length-drop, drop-of-length-le}
@@ -11,7 +11,7 @@ use lib.Seq.{take-all, take-at, take-add, take-append-add, take-suc-set, drop-dr
 use lib.Dec.{ltb, leb}
 use borrow.Author.Tests.{ltb-true, ltb-false, lt-ltb, le-ltb, leb-true, leb-false}
 use Rattle.words.specs.Words.{part, put}
-use Rattle.words.proofs.Parts.{lent-put, part-length}
+use Rattle.words.proofs.Parts.{lent-put}
 use Rattle.lists.proofs.Lists.{take-min}
 use Rattle.lists.proofs.Every.{and-true}
 use Rattle.decimal.specs.Decimal.{Printed}
@@ -20,14 +20,14 @@ use Rattle.protocol.specs.Network.{Network}
 use Rattle.network_layout.specs.InWords.{meaning}
 use Rattle.script_notation.specs.Fields.{position}
 use Rattle.script_notation.specs.Parse.{parse}
-use Rattle.script_notation.specs.Answers.{Answer, replied, answer, Replied}
+use Rattle.script_notation.specs.Answers.{answer, Replied}
 use Rattle.script_notation.proofs.Places.{place-within}
 use Rattle.console_lines.specs.declared.Held.{Held}
 use Rattle.console_lines.specs.declared.Progress.{Progress}
 use Rattle.console_lines.specs.declared.Next.{Next}
-use Rattle.console_lines.specs.Lines.{newline, heldMost, clipped, ending, Told, told, lineMost, used}
+use Rattle.console_lines.specs.Lines.{newline, clipMost, clipped, ending, Told, told, lineMost, used}
 use Rattle.console_lines.specs.Promises.{heldOf, Effect, Holding, Fed, Begun, Walked, Ended}
-use Rattle.console_lines.proofs.Cutting.{andThen, answered, told-append, told-clipped, told-none, told-part, told-line, told-newline}
+use Rattle.console_lines.proofs.Cutting.{andThen, lineTold, told-append, told-clipped, told-none, told-part, told-line, told-newline}
 use Rattle.console_lines.proofs.Feeding.{used-line, used-stops, used-there}
 
 -- ---- bytes laid at a place
@@ -39,9 +39,9 @@ laid-there w from y at n hf hw e =
     let room : length (part w at (at + n - at)) ≤ length (take n from) = omega (arith, length-take (at + n - at) (drop at w)) in
     let all : y ≡ take n from
     = e
-        ∙ ap (λ (z : List ℕ). z ++ drop (length (take n from)) (part w at (at + n - at))) (take-all (length (take n from)) (take n from) (omega arith))
-        ∙ ap (λ (z : List ℕ). take n from ++ z) (drop-of-length-le (part w at (at + n - at)) {i = length (take n from)} room)
-        ∙ append-nil (take n from) in
+    ∙ ap (λ (z : List ℕ). z ++ drop (length (take n from)) (part w at (at + n - at))) (take-all (length (take n from)) (take n from) (omega arith))
+    ∙ ap (λ (z : List ℕ). take n from ++ z) (drop-of-length-le (part w at (at + n - at)) {i = length (take n from)} room)
+    ∙ append-nil (take n from) in
     record {
       end-is = omega arith;
       exit-is = lent-put w at n y ∙ ap (put w at n) all ∙ ap (λ (k : ℕ). put w at k (take n from)) (sym size);
@@ -49,7 +49,7 @@ laid-there w from y at n hf hw e =
 
 -- ---- bytes held
 -- as many as are still held, behind those that are
-pub held-there : (bytes from x : List ℕ) (count at n end : ℕ) → length bytes ≡ heldMost → at ≡ min count heldMost → n ≡ min (heldMost - at) (length from) → Printed bytes x at end (take n from)
+pub held-there : (bytes from x : List ℕ) (count at n end : ℕ) → length bytes ≡ clipMost → at ≡ min count clipMost → n ≡ min (clipMost - at) (length from) → Printed bytes x at end (take n from)
     → Holding (clipped (take count bytes ++ from)) (record { bytes = x; count = end })
 held-there bytes from x count at n end size a b p =
     let front = take at bytes in
@@ -60,10 +60,10 @@ held-there bytes from x count at n end size a b p =
     let taken : take end x ≡ front ++ take n from
     = ap (take end) (p .exit-is ∙ sym (append-assoc front (take n from) rest)) ∙ take-at (front ++ take n from) rest end (omega (arith, p .end-is)) in
     let fronts : front ≡ take count bytes = ap (λ (k : ℕ). take k bytes) (a ∙ ap (min count) (sym size)) ∙ take-min count bytes in
-    let froms : take n from ≡ take (heldMost - at) from = ap (λ (k : ℕ). take k from) b ∙ take-min (heldMost - at) from in
-    let whole : heldMost ≡ length front + (heldMost - at) = omega arith in
+    let froms : take n from ≡ take (clipMost - at) from = ap (λ (k : ℕ). take k from) b ∙ take-min (clipMost - at) from in
+    let whole : clipMost ≡ length front + (clipMost - at) = omega arith in
     let line : front ++ take n from ≡ clipped (take count bytes ++ from)
-    = ap (λ (z : List ℕ). front ++ z) froms ∙ sym (take-append-add front from (heldMost - at)) ∙ ap (λ (k : ℕ). take k (front ++ from)) (sym whole) ∙ ap (λ (z : List ℕ). clipped (z ++ from)) fronts in
+    = ap (λ (z : List ℕ). front ++ z) froms ∙ sym (take-append-add front from (clipMost - at)) ∙ ap (λ (k : ℕ). take k (front ++ from)) (sym whole) ∙ ap (λ (z : List ℕ). clipped (z ++ from)) fronts in
     record { held-is = taken ∙ line; count-is = omega (arith, p .end-is, ap length line) }
 
 -- ---- one effect and then another
@@ -102,10 +102,10 @@ holding-as {h = h} e p = subst (λ (l : List ℕ). Holding l h) e p
 
 -- ---- a line answered
 -- the answer is at the front of the space, and a newline behind it
-pub collected : (text entry exit space₀ space out₀ out : List ℕ) (at n end : ℕ) → n < length space → Replied (parse text) entry exit space₀ space n
+pub collected : (text : List ℕ) {entry exit space₀ space out₀ out : List ℕ} {at n end : ℕ} → n < length space → Replied (parse text) entry exit space₀ space n
     → Printed out₀ out at end (take (n + 1) (set space n newline)) → Effect (told (meaning entry) text (newline ∷ [])) exit out₀ out at end
 unfolding answer
-collected text entry exit space₀ space out₀ out at n end h r p =
+collected text {entry} {exit} {space₀} {space} {out₀} {out} {at} {n} {end} h r p =
     let bytes = answer (meaning entry) text .bytes in
     let size : n ≡ length bytes = omega (arith, r .printed .printed .end-is) in
     let front : take n space ≡ bytes = ap (take n) (r .printed .printed .exit-is) ∙ take-at bytes (drop (length bytes) space₀) n (sym size) in
@@ -114,18 +114,14 @@ collected text entry exit space₀ space out₀ out at n end h r p =
     effect-as (sym (told-newline (meaning entry) text)) (record { printed = printed-as all p; after-is = r .after-is })
 
 -- ---- a block up to its first newline
-module _ (block line entry out₀ : List ℕ) (at end : ℕ) (e : end ≡ 0 + position newline block) where
-  first : end ≡ position newline block
-  first = omega arith
-
-  taken : take end block ≡ take (position newline block) block
-  taken = ap (λ (k : ℕ). take k block) first
-
+module _ {block line entry out₀ : List ℕ} {at end : ℕ} (e : end ≡ 0 + position newline block) where
   -- no newline, or no room
-  pub begun-held : (h : Held) → (ltb end (length block) && leb (at + lineMost) (length out₀)) ≡ false → Holding (clipped (line ++ take end block)) h
+  pub begun-held : {h : Held} → (ltb end (length block) && leb (at + lineMost) (length out₀)) ≡ false → Holding (clipped (line ++ take end block)) h
       → Begun block line entry entry out₀ out₀ at (record { used = end; held = h; filled = at })
-  begun-held h f held =
+  begun-held {h} f held =
       let s = meaning entry in
+      let first : end ≡ position newline block = omega arith in
+      let taken : take end block ≡ take (position newline block) block = ap (λ (k : ℕ). take k block) first in
       let size = length out₀ in
       let test : (ltb (position newline block) (length block) && leb (at + lineMost) size) ≡ false = ap (λ (k : ℕ). ltb k (length block) && leb (at + lineMost) size) (sym first) ∙ f in
       let t : told s line (take end block) ≡ record { bytes = []; after = s; held = clipped (line ++ take end block) }
@@ -141,19 +137,21 @@ module _ (block line entry out₀ : List ℕ) (at end : ℕ) (e : end ≡ 0 + po
       }
 
   -- the line ends and is answered
-  pub begun-answered : (exit out : List ℕ) (filled : ℕ) (held h : Held) → (ltb end (length block) && leb (at + lineMost) (length out₀)) ≡ true → Holding (clipped (line ++ take end block)) held → Holding [] h
+  pub begun-answered : {exit out : List ℕ} {filled : ℕ} {held h : Held} → (ltb end (length block) && leb (at + lineMost) (length out₀)) ≡ true → Holding (clipped (line ++ take end block)) held → Holding [] h
       → Effect (told (meaning entry) (heldOf held) (newline ∷ [])) exit out₀ out at filled → Begun block line entry exit out₀ out at (record { used = end + 1; held = h; filled = filled })
-  begun-answered exit out filled held h f was none p =
+  begun-answered {exit} {out} {filled} {held} {h} f was none p =
       let s = meaning entry in
+      let first : end ≡ position newline block = omega arith in
+      let taken : take end block ≡ take (position newline block) block = ap (λ (k : ℕ). take k block) first in
       let size = length out₀ in
       let tests = and-true (ltb end (length block)) (leb (at + lineMost) size) f in
       let short : position newline block < length block = omega (arith, ltb-true end (length block) (tests .0)) in
       let whole = line ++ take (position newline block) block in
       let next : end + 1 ≡ suc (position newline block) = omega arith in
-      let told-whole : told s (heldOf held) (newline ∷ []) ≡ answered (answer s whole)
+      let told-whole : told s (heldOf held) (newline ∷ []) ≡ lineTold (answer s whole)
       = ap (λ (z : List ℕ). told s z (newline ∷ [])) (was .held-is ∙ ap (λ (z : List ℕ). clipped (line ++ z)) taken) ∙ told-clipped s whole (newline ∷ []) ∙ told-newline s whole in
-      let t : told s line (take (end + 1) block) ≡ answered (answer s whole) = ap (λ (k : ℕ). told s line (take k block)) next ∙ told-line s line block short in
-      let q : Effect (answered (answer s whole)) exit out₀ out at filled = effect-as told-whole p in
+      let t : told s line (take (end + 1) block) ≡ lineTold (answer s whole) = ap (λ (k : ℕ). told s line (take k block)) next ∙ told-line s line block short in
+      let q : Effect (lineTold (answer s whole)) exit out₀ out at filled = effect-as told-whole p in
       let there : filled ≡ at + suc (length (answer s whole .bytes)) = omega (arith, q .printed .end-is, length-append (answer s whole .bytes) (newline ∷ [])) in
       let behind : used (meaning exit) size filled [] (drop (end + 1) block) ≡ used (answer s whole .after) size (at + suc (length (answer s whole .bytes))) [] (drop (suc (position newline block)) block)
       = (λ i. used (q .after-is i) size (there i) [] (drop (next i) block)) in
@@ -174,7 +172,7 @@ shifted-test k p end m n e f = go (ltb p m) refl
     go true g = lt-ltb end n (omega (arith, ltb-true p m g)) ∙ sym g
     go false g = le-ltb end n (omega (arith, ltb-false p m g)) ∙ sym g
 
-module _ (block entry out₀ : List ℕ) (at : ℕ) where
+module _ {block entry out₀ : List ℕ} {at : ℕ} where
   pub walked-none : Walked block entry entry out₀ out₀ at 0 at
   walked-none =
       let s = meaning entry in
@@ -185,7 +183,7 @@ module _ (block entry out₀ : List ℕ) (at : ℕ) where
         goes = omega arith;
       }
 
-  module _ (mid x : List ℕ) (from filled end : ℕ) (w : Walked block entry mid out₀ x at from filled) (e : end ≡ from + position newline (drop from block)) (same : length x ≡ length out₀) where
+  module _ {mid x : List ℕ} {from filled end : ℕ} (w : Walked block entry mid out₀ x at from filled) (e : end ≡ from + position newline (drop from block)) (same : length x ≡ length out₀) where
     -- the code's test is the definition's, of what is left
     tests : (ltb end (length block) && leb (filled + lineMost) (length x)) ≡ (ltb (position newline (drop from block)) (length (drop from block)) && leb (filled + lineMost) (length out₀))
     tests =
@@ -201,9 +199,9 @@ module _ (block entry out₀ : List ℕ) (at : ℕ) where
           used-is = omega (arith, w .goes, used-stops (meaning mid) (length out₀) filled [] (drop from block) (sym tests ∙ f));
         }
 
-    pub walked-next : (exit y : List ℕ) (end′ : ℕ) → (ltb end (length block) && leb (filled + lineMost) (length x)) ≡ true
+    pub walked-next : {exit y : List ℕ} {end′ : ℕ} → (ltb end (length block) && leb (filled + lineMost) (length x)) ≡ true
         → Effect (told (meaning mid) (take (end - from) (drop from block)) (newline ∷ [])) exit x y filled end′ → Walked block entry exit out₀ y at (end + 1) end′
-    walked-next exit y end′ f q =
+    walked-next {exit} {y} {end′} f q =
         let s = meaning entry in
         let m = meaning mid in
         let b = drop from block in
@@ -214,15 +212,15 @@ module _ (block entry out₀ : List ℕ) (at : ℕ) where
         let line = take p b in
         let next : end + 1 ≡ from + suc p = omega arith in
         let t = told s [] (take from block) in
-        let told-one : told m (take (end - from) b) (newline ∷ []) ≡ answered (answer m line)
+        let told-one : told m (take (end - from) b) (newline ∷ []) ≡ lineTold (answer m line)
         = ap (λ (k : ℕ). told m (take k b) (newline ∷ [])) (let k : end - from ≡ p = omega arith in k) ∙ told-newline m line in
-        let one : Effect (answered (answer m line)) exit x y filled end′ = effect-as told-one q in
-        let told-all : told s [] (take (end + 1) block) ≡ andThen t (answered (answer m line))
+        let one : Effect (lineTold (answer m line)) exit x y filled end′ = effect-as told-one q in
+        let told-all : told s [] (take (end + 1) block) ≡ andThen t (lineTold (answer m line))
         = ap (λ (k : ℕ). told s [] (take k block)) next
-            ∙ ap (told s []) (take-add from (suc p) block)
-            ∙ told-append s [] (take from block) (take (suc p) b)
-            ∙ ap₂ (λ (o : Option Network) (h : List ℕ). andThen t (told o h (take (suc p) b))) (sym (w .effect .after-is)) (w .whole)
-            ∙ ap (andThen t) (told-line m [] b short) in
+        ∙ ap (told s []) (take-add from (suc p) block)
+        ∙ told-append s [] (take from block) (take (suc p) b)
+        ∙ ap₂ (λ (o : Option Network) (h : List ℕ). andThen t (told o h (take (suc p) b))) (sym (w .effect .after-is)) (w .whole)
+        ∙ ap (andThen t) (told-line m [] b short) in
         let there : end′ ≡ filled + suc (length (answer m line .bytes)) = omega (arith, one .printed .end-is, length-append (answer m line .bytes) (newline ∷ [])) in
         let rests : drop (end + 1) block ≡ drop (suc p) b = ap (λ (k : ℕ). drop k block) next ∙ sym (drop-drop (suc p) from block) in
         let behind : used (meaning exit) size end′ [] (drop (end + 1) block) ≡ used (answer m line .after) size (filled + suc (length (answer m line .bytes))) [] (drop (suc p) b)
@@ -243,22 +241,22 @@ pub part-from : (u : ℕ) (b : List ℕ) → partFrom u b ≡ drop u b
 part-from u b = take-all (length b - u) (drop u b) (omega (arith, length-drop u b))
 
 -- the next line ends within the block, or with it
-pub end-within : (block mid exit x y : List ℕ) (u filled : ℕ) (n : Next) → u ≤ length block → Ended (partFrom u block) mid exit x y filled n → u + n .end ≤ length block
-end-within block mid exit x y u filled n h w =
+pub end-within : (block : List ℕ) (u : ℕ) {mid exit x y : List ℕ} {filled : ℕ} {n : Next} → u ≤ length block → Ended (partFrom u block) mid exit x y filled n → u + n .end ≤ length block
+end-within block u {n = n} h w =
     let b = partFrom u block in
     omega (arith, w .end-is, w .walked .within, place-within newline (drop (n .from) b), length-drop (n .from) b, ap length (part-from u block), length-drop u block)
 
-module _ (block line entry out₀ : List ℕ) (at : ℕ) where
+module _ {block line entry out₀ : List ℕ} {at : ℕ} where
   -- it ends at the line that is held
-  pub fed-held : (exit out : List ℕ) (r : Progress) → Begun block line entry exit out₀ out at r → 0 < r .held .count → Fed block line entry exit out₀ out at r
-  fed-held exit out r b h = record { used-is = b .stops h; effect = b .effect; holding = b .holding }
+  pub fed-held : {exit out : List ℕ} {r : Progress} → Begun block line entry exit out₀ out at r → 0 < r .held .count → Fed block line entry exit out₀ out at r
+  fed-held b h = record { used-is = b .stops h; effect = b .effect; holding = b .holding }
 
   -- it goes on with lines of the block
-  pub fed-lines : (mid x exit y : List ℕ) (r : Progress) (n : Next) (h none : Held) → Begun block line entry mid out₀ x at r → r .held .count ≤ 0 → length x ≡ length out₀
-      → Ended (partFrom (r .used) block) mid exit x y (r .filled) n → length y ≡ length x → Holding [] none
+  pub fed-lines : {mid x exit y : List ℕ} {r : Progress} {n : Next} {h none : Held} → Begun block line entry mid out₀ x at r → r .held .count ≤ 0 → length x ≡ length out₀
+      → Ended (partFrom (r .used) block) mid exit x y (r .filled) n → Holding [] none
       → Holding (clipped (heldOf none ++ take (r .used + n .end - (r .used + n .from)) (drop (r .used + n .from) block))) h
       → Fed block line entry exit out₀ y at (record { used = r .used + n .end; held = h; filled = n .filled })
-  fed-lines mid x exit y r n h none b z same w′ same′ free held =
+  fed-lines {mid} {x} {exit} {y} {r} {n} {h} {none} b z same w′ free held =
       let w = subst (λ (l : List ℕ). Ended l mid exit x y (r .filled) n) (part-from (r .used) block) w′ in
       let s = meaning entry in
       let m = meaning mid in
@@ -272,14 +270,14 @@ module _ (block line entry out₀ : List ℕ) (at : ℕ) where
       let parts : take (n .end) rest ≡ take (n .from) rest ++ take p left = ap (λ (k : ℕ). take k rest) (w .end-is) ∙ take-add (n .from) p rest in
       let told-rest : told m [] (take (n .end) rest) ≡ andThen v (record { bytes = []; after = meaning exit; held = clipped (take p left) })
       = ap (told m []) parts
-          ∙ told-append m [] (take (n .from) rest) (take p left)
-          ∙ ap₂ (λ (o : Option Network) (l : List ℕ). andThen v (told o l (take p left))) (sym (w .walked .effect .after-is)) (w .walked .whole)
-          ∙ ap (andThen v) (told-part (meaning exit) [] left) in
+      ∙ told-append m [] (take (n .from) rest) (take p left)
+      ∙ ap₂ (λ (o : Option Network) (l : List ℕ). andThen v (told o l (take p left))) (sym (w .walked .effect .after-is)) (w .walked .whole)
+      ∙ ap (andThen v) (told-part (meaning exit) [] left) in
       let told-all : told s line (take (u + n .end) block) ≡ andThen t (andThen v (record { bytes = []; after = meaning exit; held = clipped (take p left) }))
       = ap (told s line) (take-add u (n .end) block)
-          ∙ told-append s line (take u block) (take (n .end) rest)
-          ∙ ap₂ (λ (o : Option Network) (l : List ℕ). andThen t (told o l (take (n .end) rest))) (sym (b .effect .after-is)) empty
-          ∙ ap (andThen t) told-rest in
+      ∙ told-append s line (take u block) (take (n .end) rest)
+      ∙ ap₂ (λ (o : Option Network) (l : List ℕ). andThen t (told o l (take (n .end) rest))) (sym (b .effect .after-is)) empty
+      ∙ ap (andThen t) told-rest in
       let bytes-all : t .bytes ++ v .bytes ≡ t .bytes ++ (v .bytes ++ []) = ap (λ (l : List ℕ). t .bytes ++ l) (sym (append-nil (v .bytes))) in
       let two = effect-then same (b .effect) (w .walked .effect) in
       let all : Effect (andThen t (andThen v (record { bytes = []; after = meaning exit; held = clipped (take p left) }))) exit out₀ y at (n .filled)
@@ -295,9 +293,9 @@ module _ (block line entry out₀ : List ℕ) (at : ℕ) where
       }
 
 -- ---- the end of a script
-pub fed-nothing : (entry out : List ℕ) (at : ℕ) (h : Held) → Holding [] h → Fed [] [] entry entry out out at (record { used = 0; held = h; filled = at })
+pub fed-nothing : {entry out : List ℕ} {at : ℕ} {h : Held} → Holding [] h → Fed [] [] entry entry out out at (record { used = 0; held = h; filled = at })
 unfolding used
-fed-nothing entry out at h free =
+fed-nothing {entry} {out} {at} {h} free =
     let t = told-none (meaning entry) [] in
     record {
       used-is = refl;

@@ -48,12 +48,12 @@ afterLines s (l ∷ ls) = afterLines (answer s l .after) ls
 
 -- ---- one block of bytes after another
 -- one byte more than a line has: that a line is too long is told by so many of its bytes
-abbrev pub heldMost : ℕ
-heldMost = suc longest
+abbrev pub clipMost : ℕ
+clipMost = suc longest
 
 -- the bytes held of a line that has not ended
 abbrev pub clipped : List ℕ → List ℕ
-clipped line = take heldMost line
+clipped line = take clipMost line
 
 -- what bytes lead to behind those held of a line: the text of the answers, the state after them, and what is held then
 pub record Told : Type 0 where

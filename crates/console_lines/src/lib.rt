@@ -9,10 +9,10 @@ ghost use lib.ListN.{length, take};
 ghost use lib.Dec.{ltb, leb};
 ghost use Rattle.decimal.specs.Decimal.{Printed};
 ghost use Rattle.network_layout.specs.InWords.{meaning};
-ghost use Rattle.console_lines.specs.Lines.{newline, heldMost, lineMost, clipped, ending, told};
+ghost use Rattle.console_lines.specs.Lines.{newline, clipMost, lineMost, clipped, ending, told};
 ghost use Rattle.console_lines.specs.Promises.{heldOf, Effect, Holding, Fed, Begun, Ended};
 
-// The bytes of a line that has not ended: the first `count` are held, and of a line that is too long only so many as tell it.
+// The first bytes of a line that has not ended, `count` of them: all 513 where `count` is more. That a line is too long is told by 513.
 pub struct Held {
     pub bytes: [u8; 513],
     pub count: usize,
@@ -42,8 +42,8 @@ pub fn nothing() -> Held
     }
 }
 
-// The bytes of a block, behind what is held: the lines that end are answered, from place `at` of the buffer on. It stops before a newline where fewer than
-// 294 bytes are left for the answer.
+// The bytes of a block behind what is held: the lines that end are answered, from place `at` of the buffer on. It stops before a newline where fewer than
+// 294 bytes are left for the answer, so at the first one where the buffer is too small or the place is behind its end.
 pub fn feed(
     block: &[u8],
     held: Held,
@@ -69,7 +69,7 @@ pub fn feed(
     }
 }
 
-// The end of a script: the last line is answered where it lacks its newline.
+// The end of a script: the last line is answered where it lacks its newline, which is fed to it.
 pub fn finish(held: Held, state: &mut [u32; WORDS], out: &mut [u8], at: usize) -> Progress
     ensures { λ r. ⌜ Fed (ending (heldOf held)) (heldOf held) (now (state .entry)) (now (state .exit)) (now (out .entry)) (now (out .exit)) at r ⌝ }
 {
@@ -83,14 +83,8 @@ pub fn finish(held: Held, state: &mut [u32; WORDS], out: &mut [u8], at: usize) -
     feed(b"\n", held, state, out, at)
 }
 
-// Up to the first newline, and past it where there is room for an answer.
-fn begin(
-    block: &[u8],
-    held: Held,
-    state: &mut [u32; WORDS],
-    out: &mut [u8],
-    at: usize,
-) -> Progress
+// Up to the first newline, and past it where there is room for an answer. The line is taken out of what is held.
+fn begin(block: &[u8], held: Held, state: &mut [u32; WORDS], out: &mut [u8], at: usize) -> Progress
     ensures { λ r. ⌜ Begun (now (block .entry)) (heldOf held) (now (state .entry)) (now (state .exit)) (now (out .entry)) (now (out .exit)) at r ⌝ }
 {
     let end = script_parsing::find(block, 0, 10);
@@ -141,7 +135,7 @@ fn goes_on(end: usize, size: usize, at: usize, room: usize) -> bool
 
 // The line that is held is answered.
 fn answer(held: Held, state: &mut [u32; WORDS], out: &mut [u8], at: usize) -> usize
-    requires { ⌜ (held .count ≤ heldMost) × (at + lineMost ≤ length (now out)) ⌝ }
+    requires { ⌜ (held .count ≤ clipMost) × (at + lineMost ≤ length (now out)) ⌝ }
     ensures { λ r. ⌜ Effect (told (meaning (now (state .entry))) (heldOf held) (newline ∷ [])) (now (state .exit)) (now (out .entry)) (now (out .exit)) at r ⌝ }
 {
     let mut space = [0u8; ANSWER];

@@ -1,45 +1,35 @@
+-- `append` copies into the part from a place on.
 use mathlib.Core.Path.{sym}
 use native.Mathlib.Omega.{arith}
-use lib.ListN.{length-take, length-drop, take, drop}
+use lib.ListN.{length-take, length-drop, drop}
 use lib.Seq.{length-take-le}
 use Rattle.console_lines.proofs.Steps.{laid-there}
 use Prim.Native.Nat.{_+_, _-_}
 use borrow.Author.Needs.{needs}
 use Rattle.console_lines.proofs.append.Statement.{statement}
 use Rattle.console_lines.proofs.append.Tie as tie
-use Rattle.console_lines.proofs.append.Reads as reads
-use Rattle.console_lines.proofs.append.Lts as lts
-use Rattle.bytes.proofs.copy.Reads as copy-reads
 
--- src/lib.rt:174:15
 add-end : tie.Need-add-end
 add-end c = search needs
 
--- src/lib.rt:175:17
 slice-aggregate-copy : tie.Need-slice-aggregate-copy
 slice-aggregate-copy c = let S = c .before .before .before in sym (length-take-le (S .args .n) (S .args .from .now) (S .pre .0))
 
--- src/lib.rt:175:29
 sub-copy : tie.Need-sub-copy
 sub-copy c = search needs
 
--- src/lib.rt:175:29
 part-copy-start : tie.Need-part-copy-start
 part-copy-start c = search needs
 
--- src/lib.rt:175:29
 part-copy-end : tie.Need-part-copy-end
 part-copy-end c = search needs
 
--- src/lib.rt:175:5
 copy-requires : tie.Need-copy-requires
 copy-requires c κs = let S = c .before .before .before .before in omega (arith, S .pre, length-take (S .args .n) (S .args .from .now), length-take (S .args .at + S .args .n - S .args .at) (drop (S .args .at) (S .args .out .now)), length-drop (S .args .at) (S .args .out .now))
 
--- src/lib.rt:170:1
 same-length : tie.Need-same-length
 same-length c = search needs
 
--- src/lib.rt:170:1
 returns : tie.Need-returns
 returns c =
     let S = c .before .before .before .before .before .before .before in

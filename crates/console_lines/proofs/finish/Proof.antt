@@ -1,48 +1,39 @@
-use mathlib.Core.Path.{_≡_, sym, ap, subst}
+-- `finish` feeds a newline where something is held.
+use mathlib.Core.Path.{_≡_, sym, subst}
 use mathlib.Core.List.{List}
 use Prim.Native.Nat.{ℕ, _<_}
 use native.Mathlib.Omega.{arith}
 use lib.ListN.{length, take, length-map, length-take}
-use Rattle.console_lines.specs.Lines.{heldMost, ending}
+use Rattle.console_lines.specs.Lines.{clipMost, ending}
 use Rattle.console_lines.specs.Promises.{heldOf, Fed}
 use Rattle.console_lines.proofs.Steps.{fed-nothing, ending-held}
 use borrow.Author.Needs.{needs}
 use Rattle.console_lines.proofs.finish.Statement.{statement}
 use Rattle.console_lines.proofs.finish.Tie as tie
-use Rattle.console_lines.proofs.finish.Reads as reads
-use Rattle.console_lines.proofs.finish.Lts as lts
-use Rattle.console_lines.proofs.feed.Reads as feed-reads
-use Rattle.console_lines.proofs.nothing.Reads as nothing-reads
 
--- src/lib.rt:79:19
 nothing-requires : tie.Need-nothing-requires
 nothing-requires c κs = search needs
 
--- src/lib.rt:77:9
 returns : tie.Need-returns
 returns c =
     let A = c .before .before .before .before .args in
-    subst (λ (k : ℕ). Fed (ending (take k (A .held .bytes))) (take k (A .held .bytes)) (A .state .now) (A .state .now) (A .out .now) (A .out .now) (A .at) (record { used = 0; held = c .nothing .result; filled = A .at })) (sym (c .before .if1 .taken)) (fed-nothing (A .state .now) (A .out .now) (A .at) (c .nothing .result) (c .nothing .ensures))
+    subst (λ (k : ℕ). Fed (ending (take k (A .held .bytes))) (take k (A .held .bytes)) (A .state .now) (A .state .now) (A .out .now) (A .out .now) (A .at) (record { used = 0; held = c .nothing .result; filled = A .at })) (sym (c .before .if1 .taken)) (fed-nothing (c .nothing .ensures))
 
--- src/lib.rt:83:10
 slice-aggregate-feed : tie.Need-slice-aggregate-feed
 slice-aggregate-feed c = search needs
 
--- src/lib.rt:83:5
 feed-requires : tie.Need-feed-requires
 feed-requires c κs = search needs
 
--- src/lib.rt:73:1
 same-length : tie.Need-same-length
 same-length c = search needs
 
--- src/lib.rt:73:1
 returns-2 : tie.Need-returns-2
 returns-2 c =
     let S = c .before .before .before .before .before .before .before .before .before in
     let A = S .args in
     let q = c .before .before .feed in
-    let full : length (A .held .bytes) ≡ heldMost = simp length-map at (S .good .0 .1 .1 .0 .1 .0 .1) in
+    let full : length (A .held .bytes) ≡ clipMost = simp length-map at (S .good .0 .1 .1 .0 .1 .0 .1) in
     let some : 0 < length (heldOf (A .held)) = omega (arith, length-take (A .held .count) (A .held .bytes), c .before .before .before .before .before .before .if1 .left) in
     subst (λ (b : List ℕ). Fed b (heldOf (A .held)) (A .state .now) (q .last .1 .1 .0) (A .out .now) (q .last .1 .1 .1 .0) (A .at) (q .result)) (ending-held (heldOf (A .held)) some) (q .ensures)
 

@@ -1,25 +1,18 @@
-use mathlib.Core.Path.{_≡_, refl, sym, _∙_}
-use mathlib.Core.Bool.{Bool, true, false, _&&_}
+-- `goes_on` asks for a newline and for room, which it does without a sum that could wrap.
 use native.Mathlib.Omega.{arith}
 use borrow.Author.Tests.{le-ltb, lt-ltb, lt-leb}
 use Prim.Native.Nat.{_+_}
-use lib.Dec.{ltb}
 use Rattle.decimal.proofs.Printing.{room-test}
 use Rattle.console_lines.specs.Lines.{lineMost}
 use Rattle.console_lines.proofs.goes_on.Statement.{statement}
 use Rattle.console_lines.proofs.goes_on.Tie as tie
-use Rattle.console_lines.proofs.goes_on.Reads as reads
-use Rattle.console_lines.proofs.goes_on.Lts as lts
 
--- src/lib.rt:134:9
 returns : tie.Need-returns
 returns c = let A = c .before .args in rw (le-ltb (A .end) (A .size) (c .if1 .taken))
 
--- src/lib.rt:137:9
 returns-2 : tie.Need-returns-2
 returns-2 c = let A = c .before .before .args in rw (lt-ltb (A .end) (A .size) (omega arith), lt-leb (A .at + lineMost) (A .room) (omega arith))
 
--- src/lib.rt:130:1
 returns-3 : tie.Need-returns-3
 returns-3 c = let A = c .before .before .args in rw (lt-ltb (A .end) (A .size) (omega arith)) (room-test (A .at) lineMost (A .room) (omega arith))
 
