@@ -4,7 +4,7 @@
     model.py run            answers the script on standard input
     model.py script SEED N  writes a random script of N lines over 8 sites and 64 items
 
-crates/script_long/stdin is the script of seed 1 with 4000 lines.
+crates/script_cases/data/long is the script of seed 1 with 4000 lines.
 """
 import random
 import sys

@@ -31,7 +31,8 @@ import files
 import model
 
 CRATES = pathlib.Path(__file__).resolve().parent.parent / "crates"
-SCRIPTS = ["gevrolen", "script_cases", "script_long", "script_empty"]
+PROGRAMS = ["gevrolen", "script_cases", "cases"]
+SCRIPTS = ["cases", "long", "empty"]  # the files of crates/script_cases/data, in the order played
 ROOM = 65536
 
 
@@ -148,8 +149,11 @@ def cases(data):
 
 
 def expected(crate):
+    if crate == "script_cases":
+        played = [(name, (CRATES / crate / "data" / name).read_bytes()) for name in SCRIPTS]
+        return "".join("# %s\n%s" % (name, script(data)) for name, data in played)
     data = (CRATES / crate / "stdin").read_bytes()
-    if crate in SCRIPTS:
+    if crate == "gevrolen":
         return script(data)
     # the program reads no more than its buffer holds
     assert len(data) <= ROOM, "crates/%s/stdin is longer than %d bytes" % (crate, ROOM)
@@ -173,7 +177,7 @@ def main():
     if len(sys.argv) > 1:
         sys.stdout.write(expected(sys.argv[1]))
         return 0
-    said = [text for text in map(differs, SCRIPTS + ["cases"]) if text]
+    said = [text for text in map(differs, PROGRAMS) if text]
     for text in said:
         print(text)
     return 1 if said else 0
