@@ -7,7 +7,7 @@ use native.Mathlib.Omega.{arith}
 use lib.ListN.{length, getD, set, take, drop, length-map, length-take, length-set, length-drop, List·getD-map, List·getD-eq-default}
 use lib.Seq.{getD-set-same, getD-set-other, drop-set-lt, take-suc-set, take-append-le, getD-take}
 use lib.Dec.{ltb, leb}
-use borrow.Author.Tests.{lt-ltb, le-ltb, le-leb, leb-true, ltb-true, ltb-false}
+use borrow.Author.Tests.{lt-ltb, le-ltb, le-leb, lt-leb, leb-true, ltb-true, ltb-false}
 use Rattle.words.specs.Words.{part, put, chunks, shifted, overlaid, Stepped}
 use Rattle.lists.specs.Lists.{every}
 use Rattle.words.proofs.Parts.{part-length, part-part, part-getD, put-length, put-here, put-in, put-getD-below, lent-put, lent-size}
@@ -21,7 +21,7 @@ use Rattle.timestamp.specs.InWords.{stampIn, stampSize, stampRange, stampWords}
 use Rattle.timestamp.proofs.Words.{words-back, words-length}
 use Rattle.lines.specs.Lines.{Message, commit, dummy, nameOf, Line, sent, delivered, taken, sentOrSame, deliveredOrSame, takenOrSame}
 use Rattle.limits.specs.Limits.{heldMost, recordsMost}
-use Rattle.lines.specs.InWords.{messageSize, messageIn, messageRange, boxesAt, boxesSize, lineSize, boxesIn, lineFrom, lineIn, lineRange, First}
+use Rattle.lines.specs.InWords.{messageSize, messageIn, messageRange, boxesAt, boxesSize, lineSize, boxesIn, lineFrom, lineIn, lineRange, lineCounted, First}
 
 -- ---- how many there are
 pub boxes-length : (w : List ℕ) → length (boxesIn w) ≡ min (getD w 0 0) heldMost
@@ -30,6 +30,16 @@ boxes-length w = length-take (getD w 0 0) (chunks messageSize heldMost (part w b
 pub messages-length : (w : List ℕ) → length (lineIn w .messages) ≡ min (getD w 0 0) heldMost
 unfolding lineIn
 messages-length w = length-map (boxesIn w) messageIn ∙ boxes-length w
+
+-- what it says of itself
+module _ (w : List ℕ) (n : ℕ) (is : n ≡ getD w 0 0) where
+  pub counted-many : heldMost < n → false ≡ lineCounted w
+  unfolding lineCounted
+  counted-many h = sym (rw (← is, lt-leb n heldMost h))
+
+  pub counted-by : n ≤ heldMost → (a : ℕ) → a ≡ getD w 1 0 → leb a n ≡ lineCounted w
+  unfolding lineCounted
+  counted-by h a at = sym (rw (← is, ← at, le-leb n heldMost h))
 
 -- ---- another count at the front, other messages behind it
 module _ (w : List ℕ) (size : length w ≡ lineSize) where

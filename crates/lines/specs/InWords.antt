@@ -52,6 +52,10 @@ lineIn w = lineFrom (getD w 1 0) (boxesIn w)
 unfoldable pub lineRange : List ℕ → Bool
 lineRange w = leb (getD w 0 0) heldMost && every messageRange (boxesIn w)
 
+-- it says at most 16 messages, and no more of them arrived
+unfoldable pub lineCounted : List ℕ → Bool
+lineCounted w = leb (getD w 0 0) heldMost && leb (getD w 1 0) (getD w 0 0)
+
 -- the oldest message of a line; the commit of number 0 where there is none, or the words are no line
 pub record First (w : List ℕ) (m : Message) : Type 0 where
   pub sized : length w ≡ lineSize → m ≡ getD (lineIn w .messages) 0 (commit 0)

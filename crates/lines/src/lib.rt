@@ -13,7 +13,7 @@ ghost use lib.ListN.{length, getD};
 ghost use Rattle.words.specs.Words.{Stepped};
 ghost use Rattle.lines.specs.Lines.{commit, nameOf, sentOrSame, deliveredOrSame, takenOrSame};
 ghost use Rattle.limits.specs.Limits.{heldMost, recordsMost};
-ghost use Rattle.lines.specs.InWords.{messageIn, messageRange, messageOf, messageSize, lineIn, lineRange, lineSize, First};
+ghost use Rattle.lines.specs.InWords.{messageIn, messageRange, messageOf, messageSize, lineIn, lineRange, lineSize, lineCounted, First};
 
 // A message: the number of the record that it names, or 256 and more for a dummy, which has its own timestamp.
 pub struct Message {
@@ -22,9 +22,9 @@ pub struct Message {
 }
 
 // Where a message has its name and its timestamp, and its size.
-const NAME: usize = 0;
+pub const NAME: usize = 0;
 
-const STAMP: usize = NAME + 1;
+pub const STAMP: usize = NAME + 1;
 
 pub const MESSAGE: usize = STAMP + timestamp::WORDS;
 
@@ -51,6 +51,17 @@ pub fn arrived(l: &[u32]) -> usize
     ensures { λ r. ⌜ r ≡ lineIn (now (l .entry)) .arrived ⌝ }
 {
     words::wide(words::word(l, ARRIVED))
+}
+
+// Whether the line says at most 16 messages, and no more of them arrived.
+pub fn counted(l: &[u32]) -> bool
+    ensures { λ r. ⌜ r ≡ lineCounted (now (l .entry)) ⌝ }
+{
+    let n = words::word(l, HELD);
+    if MESSAGES < n {
+        return false;
+    }
+    words::word(l, ARRIVED) <= n
 }
 
 // The oldest message; the name 0 where there is none, or the slice is no line.

@@ -1,6 +1,6 @@
 -- The test for shape: what each part of it says of the network.
 use mathlib.Core.Path.{_≡_, refl, sym, ap, ap₂, _∙_}
-use mathlib.Core.Bool.{Bool, true, false, _&&_, and-false, and-comm}
+use mathlib.Core.Bool.{Bool, true, false, _&&_, _||_, and-false, and-comm}
 use mathlib.Core.List.{List, [], _∷_, map}
 use Prim.Native.Nat.{ℕ, zero, suc, _+_, _-_, _*_, _/_, _%_, _≤_, _<_, min}
 use native.Mathlib.Omega.{arith}
@@ -8,16 +8,15 @@ use native.Mathlib.Numerals.{add-one}
 use native.Mathlib.Nat.{not-suc-le-zero}
 use lib.ListN.{length, getD, take, drop, drop-of-length-le, length-map, List·getD-map}
 use lib.Seq.{drop-cons}
-use lib.Dec.{ltb, leb, eqb}
-use borrow.Author.Tests.{lt-ltb, le-ltb, le-leb, lt-leb, leb-true, eq-eqb, ne-eqb}
+use lib.Dec.{leb, eqb}
+use borrow.Author.Tests.{lt-ltb, le-ltb, le-leb, lt-leb, leb-true, leb-false, eq-eqb, ne-eqb}
 use Rattle.words.specs.Words.{part, chunks}
 use Rattle.lists.specs.Lists.{every, everyFrom, isEmpty}
-use Rattle.words.proofs.Parts.{part-length, part-getD, lent-part}
 use Rattle.words.proofs.Chunks.{chunks-length, chunks-at}
 use Rattle.lists.proofs.Every.{and-true}
-use Rattle.timestamp.specs.Timestamp.{Stamp, room}
+use Rattle.timestamp.specs.Timestamp.{Stamp}
 use Rattle.timestamp.specs.Order.{byNumber}
-use Rattle.timestamp.specs.InWords.{stampSize}
+use Rattle.timestamp.specs.InWords.{stampSize, stampRange}
 use Rattle.timestamp.specs.Made.{madeBy, stampShaped}
 use Rattle.site.specs.Site.{Site}
 use Rattle.site.specs.InWords.{siteIn, siteRange, siteSize}
@@ -25,26 +24,15 @@ use Rattle.site.proofs.Laws.{stamp-law}
 use Rattle.placement.specs.Placement.{Item, itemsNumber, isLine}
 use Rattle.placement.specs.InWords.{itemSize, itemIn, itemsIn}
 use Rattle.limits.specs.Limits.{itemsMost, sitesMost, heldMost, recordsMost}
-use Rattle.lines.specs.InWords.{messageIn, messageRange, messageSize, boxesSize, lineIn, lineRange}
+use Rattle.lines.specs.InWords.{messageIn, messageRange, messageSize, boxesAt, boxesSize, boxesIn, lineIn, lineRange, lineCounted}
+use Rattle.lines.proofs.Boxes.{messages-length}
 use Rattle.records.specs.Records.{Record, recordFits}
 use Rattle.records.specs.InWords.{recordIn, recordRange, recordSize}
-use Rattle.network_layout.specs.Layout.{itemsAt, itemsSize, sitesAt, sitesSize, historyAt, historySize}
+use Rattle.network_layout.specs.Layout.{siteCount, itemCount, recordCount, itemsAt, itemsSize, sitesAt, sitesSize, historyAt, historySize, stateSize}
 use Rattle.protocol.specs.Network.{noRecord, placeOf, messageFits, lineFits, wellShaped}
 use Rattle.network_layout.specs.InWords.{siteWords, lineWords, recordWords, networkIn, inRange, shaped}
 use Rattle.network_layout.proofs.Assembled.{no-record}
-
--- ---- what is tested of a record, a message, a line
-abbrev pub historyIn : List ℕ → ℕ → List Record
-historyIn kept made = map recordIn (chunks recordSize made kept)
-
-abbrev pub recordTest : ℕ → ℕ → List ℕ → Bool
-recordTest sites items x = recordRange x && recordFits byNumber sites items (recordIn x)
-
-abbrev pub messageTest : List Record → ℕ → List ℕ → Bool
-messageTest h p x = messageRange x && messageFits byNumber h p (messageIn x)
-
-abbrev pub lineTest : List Item → List Record → ℕ → List ℕ → Bool
-lineTest xs h k x = lineRange x && lineFits xs h k (lineIn x)
+use Rattle.network_shape.specs.Tested.{countsFit, recordTest, commitTest, messageTest, lineTest, placedIn, historyIn, groupShaped, historyShaped, linesShaped, Counted}
 
 -- ---- a test of each element
 pub every-from : {A : Type 0} (p : A → Bool) (i : ℕ) (l : List A) → everyFrom (λ _ x. p x) i l ≡ every p l
@@ -76,12 +64,12 @@ module _ (q : ℕ → List ℕ → Bool) (m n : ℕ) (w : List ℕ) (i : ℕ) (e
   pub walk-done : n ≤ i → true ≡ everyFrom q 0 (chunks m n w)
   walk-done h = sym (e ∙ ap (everyFrom q i) (drop-of-length-le (chunks m n w) {i = i} (omega (arith, chunks-length m n w))))
 
-  module _ (h : i < n) (k : ℕ) (same : k ≡ i) (r : Bool) (is : r ≡ q k (part w (i * m) (i * m + m - i * m))) where
+  module _ (h : i < n) (r : Bool) (is : r ≡ q i (part w (i * m) m)) where
     walk-step : everyFrom q 0 (chunks m n w) ≡ (r && everyFrom q (i + 1) (drop (i + 1) (chunks m n w)))
     walk-step =
         e
         ∙ ap (everyFrom q i) (drop-cons (chunks m n w) i [] (omega (arith, chunks-length m n w)))
-        ∙ ap₂ (λ (b : Bool) (j : ℕ). b && everyFrom q j (drop j (chunks m n w))) (ap₂ q (sym same) (chunks-at m n w i h ∙ sym (lent-part w (i * m) m)) ∙ sym is) (sym (add-one i))
+        ∙ ap₂ (λ (b : Bool) (j : ℕ). b && everyFrom q j (drop j (chunks m n w))) (ap (q i) (chunks-at m n w i h) ∙ sym is) (sym (add-one i))
 
     pub walk-false : r ≡ false → false ≡ everyFrom q 0 (chunks m n w)
     walk-false f = sym (walk-step ∙ ap (λ (b : Bool). b && everyFrom q (i + 1) (drop (i + 1) (chunks m n w))) f)
@@ -89,46 +77,31 @@ module _ (q : ℕ → List ℕ → Bool) (m n : ℕ) (w : List ℕ) (i : ℕ) (e
     pub walk-next : r ≡ true → Passed q m n w (i + 1)
     walk-next t = walk-step ∙ ap (λ (b : Bool). b && everyFrom q (i + 1) (drop (i + 1) (chunks m n w))) t
 
--- the size of a chunk lent to a call
-pub lent-chunk : (w : List ℕ) (a m : ℕ) → a + m ≤ length w → length (part w a (a + m - a)) ≡ m
-lent-chunk w a m h = ap length (lent-part w a m) ∙ part-length w a m h
-
 -- a record's test asks for its size too, and a chunk has it
-module _ (w : List ℕ) (k sites items : ℕ) (inside : k * recordSize + recordSize ≤ length w) where
-  abbrev kept-at : List ℕ
-  kept-at = part w (k * recordSize) (k * recordSize + recordSize - k * recordSize)
-
-  pub record-sized : (r : Bool) → r ≡ (eqb (length kept-at) recordSize && recordTest sites items kept-at) → r ≡ recordTest sites items kept-at
-  record-sized r e = e ∙ ap (λ (b : Bool). b && recordTest sites items kept-at) (eq-eqb (length kept-at) recordSize (lent-chunk w (k * recordSize) recordSize inside))
+pub record-sized : (sites items : ℕ) (x : List ℕ) → length x ≡ recordSize → (r : Bool) → r ≡ (eqb (length x) recordSize && recordTest sites items x) → r ≡ recordTest sites items x
+record-sized sites items x size r e = e ∙ ap (λ (b : Bool). b && recordTest sites items x) (eq-eqb (length x) recordSize size)
 
 -- ---- one message: a dummy of site p, or the name of a commit that p made
 history-length : (kept : List ℕ) (made : ℕ) → length (historyIn kept made) ≡ made
 history-length kept made = length-map (chunks recordSize made kept) recordIn ∙ chunks-length recordSize made kept
 
-history-site : (kept : List ℕ) (made k : ℕ) → k < made → getD (historyIn kept made) k noRecord .site ≡ getD kept (k * recordSize) 0
-unfolding recordIn
-history-site kept made k h =
-    let z : k * recordSize + 0 ≡ k * recordSize = omega arith in
-    ap (λ (r : Record). getD (historyIn kept made) k r .site) no-record
-    ∙ ap (λ (r : Record). r .site) (List·getD-map recordIn (chunks recordSize made kept) k [] ∙ ap recordIn (chunks-at recordSize made kept k h))
-    ∙ part-getD kept (k * recordSize) recordSize 0 (omega arith)
-    ∙ ap (λ (j : ℕ). getD kept j 0) z
+module _ (kept : List ℕ) (made p k : ℕ) where
+  pub commit-unmade : made ≤ k → false ≡ commitTest (historyIn kept made) p k
+  commit-unmade h = sym (rw (history-length kept made, le-ltb k made h))
 
-module _ (w : List ℕ) (p : ℕ) (kept : List ℕ) (made name : ℕ) (is : name ≡ getD w 0 0) where
-  pub message-dummy : recordsMost ≤ name → (r : Bool) → r ≡ stampShaped p (part w 1 stampSize) → r ≡ messageTest (historyIn kept made) p w
+  pub commit-by : k < made → (site : ℕ) → site ≡ recordIn (part kept (k * recordSize) recordSize) .site → eqb site p ≡ commitTest (historyIn kept made) p k
+  commit-by h site e =
+      let there : getD (historyIn kept made) k noRecord ≡ recordIn (part kept (k * recordSize) recordSize)
+      = ap (getD (historyIn kept made) k) no-record ∙ List·getD-map recordIn (chunks recordSize made kept) k [] ∙ ap recordIn (chunks-at recordSize made kept k h) in
+      ap (λ (x : ℕ). eqb x p) (e ∙ sym (ap (λ (r : Record). r .site) there)) ∙ sym (rw (history-length kept made, lt-ltb k made h))
+
+module _ (w : List ℕ) (p : ℕ) (h : List Record) (name : ℕ) (is : name ≡ getD w 0 0) where
+  pub message-dummy : recordsMost ≤ name → (r : Bool) → r ≡ stampShaped p (part w 1 stampSize) → r ≡ messageTest h p w
   unfolding stampShaped
-  message-dummy h r e = e ∙ sym (rw (← is, le-ltb name recordsMost h, part-getD w 1 stampSize 1 (omega arith)))
+  message-dummy g r e = e ∙ sym (rw (← is, le-ltb name recordsMost g))
 
-  module _ (named : name < recordsMost) where
-    message-named : messageTest (historyIn kept made) p w ≡ (ltb name made && eqb (getD (historyIn kept made) name noRecord .site) p)
-    message-named = rw (← is, lt-ltb name recordsMost named, history-length kept made)
-
-    pub message-unmade : made ≤ name → false ≡ messageTest (historyIn kept made) p w
-    message-unmade h = sym (message-named ∙ rw (le-ltb name made h))
-
-    pub message-by-site : name < made → (k : ℕ) → k ≡ name → (site : ℕ) → site ≡ getD kept (k * recordSize) 0 → eqb site p ≡ messageTest (historyIn kept made) p w
-    message-by-site h k same site e =
-        sym (message-named ∙ rw (lt-ltb name made h, history-site kept made name h) (ap (λ (x : ℕ). eqb x p) (ap (λ (j : ℕ). getD kept (j * recordSize) 0) (sym same) ∙ sym e)))
+  pub message-named : name < recordsMost → (r : Bool) → r ≡ commitTest h p name → r ≡ messageTest h p w
+  message-named g r e = e ∙ sym (rw (← is, lt-ltb name recordsMost g))
 
 -- ---- one line
 chunks-take : (m n k : ℕ) (w : List ℕ) → n ≤ k → take n (chunks m k w) ≡ chunks m n w
@@ -141,72 +114,85 @@ some-held : {A : Type 0} (l : List A) → 0 < length l → isEmpty l ≡ false
 some-held [] h = absurd (omega arith)
 some-held (x ∷ xs) h = refl
 
-none-arrived : (n : ℕ) → (leb n 0 && true) ≡ eqb n 0
-none-arrived zero = refl
-none-arrived (suc n) = rw (lt-leb (suc n) 0 (omega arith), ne-eqb (suc n) 0 (λ z. omega arith))
+pub placed-all : (items : ℕ) → items ≤ itemsMost → (placed : List ℕ) (p c : ℕ) (r : Bool) → r ≡ isLine (itemsIn (min items itemsMost) placed) p c → isLine (itemsIn items placed) p c ≡ r
+placed-all items few placed p c r e = let all : items ≡ min items itemsMost = omega arith in ap (λ (m : ℕ). isLine (itemsIn m placed) p c) all ∙ sym e
 
-module _ (l : List ℕ) (k items : ℕ) (few-items : items ≤ itemsMost) (placed : List ℕ) (h : List Record) (n : ℕ) (is : n ≡ getD l 0 0) (arrived : ℕ) (at : arrived ≡ getD l 1 0) where
-  abbrev line-test : Bool
-  line-test = lineTest (itemsIn items placed) h k l
+module _ (xs : List Item) (h : List Record) (k : ℕ) (l : List ℕ) where
+  held-few : lineCounted l ≡ true → (getD l 0 0 ≤ heldMost) × (getD l 1 0 ≤ getD l 0 0)
+  unfolding lineCounted
+  held-few e = let q = and-true (leb (getD l 0 0) heldMost) (leb (getD l 1 0) (getD l 0 0)) e in (leb-true (getD l 0 0) heldMost (q .0), leb-true (getD l 1 0) (getD l 0 0) (q .1))
 
-  pub line-none : n ≡ 0 → eqb arrived 0 ≡ line-test
-  unfolding lineRange lineFits lineIn
-  line-none z = sym (rw (← is, ← at, z) (none-arrived arrived))
+  -- how many it holds, where it says no more than there is room for
+  pub counted-held : lineCounted l ≡ true → (n : ℕ) → n ≡ length (lineIn l .messages) → n ≡ getD l 0 0
+  counted-held e n is = omega (arith, messages-length l, held-few e .0)
 
-  pub line-many : heldMost < n → false ≡ line-test
-  unfolding lineRange
-  line-many b = sym (rw (← is, lt-leb n heldMost b))
+  ahead : length (lineIn l .messages) < getD l 1 0 → false ≡ lineTest xs h k l
+  unfolding lineFits lineIn
+  ahead b = sym (rw (lt-leb (getD l 1 0) (length (map messageIn (boxesIn l))) b) (and-false (lineRange l)))
 
-  module _ (some : n ≡ 0 → ⊥) (few : n ≤ heldMost) where
+  pub line-uncounted : lineCounted l ≡ false → false ≡ lineTest xs h k l
+  unfolding lineCounted lineRange
+  line-uncounted e = go (leb (getD l 0 0) heldMost) refl
+    where
+      go : (b : Bool) → leb (getD l 0 0) heldMost ≡ b → false ≡ lineTest xs h k l
+      go true t =
+          let f : leb (getD l 1 0) (getD l 0 0) ≡ false = rw t at e in
+          ahead (omega (arith, messages-length l, leb-true (getD l 0 0) heldMost t, leb-false (getD l 1 0) (getD l 0 0) f))
+      go false f = sym (rw f)
+
+  module _ (fine : lineCounted l ≡ true) (n : ℕ) (is : n ≡ length (lineIn l .messages)) where
     abbrev boxes : List (List ℕ)
-    boxes = chunks messageSize n (part l 2 boxesSize)
+    boxes = chunks messageSize n (part l boxesAt boxesSize)
 
     held : length (map messageIn boxes) ≡ n
-    held = length-map boxes messageIn ∙ chunks-length messageSize n (part l 2 boxesSize)
+    held = length-map boxes messageIn ∙ chunks-length messageSize n (part l boxesAt boxesSize)
 
-    line-held : line-test ≡ (leb arrived n && (isLine (itemsIn items placed) (k / sitesMost) (k % sitesMost) && every (messageTest h (k / sitesMost)) boxes))
+    line-is : lineTest xs h k l ≡ ((isEmpty (map messageIn boxes) || isLine xs (k / sitesMost) (k % sitesMost)) && every (messageTest h (k / sitesMost)) boxes)
     unfolding lineRange placeOf lineFits lineIn
-    line-held =
+    line-is =
+        let same : n ≡ getD l 0 0 = counted-held fine n is in
+        let few : n ≤ heldMost = omega (arith, held-few fine .0) in
+        let arrived : getD l 1 0 ≤ n = omega (arith, held-few fine .1) in
         let fits = messageFits byNumber h (k / sitesMost) in
-        let x = every messageRange boxes in
-        let y = isLine (itemsIn items placed) (k / sitesMost) (k % sitesMost) in
-        let z = every fits (map messageIn boxes) in
         rw (
-          ← is,
-          ← at,
+          ← same,
           le-leb n heldMost few,
-          chunks-take messageSize n heldMost (part l 2 boxesSize) few,
+          chunks-take messageSize n heldMost (part l boxesAt boxesSize) few,
           held,
-          some-held (map messageIn boxes) (omega (arith, held)),
+          le-leb (getD l 1 0) n arrived,
           every-both messageRange messageIn fits boxes,
         )
-        (and-swap x (leb arrived n) (y && z) ∙ ap (λ (b : Bool). leb arrived n && b) (and-swap x y z))
+        (and-swap (every messageRange boxes) (isEmpty (map messageIn boxes) || isLine xs (k / sitesMost) (k % sitesMost)) (every fits (map messageIn boxes)))
 
-    pub line-ahead : n < arrived → false ≡ line-test
-    line-ahead b = sym (line-held ∙ rw (lt-leb arrived n b))
+    pub line-none : n ≡ 0 → true ≡ lineTest xs h k l
+    unfolding chunks
+    line-none z =
+        let none : boxes ≡ [] = ap (λ (m : ℕ). chunks messageSize m (part l boxesAt boxesSize)) z in
+        sym (line-is ∙ rw none)
 
-    module _ (in-time : arrived ≤ n) (r : Bool) (e : r ≡ isLine (itemsIn (min items itemsMost) placed) (k / sitesMost) (k % sitesMost)) where
-      line-by : line-test ≡ (r && every (messageTest h (k / sitesMost)) boxes)
-      line-by =
-          let all : items ≡ min items itemsMost = omega arith in
-          line-held
-          ∙ rw (le-leb arrived n in-time)
-          (ap (λ (b : Bool). b && every (messageTest h (k / sitesMost)) boxes) (ap (λ (m : ℕ). isLine (itemsIn m placed) (k / sitesMost) (k % sitesMost)) all ∙ sym e))
+    module _ (some : n ≡ 0 → ⊥) where
+      line-by : lineTest xs h k l ≡ (isLine xs (k / sitesMost) (k % sitesMost) && every (messageTest h (k / sitesMost)) boxes)
+      line-by = line-is ∙ rw (some-held (map messageIn boxes) (omega (arith, held, some)))
 
-      pub line-unplaced : r ≡ false → false ≡ line-test
+      pub line-unplaced : isLine xs (k / sitesMost) (k % sitesMost) ≡ false → false ≡ lineTest xs h k l
       line-unplaced f = sym (line-by ∙ ap (λ (b : Bool). b && every (messageTest h (k / sitesMost)) boxes) f)
 
-      pub line-by-messages : r ≡ true → (t : Bool) → t ≡ every (messageTest h (k / sitesMost)) boxes → t ≡ line-test
+      pub line-by-messages : isLine xs (k / sitesMost) (k % sitesMost) ≡ true → (t : Bool) → t ≡ every (messageTest h (k / sitesMost)) boxes → t ≡ lineTest xs h k l
       line-by-messages f t g = sym (line-by ∙ ap (λ (b : Bool). b && every (messageTest h (k / sitesMost)) boxes) f ∙ sym g)
 
 -- ---- the whole
 -- ranges first, as the definition has them; thing by thing, as the code tests them
+and-assoc : (a b c : Bool) → (a && (b && c)) ≡ ((a && b) && c)
+and-assoc true b c = refl
+and-assoc false b c = refl
+
 and-whole : (a b c d e s l r p s′ r′ l′ : Bool) → ((a && (b && (c && (d && (e && (s && (l && r))))))) && (p && (s′ && (r′ && l′))))
-    ≡ ((a && (b && (c && (d && e)))) && (p && ((s && s′) && ((r && r′) && (l && l′)))))
+    ≡ (((a && (b && (c && (d && e)))) && (p && (s && s′))) && ((r && r′) && (l && l′)))
 and-whole true true true true true s l r p s′ r′ l′ =
     and-swap (s && (l && r)) p (s′ && (r′ && l′))
     ∙ ap (λ (x : Bool). p && x)
     (and-pairs s (l && r) s′ (r′ && l′) ∙ ap (λ (x : Bool). (s && s′) && x) (ap (λ (x : Bool). x && (r′ && l′)) (and-comm l r) ∙ and-pairs r l r′ l′))
+    ∙ and-assoc p (s && s′) ((r && r′) && (l && l′))
 and-whole true true true true false s l r p s′ r′ l′ = refl
 and-whole true true true false e s l r p s′ r′ l′ = refl
 and-whole true true false d e s l r p s′ r′ l′ = refl
@@ -215,81 +201,97 @@ and-whole false b c d e s l r p s′ r′ l′ = refl
 
 site-test : (i : ℕ) (x : List ℕ) → stampShaped i x ≡ (siteRange x && madeBy byNumber i (siteIn x .stamp))
 unfolding stampShaped siteRange
-site-test i x = ap (λ (s : Stamp). leb (getD x 1 0) room && madeBy byNumber i s) (stamp-law x)
+site-test i x = ap (λ (s : Stamp). stampRange x && madeBy byNumber i s) (stamp-law x)
 
 module _ (w : List ℕ) where
-  abbrev placed : List Item
-  placed = itemsIn (getD w 1 0) (part w itemsAt itemsSize)
-
   abbrev history : List Record
-  history = historyIn (part w historyAt historySize) (getD w 2 0)
+  history = historyIn (part w historyAt historySize) (recordCount w)
 
   abbrev counts : Bool
-  counts = leb 1 (getD w 0 0) && (leb (getD w 0 0) sitesMost && (leb 1 (getD w 1 0) && (leb (getD w 1 0) itemsMost && leb (getD w 2 0) recordsMost)))
+  counts = countsFit (siteCount w) (itemCount w) (recordCount w)
 
-  shape-is : shaped w ≡ (counts && (eqb (itemsNumber (getD w 0 0) placed) 0 && (everyFrom stampShaped 0 (siteWords w) && (every (recordTest (getD w 0 0) (getD w 1 0)) (recordWords w) && everyFrom (lineTest placed history) 0 (lineWords w)))))
-  unfolding shaped inRange placeOf wellShaped networkIn
+  shape-is : shaped w ≡ (groupShaped w && (historyShaped w && linesShaped w))
+  unfolding shaped inRange placeOf wellShaped networkIn groupShaped historyShaped linesShaped
   shape-is =
       rw (
-        length-map (siteWords w) siteIn ∙ chunks-length siteSize (getD w 0 0) (part w sitesAt sitesSize),
-        length-map (chunks itemSize (getD w 1 0) (part w itemsAt itemsSize)) itemIn ∙ chunks-length itemSize (getD w 1 0) (part w itemsAt itemsSize),
+        length-map (siteWords w) siteIn ∙ chunks-length siteSize (siteCount w) (part w sitesAt sitesSize),
+        length-map (chunks itemSize (itemCount w) (part w itemsAt itemsSize)) itemIn ∙ chunks-length itemSize (itemCount w) (part w itemsAt itemsSize),
         from-both siteRange siteIn (λ (i : ℕ) (s : Site). madeBy byNumber i (s .stamp)) stampShaped site-test 0 (siteWords w),
-        every-both recordRange recordIn (recordFits byNumber (getD w 0 0) (getD w 1 0)) (recordWords w),
-        from-both lineRange lineIn (lineFits placed history) (lineTest placed history) (λ _ _. refl) 0 (lineWords w),
+        every-both recordRange recordIn (recordFits byNumber (siteCount w) (itemCount w)) (recordWords w),
+        from-both lineRange lineIn (lineFits (placedIn w) history) (lineTest (placedIn w) history) (λ _ _. refl) 0 (lineWords w),
       )
       (and-whole
-      (leb 1 (getD w 0 0))
-      (leb (getD w 0 0) sitesMost)
-      (leb 1 (getD w 1 0))
-      (leb (getD w 1 0) itemsMost)
-      (leb (getD w 2 0) recordsMost)
+      (leb 1 (siteCount w))
+      (leb (siteCount w) sitesMost)
+      (leb 1 (itemCount w))
+      (leb (itemCount w) itemsMost)
+      (leb (recordCount w) recordsMost)
       (every siteRange (siteWords w))
       (every lineRange (lineWords w))
       (every recordRange (recordWords w))
-      (eqb (itemsNumber (getD w 0 0) placed) 0)
+      (eqb (itemsNumber (siteCount w) (placedIn w)) 0)
       (everyFrom (λ (i : ℕ) (s : Site). madeBy byNumber i (s .stamp)) 0 (map siteIn (siteWords w)))
-      (every (recordFits byNumber (getD w 0 0) (getD w 1 0)) history)
-      (everyFrom (lineFits placed history) 0 (map lineIn (lineWords w))))
+      (every (recordFits byNumber (siteCount w) (itemCount w)) history)
+      (everyFrom (lineFits (placedIn w) history) 0 (map lineIn (lineWords w))))
 
-  module _ (fit : Bool) (fit-is : fit ≡ counts) where
-    pub shape-uncounted : fit ≡ false → false ≡ shaped w
-    shape-uncounted f = sym (shape-is ∙ rw (sym fit-is ∙ f))
+  all-counted : length w ≡ stateSize → counts ≡ true → Counted w
+  all-counted size e =
+      let a = and-true (leb 1 (siteCount w)) _ e in
+      let b = and-true (leb (siteCount w) sitesMost) _ (a .1) in
+      let c = and-true (leb 1 (itemCount w)) _ (b .1) in
+      let d = and-true (leb (itemCount w) itemsMost) (leb (recordCount w) recordsMost) (c .1) in
+      record {
+        sized = size;
+        few-sites = leb-true (siteCount w) sitesMost (b .0);
+        few-items = leb-true (itemCount w) itemsMost (d .0);
+        few-records = leb-true (recordCount w) recordsMost (d .1);
+      }
 
-    module _ (counted : fit ≡ true) where
-      all-counted : counts ≡ true
-      all-counted = sym fit-is ∙ counted
+  pub shape-no-group : groupShaped w ≡ false → false ≡ shaped w
+  shape-no-group f = sym (shape-is ∙ ap (λ (b : Bool). b && (historyShaped w && linesShaped w)) f)
 
-      pub few : (getD w 0 0 ≤ sitesMost) × (getD w 1 0 ≤ itemsMost) × (getD w 2 0 ≤ recordsMost)
-      few =
-          let a = and-true (leb 1 (getD w 0 0)) _ all-counted in
-          let b = and-true (leb (getD w 0 0) sitesMost) _ (a .1) in
-          let c = and-true (leb 1 (getD w 1 0)) _ (b .1) in
-          let d = and-true (leb (getD w 1 0) itemsMost) (leb (getD w 2 0) recordsMost) (c .1) in
-          (leb-true (getD w 0 0) sitesMost (b .0), leb-true (getD w 1 0) itemsMost (d .0), leb-true (getD w 2 0) recordsMost (d .1))
+  module _ (group : groupShaped w ≡ true) where
+    by-group : shaped w ≡ (historyShaped w && linesShaped w)
+    by-group = shape-is ∙ ap (λ (b : Bool). b && (historyShaped w && linesShaped w)) group
 
-      module _ (items : ℕ) (items-are : items ≡ getD w 1 0) (number : ℕ) (number-is : number ≡ itemsNumber (getD w 0 0) (itemsIn (min items itemsMost) (part w itemsAt itemsSize))) where
-        by-number : shaped w
-            ≡ (eqb number 0 && (everyFrom stampShaped 0 (siteWords w) && (every (recordTest (getD w 0 0) (getD w 1 0)) (recordWords w) && everyFrom (lineTest placed history) 0 (lineWords w))))
+    pub shape-no-history : historyShaped w ≡ false → false ≡ shaped w
+    shape-no-history f = sym (by-group ∙ ap (λ (b : Bool). b && linesShaped w) f)
+
+    pub shape-by-lines : historyShaped w ≡ true → linesShaped w ≡ shaped w
+    shape-by-lines t = sym (by-group ∙ ap (λ (b : Bool). b && linesShaped w) t)
+
+    pub counted : length w ≡ stateSize → Counted w
+    unfolding groupShaped
+    counted size = all-counted size (and-true counts _ group .0)
+
+  -- ---- the counts, the placement and the sites
+  module _ (size : length w ≡ stateSize) (fit : Bool) (fit-is : fit ≡ counts) where
+    pub group-uncounted : fit ≡ false → false ≡ groupShaped w
+    unfolding groupShaped
+    group-uncounted f = sym (rw (sym fit-is ∙ f))
+
+    module _ (all : fit ≡ true) where
+      pub few-counts : Counted w
+      few-counts = all-counted size (sym fit-is ∙ all)
+
+      module _ (items : ℕ) (items-are : items ≡ itemCount w) (number : ℕ) (number-is : number ≡ itemsNumber (siteCount w) (itemsIn (min items itemsMost) (part w itemsAt itemsSize))) where
+        by-number : groupShaped w ≡ (eqb number 0 && everyFrom stampShaped 0 (siteWords w))
+        unfolding groupShaped
         by-number =
-            let all : getD w 1 0 ≡ min items itemsMost = omega (arith, few .1) in
-            shape-is ∙ rw (all-counted, ap (λ (m : ℕ). itemsNumber (getD w 0 0) (itemsIn m (part w itemsAt itemsSize))) all ∙ sym number-is)
+            let m : itemCount w ≡ min items itemsMost = omega (arith, few-counts .few-items) in
+            rw (sym fit-is ∙ all, ap (λ (k : ℕ). itemsNumber (siteCount w) (itemsIn k (part w itemsAt itemsSize))) m ∙ sym number-is)
 
-        pub shape-refused : (number ≡ 0 → ⊥) → false ≡ shaped w
-        shape-refused h = sym (by-number ∙ rw (ne-eqb number 0 h))
+        pub group-refused : (number ≡ 0 → ⊥) → false ≡ groupShaped w
+        group-refused h = sym (by-number ∙ rw (ne-eqb number 0 h))
 
-        module _ (right : number ≡ 0) (sites : ℕ) (sites-are : sites ≡ getD w 0 0) (own : Bool) (own-is : own ≡ everyFrom stampShaped 0 (chunks siteSize sites (part w sitesAt sitesSize))) where
-          by-sites : shaped w ≡ (own && (every (recordTest (getD w 0 0) (getD w 1 0)) (recordWords w) && everyFrom (lineTest placed history) 0 (lineWords w)))
-          by-sites = by-number ∙ rw (eq-eqb number 0 right, ← sites-are, ← own-is)
+        pub group-by-sites : number ≡ 0 → everyFrom stampShaped 0 (siteWords w) ≡ groupShaped w
+        group-by-sites z = sym (by-number ∙ rw (eq-eqb number 0 z))
 
-          pub shape-not-own : own ≡ false → false ≡ shaped w
-          shape-not-own f = sym (by-sites ∙ rw f)
+  -- ---- the history and the lines, as they are asked for
+  pub history-asked : (made : ℕ) → made ≡ recordCount w → every (recordTest (siteCount w) (itemCount w)) (chunks recordSize made (part w historyAt historySize)) ≡ historyShaped w
+  unfolding historyShaped
+  history-asked made is = ap (λ (n : ℕ). every (recordTest (siteCount w) (itemCount w)) (chunks recordSize n (part w historyAt historySize))) is
 
-          module _ (owned : own ≡ true) (made : ℕ) (made-is : made ≡ getD w 2 0) (good : Bool) (good-is : good ≡ every (recordTest (getD w 0 0) (getD w 1 0)) (chunks recordSize made (part w historyAt historySize))) where
-            by-records : shaped w ≡ (good && everyFrom (lineTest placed history) 0 (lineWords w))
-            by-records = by-sites ∙ rw (owned, good-is, made-is)
-
-            pub shape-bad-record : good ≡ false → false ≡ shaped w
-            shape-bad-record f = sym (by-records ∙ rw f)
-
-            pub shape-by-lines : good ≡ true → (fits : Bool) → fits ≡ everyFrom (lineTest (itemsIn items (part w itemsAt itemsSize)) history) 0 (lineWords w) → fits ≡ shaped w
-            shape-by-lines t fits e = e ∙ sym (by-records ∙ rw (t, items-are))
+  pub lines-asked : (items : ℕ) → items ≡ itemCount w → everyFrom (lineTest (itemsIn items (part w itemsAt itemsSize)) history) 0 (lineWords w) ≡ linesShaped w
+  unfolding linesShaped
+  lines-asked items is = ap (λ (n : ℕ). everyFrom (lineTest (itemsIn n (part w itemsAt itemsSize)) history) 0 (lineWords w)) is

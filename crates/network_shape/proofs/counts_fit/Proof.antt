@@ -2,6 +2,7 @@
 use mathlib.Core.Path.{sym}
 use native.Mathlib.Omega.{arith}
 use borrow.Author.Tests.{le-leb, lt-leb}
+use Rattle.limits.specs.Limits.{sitesMost, itemsMost}
 use Rattle.network_shape.proofs.counts_fit.Statement.{statement}
 use Rattle.network_shape.proofs.counts_fit.Tie as tie
 
@@ -9,19 +10,24 @@ returns : tie.Need-returns
 returns c = let A = c .before .args in sym (rw (lt-leb 1 (A .sites) (omega arith)))
 
 returns-2 : tie.Need-returns-2
-returns-2 c = let A = c .before .before .args in sym (rw (le-leb 1 (A .sites) (omega arith), lt-leb (A .sites) 8 (omega arith)))
+returns-2 c =
+    let A = c .before .before .args in
+    sym (rw (le-leb 1 (A .sites) (omega arith), lt-leb (A .sites) sitesMost (omega arith)))
 
 returns-3 : tie.Need-returns-3
 returns-3 c =
-    let A = c .before .before .before .args in sym (rw (le-leb 1 (A .sites) (omega arith), le-leb (A .sites) 8 (omega arith), lt-leb 1 (A .items) (omega arith)))
+    let A = c .before .before .before .args in
+    sym (rw (le-leb 1 (A .sites) (omega arith), le-leb (A .sites) sitesMost (omega arith), lt-leb 1 (A .items) (omega arith)))
 
 returns-4 : tie.Need-returns-4
 returns-4 c =
-    let A = c .before .before .before .before .args in sym (rw (le-leb 1 (A .sites) (omega arith), le-leb (A .sites) 8 (omega arith), le-leb 1 (A .items) (omega arith), lt-leb (A .items) 64 (omega arith)))
+    let A = c .before .before .before .before .args in
+    sym (rw (le-leb 1 (A .sites) (omega arith), le-leb (A .sites) sitesMost (omega arith), le-leb 1 (A .items) (omega arith), lt-leb (A .items) itemsMost (omega arith)))
 
 returns-5 : tie.Need-returns-5
 returns-5 c =
-    let A = c .before .before .before .before .args in sym (rw (le-leb 1 (A .sites) (omega arith), le-leb (A .sites) 8 (omega arith), le-leb 1 (A .items) (omega arith), le-leb (A .items) 64 (omega arith)))
+    let A = c .before .before .before .before .args in
+    sym (rw (le-leb 1 (A .sites) (omega arith), le-leb (A .sites) sitesMost (omega arith), le-leb 1 (A .items) (omega arith), le-leb (A .items) itemsMost (omega arith)))
 
 pub counts-fit-spec : {M : Type 1} → statement M
 counts-fit-spec = tie.close (tie.spec returns returns-2 returns-3 returns-4 returns-5)

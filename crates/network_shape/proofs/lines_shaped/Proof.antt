@@ -1,13 +1,17 @@
 -- `lines_shaped` leaves at the first line that does not fit.
-use mathlib.Core.Path.{refl}
-use Prim.Native.Nat.{_≤_, _-_, _*_}
+use mathlib.Core.Path.{_≡_, refl, ap, _∙_}
+use Prim.Native.Nat.{_*_, _≤_, _-_}
 use native.Mathlib.Omega.{arith}
+use borrow.Author.Needs.{needs}
 use borrow.Author.Tests.{not-true, not-false}
+use Rattle.words.specs.Words.{part}
+use lib.ListN.{length}
+use Rattle.words.proofs.Parts.{part-length}
 use Rattle.placement.specs.InWords.{itemsIn}
 use Rattle.lines.specs.InWords.{lineSize}
 use Rattle.protocol.specs.Network.{linesMost}
-use Rattle.network_shape.proofs.ShapeLaws.{historyIn, lineTest, Passed, walk-false, walk-next, walk-done, lent-chunk}
-use borrow.Author.Needs.{needs}
+use Rattle.network_shape.specs.Tested.{historyIn, lineTest}
+use Rattle.network_shape.proofs.ShapeLaws.{Passed, walk-false, walk-next, walk-done}
 use Rattle.network_shape.proofs.lines_shaped.Statement.{statement}
 use Rattle.network_shape.proofs.lines_shaped.Tie as tie
 
@@ -17,39 +21,34 @@ Inv-loop w placed items kept made k₀ k = (k ≤ linesMost) × Passed (lineTest
 abbrev μ-loop : tie.MeasureT-loop
 μ-loop w placed items kept made k₀ k = linesMost - k
 
+-- what a turn asks
+asked : (c : tie.After-line-shaped Inv-loop μ-loop) → let h = c .before .before .before in let A = h .before .before .before .before .args in c .line-shaped .result ≡ lineTest (itemsIn (A .items) (A .placed .now)) (historyIn (A .kept .now) (A .made)) (h .loop .k) (part (A .w .now) (h .loop .k * lineSize) lineSize)
+asked c =
+    let h = c .before .before .before in
+    let A = h .before .before .before .before .args in
+    c .line-shaped .ensures ∙ ap (lineTest (itemsIn (A .items) (A .placed .now)) (historyIn (A .kept .now) (A .made)) (h .loop .k)) (c .before .chunk .ensures)
+
 loop-holds : tie.Need-loop-holds Inv-loop μ-loop
 loop-holds c = (omega arith, refl)
 
-mul-a : tie.Need-mul-a Inv-loop μ-loop
-mul-a c = search needs
-
-add-e : tie.Need-add-e Inv-loop μ-loop
-add-e c = search needs
-
-mul-line-shaped : tie.Need-mul-line-shaped Inv-loop μ-loop
-mul-line-shaped c = search needs
-
-sub-line-shaped : tie.Need-sub-line-shaped Inv-loop μ-loop
-sub-line-shaped c = search needs
-
-part-line-shaped-start : tie.Need-part-line-shaped-start Inv-loop μ-loop
-part-line-shaped-start c = search needs
-
-part-line-shaped-end : tie.Need-part-line-shaped-end Inv-loop μ-loop
-part-line-shaped-end c = search needs
+chunk-requires : tie.Need-chunk-requires Inv-loop μ-loop
+chunk-requires c κs = search needs
 
 line-shaped-requires : tie.Need-line-shaped-requires Inv-loop μ-loop
 line-shaped-requires c κs =
-    let A = c .before .before .before .before .before .before .args in
-    let P = c .before .before .before .before .before .before .pre in
-    (lent-chunk (A .w .now) (c .before .before .loop .k * lineSize) lineSize (omega arith), c .before .loop-test .taken, P .1, P .2, P .3)
+    let turn = c .before in
+    let s = turn .before .before .before .before .before in
+    let w = s .args .w .now in
+    let at = turn .before .loop .k * lineSize in
+    let size : length (part w at lineSize) ≡ lineSize = part-length w at lineSize (omega (arith, turn .loop-test .taken, s .pre .sized)) in
+    record { sized = ap length (c .chunk .ensures) ∙ size; few = turn .loop-test .taken; few-items = s .pre .few-items; history = s .pre .history }
 
 returns : tie.Need-returns Inv-loop μ-loop
 returns c =
-    let A = c .before .before .before .before .before .before .before .before .args in
-    let L = c .before .before .before .before .loop in
-    let t = lineTest (itemsIn (A .items) (A .placed .now)) (historyIn (A .kept .now) (A .made)) in
-    walk-false t lineSize linesMost (A .w .now) (L .k) (L .inv .1) (c .before .before .before .loop-test .taken) (L .k) refl (c .before .line-shaped .result) (c .before .line-shaped .ensures) (not-true _ (c .if1 .taken))
+    let turn = c .before .before .before in
+    let A = turn .before .before .before .before .before .args in
+    let l = turn .before .loop in
+    walk-false (lineTest (itemsIn (A .items) (A .placed .now)) (historyIn (A .kept .now) (A .made))) lineSize (linesMost) (A .w .now) (l .k) (l .inv .1) (turn .loop-test .taken) (c .before .line-shaped .result) (asked (c .before)) (not-true _ (c .if1 .taken))
 
 add-k : tie.Need-add-k Inv-loop μ-loop
 add-k c = search needs
@@ -59,16 +58,16 @@ loop-less c = search needs
 
 loop-again : tie.Need-loop-again Inv-loop μ-loop
 loop-again c =
-    let A = c .before .before .before .before .before .before .before .before .args in
-    let L = c .before .before .before .before .loop in
-    let t = lineTest (itemsIn (A .items) (A .placed .now)) (historyIn (A .kept .now) (A .made)) in
-    (omega arith, walk-next t lineSize linesMost (A .w .now) (L .k) (L .inv .1) (c .before .before .before .loop-test .taken) (L .k) refl (c .before .line-shaped .result) (c .before .line-shaped .ensures) (not-false _ (c .if1 .left)))
+    let turn = c .before .before .before in
+    let A = turn .before .before .before .before .before .args in
+    let l = turn .before .loop in
+    (omega arith, walk-next (lineTest (itemsIn (A .items) (A .placed .now)) (historyIn (A .kept .now) (A .made))) lineSize (linesMost) (A .w .now) (l .k) (l .inv .1) (turn .loop-test .taken) (c .before .line-shaped .result) (asked (c .before)) (not-false _ (c .if1 .left)))
 
 returns-2 : tie.Need-returns-2 Inv-loop μ-loop
 returns-2 c =
     let A = c .before .before .before .before .before .args in
-    let t = lineTest (itemsIn (A .items) (A .placed .now)) (historyIn (A .kept .now) (A .made)) in
-    walk-done t lineSize linesMost (A .w .now) (c .before .loop .k) (c .before .loop .inv .1) (c .loop-test .left)
+    let l = c .before .loop in
+    walk-done (lineTest (itemsIn (A .items) (A .placed .now)) (historyIn (A .kept .now) (A .made))) lineSize (linesMost) (A .w .now) (l .k) (l .inv .1) (c .loop-test .left)
 
 pub lines-shaped-spec : {M : Type 1} → statement M
 lines-shaped-spec =
@@ -77,12 +76,7 @@ lines-shaped-spec =
     Inv-loop
     μ-loop
     loop-holds
-    mul-a
-    add-e
-    mul-line-shaped
-    sub-line-shaped
-    part-line-shaped-start
-    part-line-shaped-end
+    chunk-requires
     line-shaped-requires
     returns
     add-k

@@ -1,12 +1,15 @@
 -- `messages_shaped` leaves at the first message that does not fit.
-use mathlib.Core.Path.{refl, _∙_}
-use Prim.Native.Nat.{_≤_, _-_, _*_}
+use mathlib.Core.Path.{_≡_, refl, ap, _∙_}
+use Prim.Native.Nat.{_*_, _≤_, _-_}
 use native.Mathlib.Omega.{arith}
-use borrow.Author.Tests.{not-true, not-false}
-use Rattle.words.specs.Words.{chunks}
-use Rattle.lines.specs.InWords.{messageSize}
-use Rattle.network_shape.proofs.ShapeLaws.{historyIn, messageTest, Passed, every-from, walk-false, walk-next, walk-done, lent-chunk}
 use borrow.Author.Needs.{needs}
+use borrow.Author.Tests.{not-true, not-false}
+use Rattle.words.specs.Words.{part, chunks}
+use Rattle.words.proofs.Parts.{part-length}
+use lib.ListN.{length}
+use Rattle.lines.specs.InWords.{messageSize}
+use Rattle.network_shape.specs.Tested.{historyIn, messageTest}
+use Rattle.network_shape.proofs.ShapeLaws.{Passed, every-from, walk-false, walk-next, walk-done}
 use Rattle.network_shape.proofs.messages_shaped.Statement.{statement}
 use Rattle.network_shape.proofs.messages_shaped.Tie as tie
 
@@ -16,39 +19,34 @@ Inv-loop w n p kept made i₀ i = (i ≤ n) × Passed (λ _. messageTest (histor
 abbrev μ-loop : tie.MeasureT-loop
 μ-loop w n p kept made i₀ i = n - i
 
+-- what a turn asks
+asked : (c : tie.After-message-shaped Inv-loop μ-loop) → let h = c .before .before .before in let A = h .before .before .before .args in c .message-shaped .result ≡ messageTest (historyIn (A .kept .now) (A .made)) (A .p) (part (A .w .now) (h .loop .i * messageSize) messageSize)
+asked c =
+    let A = c .before .before .before .before .before .before .args in
+    c .message-shaped .ensures ∙ ap (messageTest (historyIn (A .kept .now) (A .made)) (A .p)) (c .before .chunk .ensures)
+
 loop-holds : tie.Need-loop-holds Inv-loop μ-loop
 loop-holds c = (omega arith, refl)
 
-mul-a : tie.Need-mul-a Inv-loop μ-loop
-mul-a c = search needs
-
-add-e : tie.Need-add-e Inv-loop μ-loop
-add-e c = search needs
-
-mul-message-shaped : tie.Need-mul-message-shaped Inv-loop μ-loop
-mul-message-shaped c = search needs
-
-sub-message-shaped : tie.Need-sub-message-shaped Inv-loop μ-loop
-sub-message-shaped c = search needs
-
-part-message-shaped-start : tie.Need-part-message-shaped-start Inv-loop μ-loop
-part-message-shaped-start c = search needs
-
-part-message-shaped-end : tie.Need-part-message-shaped-end Inv-loop μ-loop
-part-message-shaped-end c = search needs
+chunk-requires : tie.Need-chunk-requires Inv-loop μ-loop
+chunk-requires c κs = search needs
 
 message-shaped-requires : tie.Need-message-shaped-requires Inv-loop μ-loop
 message-shaped-requires c κs =
-    let A = c .before .before .before .before .before .args in
-    (lent-chunk (A .w .now) (c .before .before .loop .i * messageSize) messageSize (omega arith), c .before .before .before .before .before .pre .2, c .before .before .before .before .before .pre .3)
+    let turn = c .before in
+    let s = turn .before .before .before .before in
+    let A = s .args in
+    let at = turn .before .loop .i * messageSize in
+    let size : length (part (A .w .now) at messageSize) ≡ messageSize = part-length (A .w .now) at messageSize (omega (arith, turn .loop-test .taken, s .pre .messages .sized, s .pre .messages .few)) in
+    record { sized = ap length (c .chunk .ensures) ∙ size; history = s .pre .history }
 
 returns : tie.Need-returns Inv-loop μ-loop
 returns c =
-    let A = c .before .before .before .before .before .before .before .args in
-    let L = c .before .before .before .before .loop in
-    let t = messageTest (historyIn (A .kept .now) (A .made)) (A .p) in
-    walk-false (λ _. t) messageSize (A .n) (A .w .now) (L .i) (L .inv .1) (c .before .before .before .loop-test .taken) (L .i) refl (c .before .message-shaped .result) (c .before .message-shaped .ensures) (not-true _ (c .if1 .taken))
-    ∙ every-from t 0 (chunks messageSize (A .n) (A .w .now))
+    let turn = c .before .before .before in
+    let A = turn .before .before .before .before .args in
+    let l = turn .before .loop in
+    walk-false (λ _. messageTest (historyIn (A .kept .now) (A .made)) (A .p)) messageSize (A .n) (A .w .now) (l .i) (l .inv .1) (turn .loop-test .taken) (c .before .message-shaped .result) (asked (c .before)) (not-true _ (c .if1 .taken))
+    ∙ every-from (messageTest (historyIn (A .kept .now) (A .made)) (A .p)) 0 (chunks messageSize (A .n) (A .w .now))
 
 add-i : tie.Need-add-i Inv-loop μ-loop
 add-i c = search needs
@@ -58,16 +56,17 @@ loop-less c = search needs
 
 loop-again : tie.Need-loop-again Inv-loop μ-loop
 loop-again c =
-    let A = c .before .before .before .before .before .before .before .args in
-    let L = c .before .before .before .before .loop in
-    (omega arith, walk-next (λ _. messageTest (historyIn (A .kept .now) (A .made)) (A .p)) messageSize (A .n) (A .w .now) (L .i) (L .inv .1) (c .before .before .before .loop-test .taken) (L .i) refl (c .before .message-shaped .result) (c .before .message-shaped .ensures) (not-false _ (c .if1 .left)))
+    let turn = c .before .before .before in
+    let A = turn .before .before .before .before .args in
+    let l = turn .before .loop in
+    (omega arith, walk-next (λ _. messageTest (historyIn (A .kept .now) (A .made)) (A .p)) messageSize (A .n) (A .w .now) (l .i) (l .inv .1) (turn .loop-test .taken) (c .before .message-shaped .result) (asked (c .before)) (not-false _ (c .if1 .left)))
 
 returns-2 : tie.Need-returns-2 Inv-loop μ-loop
 returns-2 c =
     let A = c .before .before .before .before .args in
-    let t = messageTest (historyIn (A .kept .now) (A .made)) (A .p) in
-    walk-done (λ _. t) messageSize (A .n) (A .w .now) (c .before .loop .i) (c .before .loop .inv .1) (c .loop-test .left)
-    ∙ every-from t 0 (chunks messageSize (A .n) (A .w .now))
+    let l = c .before .loop in
+    walk-done (λ _. messageTest (historyIn (A .kept .now) (A .made)) (A .p)) messageSize (A .n) (A .w .now) (l .i) (l .inv .1) (c .loop-test .left)
+    ∙ every-from (messageTest (historyIn (A .kept .now) (A .made)) (A .p)) 0 (chunks messageSize (A .n) (A .w .now))
 
 pub messages-shaped-spec : {M : Type 1} → statement M
 messages-shaped-spec =
@@ -76,12 +75,7 @@ messages-shaped-spec =
     Inv-loop
     μ-loop
     loop-holds
-    mul-a
-    add-e
-    mul-message-shaped
-    sub-message-shaped
-    part-message-shaped-start
-    part-message-shaped-end
+    chunk-requires
     message-shaped-requires
     returns
     add-i

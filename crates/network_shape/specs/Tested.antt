@@ -1,0 +1,86 @@
+-- What the test for shape asks, thing by thing: of its words that they are in range, and of what they mean that it fits.
+use mathlib.Core.Path.{_≡_}
+use mathlib.Core.Bool.{Bool, _&&_}
+use mathlib.Core.List.{List, map}
+use Prim.Native.Nat.{ℕ, _*_, _≤_, _<_}
+use lib.ListN.{length, getD}
+use lib.Dec.{eqb, leb, ltb}
+use Rattle.words.specs.Words.{part, chunks}
+use Rattle.lists.specs.Lists.{every, everyFrom}
+use Rattle.limits.specs.Limits.{sitesMost, itemsMost, heldMost, recordsMost}
+use Rattle.timestamp.specs.Made.{stampShaped}
+use Rattle.placement.specs.Placement.{Item, itemsNumber}
+use Rattle.placement.specs.InWords.{itemsIn}
+use Rattle.lines.specs.InWords.{messageIn, messageRange, messageSize, lineIn, lineRange, lineSize}
+use Rattle.timestamp.specs.Order.{byNumber}
+use Rattle.records.specs.Records.{Record, recordFits}
+use Rattle.records.specs.InWords.{recordIn, recordRange, recordSize}
+use Rattle.protocol.specs.Network.{linesMost, noRecord, messageFits, lineFits}
+use Rattle.network_layout.specs.Layout.{siteCount, itemCount, recordCount, itemsAt, itemsSize, historyAt, historySize, linesSize, stateSize}
+use Rattle.network_layout.specs.InWords.{siteWords, lineWords, recordWords}
+
+-- ---- one thing
+abbrev pub countsFit : ℕ → ℕ → ℕ → Bool
+countsFit sites items made = leb 1 sites && (leb sites sitesMost && (leb 1 items && (leb items itemsMost && leb made recordsMost)))
+
+abbrev pub recordTest : ℕ → ℕ → List ℕ → Bool
+recordTest sites items x = recordRange x && recordFits byNumber sites items (recordIn x)
+
+-- there is a record k, and p made it
+abbrev pub commitTest : List Record → ℕ → ℕ → Bool
+commitTest h p k = ltb k (length h) && eqb (getD h k noRecord .site) p
+
+abbrev pub messageTest : List Record → ℕ → List ℕ → Bool
+messageTest h p x = messageRange x && messageFits byNumber h p (messageIn x)
+
+abbrev pub lineTest : List Item → List Record → ℕ → List ℕ → Bool
+lineTest xs h k x = lineRange x && lineFits xs h k (lineIn x)
+
+-- ---- all things of a state
+abbrev pub placedIn : List ℕ → List Item
+placedIn w = itemsIn (itemCount w) (part w itemsAt itemsSize)
+
+abbrev pub historyIn : List ℕ → ℕ → List Record
+historyIn kept made = map recordIn (chunks recordSize made kept)
+
+unfoldable pub groupShaped : List ℕ → Bool
+groupShaped w = countsFit (siteCount w) (itemCount w) (recordCount w) && (eqb (itemsNumber (siteCount w) (placedIn w)) 0 && everyFrom stampShaped 0 (siteWords w))
+
+unfoldable pub historyShaped : List ℕ → Bool
+historyShaped w = every (recordTest (siteCount w) (itemCount w)) (recordWords w)
+
+unfoldable pub linesShaped : List ℕ → Bool
+linesShaped w = everyFrom (lineTest (placedIn w) (historyIn (part w historyAt historySize) (recordCount w))) 0 (lineWords w)
+
+-- ---- what the functions ask
+-- the counts of a state are not too large
+pub record Counted (w : List ℕ) : Type 0 where
+  pub sized : length w ≡ stateSize
+  pub few-sites : siteCount w ≤ sitesMost
+  pub few-items : itemCount w ≤ itemsMost
+  pub few-records : recordCount w ≤ recordsMost
+
+-- places of `one` words each, as many as `most`, of which the first n are used
+pub record Places (w : List ℕ) (one most n : ℕ) : Type 0 where
+  pub sized : length w ≡ most * one
+  pub few : n ≤ most
+
+-- a message, those of a line, a line and all lines, beside the history that they are held against
+pub record MessageAsked (w kept : List ℕ) (made : ℕ) : Type 0 where
+  pub sized : length w ≡ messageSize
+  pub history : Places kept recordSize recordsMost made
+
+pub record MessagesAsked (w : List ℕ) (n : ℕ) (kept : List ℕ) (made : ℕ) : Type 0 where
+  pub messages : Places w messageSize heldMost n
+  pub history : Places kept recordSize recordsMost made
+
+pub record LineAsked (l : List ℕ) (k items : ℕ) (kept : List ℕ) (made : ℕ) : Type 0 where
+  pub sized : length l ≡ lineSize
+  pub few : k < linesMost
+  pub few-items : items ≤ itemsMost
+  pub history : Places kept recordSize recordsMost made
+
+pub record LinesAsked (w : List ℕ) (items : ℕ) (kept : List ℕ) (made : ℕ) : Type 0 where
+  pub sized : length w ≡ linesSize
+  pub few-items : items ≤ itemsMost
+  pub history : Places kept recordSize recordsMost made
