@@ -1,8 +1,8 @@
 #!/usr/bin/env python3
-"""Writes the script of crates/script_cases: refusals, malformed lines, lines at their longest; the last line lacks its newline.
+"""Writes the script cases of crates/script_cases: refusals, malformed lines, lines at their longest; the last line lacks its newline.
 
-    cases.py > crates/script_cases/stdin
-    model.py run < crates/script_cases/stdin > crates/script_cases/stdout
+    cases.py > crates/script_cases/data/cases
+    model.py run < crates/script_cases/data/cases     prints what crates/script_cases/stdout has behind '# cases'
 """
 import sys
 

@@ -23,7 +23,10 @@ same-length : tie.Need-same-length
 same-length c = search needs
 
 returns : tie.Need-returns
-returns c = closed (c .before .before .before .before .before .before .before .before .before .pre) (c .before .before .before .before .before .finish .ensures)
+returns c =
+    let start = c .before .before .before .before .before .before .before .before .before in
+    let q = c .before .before .before .before .before .finish in
+    closed (start .pre) (q .ensures)
 
 pub last-spec : {M : Type 1} → statement M
 last-spec =

@@ -46,10 +46,10 @@ feed-requires : tie.Need-feed-requires Inv-loop μ-loop
 feed-requires c κs = search needs
 
 add-used : tie.Need-add-used Inv-loop μ-loop
-add-used c = let d = c .before .before .before .before in omega (arith, next d .within, startOf d .good .0 .0)
+add-used c = let fed = c .before .before .before .before in omega (arith, next fed .within, startOf fed .good .0 .0)
 
 slice-reshare-prefix-written : tie.Need-slice-reshare-prefix-written Inv-loop μ-loop
-slice-reshare-prefix-written c = front-fits (c .before .before .before .before .feed .ensures .effect .printed)
+slice-reshare-prefix-written c = let fed = c .before .before .before .before .feed in front-fits (fed .ensures .effect .printed)
 
 slice-aggregate-written : tie.Need-slice-aggregate-written Inv-loop μ-loop
 slice-aggregate-written c = let q = c .before .before .before .before .before .feed in sym (length-take-le (q .result .filled) (q .last .1 .1 .1 .0) (front-fits (q .ensures .effect .printed)))
@@ -58,19 +58,20 @@ written-requires : tie.Need-written-requires Inv-loop μ-loop
 written-requires c κs = search needs
 
 same-length : tie.Need-same-length Inv-loop μ-loop
-same-length c = same (c .before .before .before .before .before .before .before)
+same-length c = let fed = c .before .before .before .before .before .before .before in same fed
 
 returns : tie.Need-returns Inv-loop μ-loop
-returns c = reached-end (next (c .before .before .before .before .before .before .before))
+returns c = let fed = c .before .before .before .before .before .before .before in reached-end (next fed)
 
 loop-less : tie.Need-loop-less Inv-loop μ-loop
 loop-less c =
-    let d = c .before .before .before .before .before .before .before in
-    let within : headOf d .loop .used < length (startOf d .args .block .now) = d .before .before .before .before .loop-test .taken in
-    omega (arith, part-some (headOf d .loop .inv .0) (d .feed .ensures) within (omega (arith, startOf d .pre, headOf d .loop .inv .1)))
+    let fed = c .before .before .before .before .before .before .before in
+    let turn = c .before .before .before .before .before .before .before .before .before .before .before in
+    let within : headOf fed .loop .used < length (startOf fed .args .block .now) = turn .loop-test .taken in
+    omega (arith, part-some (headOf fed .loop .inv .0) (fed .feed .ensures) within (omega (arith, startOf fed .pre, headOf fed .loop .inv .1)))
 
 loop-again : tie.Need-loop-again Inv-loop μ-loop
-loop-again c = let d = c .before .before .before .before .before .before .before in (next d, same d)
+loop-again c = let fed = c .before .before .before .before .before .before .before in (next fed, same fed)
 
 same-length-2 : tie.Need-same-length-2 Inv-loop μ-loop
 same-length-2 c = c .before .loop .inv .1

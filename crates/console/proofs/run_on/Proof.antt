@@ -26,13 +26,13 @@ returns : tie.Need-returns Inv-loop μ-loop
 returns c = ran (c .before .before .before .loop .inv .0)
 
 slice-aggregate-turn : tie.Need-slice-aggregate-turn Inv-loop μ-loop
-slice-aggregate-turn c = sym (c .before .before .before .before .before .before .loop .inv .1)
+slice-aggregate-turn c = let head = c .before .before .before .before .before .before in sym (head .loop .inv .1)
 
 slice-aggregate-turn-2 : tie.Need-slice-aggregate-turn-2 Inv-loop μ-loop
-slice-aggregate-turn-2 c = sym (c .before .before .before .before .before .before .before .loop .inv .2)
+slice-aggregate-turn-2 c = let head = c .before .before .before .before .before .before .before in sym (head .loop .inv .2)
 
 turn-requires : tie.Need-turn-requires Inv-loop μ-loop
-turn-requires c κs = omega (arith, c .before .before .before .before .before .before .before .loop .inv .2)
+turn-requires c κs = let head = c .before .before .before .before .before .before .before in omega (arith, head .loop .inv .2)
 
 sub-turns : tie.Need-sub-turns Inv-loop μ-loop
 sub-turns c = omega arith
@@ -42,9 +42,10 @@ loop-less c = omega arith
 
 loop-again : tie.Need-loop-again Inv-loop μ-loop
 loop-again c =
-    let L = c .before .before .before .before .before .before .before .before .before .before .loop in
+    let head = c .before .before .before .before .before .before .before .before .before .before .loop in
+    let going = c .before .before .before .before .before .before .before .if1 .left in
     let q = c .before .before .turn in
-    (went-then (L .inv .0) (not-false (L .at .more) (c .before .before .before .before .before .before .before .if1 .left)) (q .ensures), q .kept .1 .1 .0 ∙ L .inv .1, q .kept .1 .1 .1 .0 ∙ L .inv .2)
+    (went-then (head .inv .0) (not-false (head .at .more) going) (q .ensures), q .kept .1 .1 .0 ∙ head .inv .1, q .kept .1 .1 .1 .0 ∙ head .inv .2)
 
 returns-2 : tie.Need-returns-2 Inv-loop μ-loop
 returns-2 c = ran (c .before .loop .inv .0)

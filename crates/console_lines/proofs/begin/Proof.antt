@@ -30,19 +30,25 @@ goes-on-requires c κs = search needs
 
 returns : tie.Need-returns
 returns c =
+    let found = c .before .before .before .before .find in
     let G = c .before .goes-on in
-    begun-held (c .before .before .before .before .find .ensures) (sym (G .ensures) ∙ not-true (G .result) (c .if1 .taken)) (c .before .before .hold .ensures)
+    begun-held (found .ensures) (sym (G .ensures) ∙ not-true (G .result) (c .if1 .taken)) (c .before .before .hold .ensures)
 
 answer-requires : tie.Need-answer-requires
 answer-requires c κs =
-    let S = c .before .before .before .before .before .before .before .before .before in
-    let B = S .args .block .now in
+    let A = c .before .before .before .before .before .before .before .before .before .args in
+    let found = c .before .before .before .before .before .before .find in
     let H = c .before .before .before .before .hold in
-    let tests = and-true (ltb (c .before .before .before .before .before .before .find .result) (length B)) (leb (S .args .at + lineMost) (length (S .args .out .now))) (sym (c .before .before .before .goes-on .ensures) ∙ not-false (c .before .before .before .goes-on .result) (c .before .before .if1 .left)) in
-    (omega (arith, H .ensures .count-is, length-take clipMost (heldOf (S .args .held) ++ take (c .before .before .before .before .before .before .find .result) B)), leb-true (S .args .at + lineMost) (length (S .args .out .now)) (tests .1))
+    let G = c .before .before .before .goes-on in
+    let size = length (A .out .now) in
+    let tests = and-true (ltb (found .result) (length (A .block .now))) (leb (A .at + lineMost) size) (sym (G .ensures) ∙ not-false (G .result) (c .before .before .if1 .left)) in
+    (omega (arith, H .ensures .count-is, length-take clipMost (heldOf (A .held) ++ take (found .result) (A .block .now))), leb-true (A .at + lineMost) size (tests .1))
 
 add-t12 : tie.Need-add-t12
-add-t12 c = omega (arith, place-within newline (c .before .before .before .before .before .before .before .before .before .before .before .before .args .block .now), c .before .before .before .before .before .before .before .before .before .find .ensures)
+add-t12 c =
+    let b = c .before .before .before .before .before .before .before .before .before .before .before .before .args .block .now in
+    let found = c .before .before .before .before .before .before .before .before .before .find in
+    omega (arith, place-within newline b, found .ensures)
 
 nothing-requires : tie.Need-nothing-requires
 nothing-requires c κs = search needs
@@ -53,8 +59,9 @@ same-length c = search needs
 returns-2 : tie.Need-returns-2
 returns-2 c =
     let d = c .before .before .before .before .before .before in
+    let found = c .before .before .before .before .before .before .before .before .before .before .find in
     let G = d .before .goes-on in
-    begun-answered (d .before .before .before .before .find .ensures) (sym (G .ensures) ∙ not-false (G .result) (d .if1 .left)) (d .before .before .hold .ensures) (c .nothing .ensures) (c .before .before .before .answer .ensures)
+    begun-answered (found .ensures) (sym (G .ensures) ∙ not-false (G .result) (d .if1 .left)) (d .before .before .hold .ensures) (c .nothing .ensures) (c .before .before .before .answer .ensures)
 
 pub begin-spec : {M : Type 1} → statement M
 begin-spec =

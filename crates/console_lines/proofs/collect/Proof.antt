@@ -24,8 +24,11 @@ same-length c = search needs
 
 returns : tie.Need-returns
 returns c =
+    let text = c .before .before .before .before .before .before .before .before .before .before .before .args .text .now in
     let L = c .before .before .before .before .before .before .line in
-    collected (c .before .before .before .before .before .before .before .before .before .before .before .args .text .now) (omega (arith, L .ensures .printed .small, L .ensures .printed .printed .end-is, c .before .before .before .before .append-arg2 .given, length-set (L .last .1 .1 .0) (L .result) newline)) (L .ensures) (c .before .before .append .ensures)
+    let lent = c .before .before .before .before .append-arg2 .given in
+    let P = L .ensures .printed in
+    collected text (omega (arith, P .small, P .printed .end-is, lent, length-set (L .last .1 .1 .0) (L .result) newline)) (L .ensures) (c .before .before .append .ensures)
 
 pub collect-spec : {M : Type 1} → statement M
 collect-spec =

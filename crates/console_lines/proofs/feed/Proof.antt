@@ -12,7 +12,7 @@ same-length : tie.Need-same-length
 same-length c = search needs
 
 returns : tie.Need-returns
-returns c = fed-held (c .before .before .before .before .before .begin .ensures) (c .if1 .taken)
+returns c = let began = c .before .before .before .before .before .begin in fed-held (began .ensures) (c .if1 .taken)
 
 sub-lines : tie.Need-sub-lines
 sub-lines c = search needs
@@ -32,8 +32,9 @@ add-from c = search needs
 add-end : tie.Need-add-end
 add-end c =
     let S = c .before .before .before .before .before .before .before .before .before .before .before .before .before .before .before .before .before .before in
-    let b = c .before .before .before .before .before .before .before .before .before .before .before .before .before .begin in
-    omega (arith, S .good .0 .0, end-within (S .args .block .now) (b .result .used) (b .ensures .within) (c .before .before .before .before .lines .ensures))
+    let began = c .before .before .before .before .before .before .before .before .before .before .before .before .before .begin in
+    let q = c .before .before .before .before .lines in
+    omega (arith, S .good .0 .0, end-within (S .args .block .now) (began .result .used) (began .ensures .within) (q .ensures))
 
 nothing-requires : tie.Need-nothing-requires
 nothing-requires c κs = search needs
@@ -46,8 +47,10 @@ part-hold-start c = search needs
 
 part-hold-end : tie.Need-part-hold-end
 part-hold-end c =
-    let b = c .before .before .before .before .before .before .before .before .before .before .before .before .before .before .begin in
-    end-within (c .before .before .before .before .before .before .before .before .before .before .before .before .before .before .before .before .before .before .before .args .block .now) (b .result .used) (b .ensures .within) (c .before .before .before .before .before .lines .ensures)
+    let b = c .before .before .before .before .before .before .before .before .before .before .before .before .before .before .before .before .before .before .before .args .block .now in
+    let began = c .before .before .before .before .before .before .before .before .before .before .before .before .before .before .begin in
+    let q = c .before .before .before .before .before .lines in
+    end-within b (began .result .used) (began .ensures .within) (q .ensures)
 
 hold-requires : tie.Need-hold-requires
 hold-requires c κs = search needs
@@ -58,8 +61,9 @@ same-length-2 c = search needs
 returns-2 : tie.Need-returns-2
 returns-2 c =
     let d = c .before .before .before .before .before .before .before .before .before .before .before in
-    let b = d .before .before .before .before .before .begin in
-    fed-lines (b .ensures) (d .if1 .left) (b .kept .1 .1 .1 .0) (c .before .before .before .before .before .before .before .lines .ensures) (c .before .before .nothing .ensures) (c .hold .ensures)
+    let began = c .before .before .before .before .before .before .before .before .before .before .before .before .before .before .before .before .begin in
+    let q = c .before .before .before .before .before .before .before .lines in
+    fed-lines (began .ensures) (d .if1 .left) (began .kept .1 .1 .1 .0) (q .ensures) (c .before .before .nothing .ensures) (c .hold .ensures)
 
 pub feed-spec : {M : Type 1} → statement M
 feed-spec =

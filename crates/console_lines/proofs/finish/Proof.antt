@@ -34,7 +34,8 @@ returns-2 c =
     let A = S .args in
     let q = c .before .before .feed in
     let full : length (A .held .bytes) ≡ clipMost = simp length-map at (S .good .0 .1 .1 .0 .1 .0 .1) in
-    let some : 0 < length (heldOf (A .held)) = omega (arith, length-take (A .held .count) (A .held .bytes), c .before .before .before .before .before .before .if1 .left) in
+    let some-held = c .before .before .before .before .before .before .if1 .left in
+    let some : 0 < length (heldOf (A .held)) = omega (arith, length-take (A .held .count) (A .held .bytes), some-held) in
     subst (λ (b : List ℕ). Fed b (heldOf (A .held)) (A .state .now) (q .last .1 .1 .0) (A .out .now) (q .last .1 .1 .1 .0) (A .at) (q .result)) (ending-held (heldOf (A .held)) some) (q .ensures)
 
 pub finish-spec : {M : Type 1} → statement M

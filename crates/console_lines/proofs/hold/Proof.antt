@@ -29,7 +29,9 @@ append-requires c κs = let S = c .before .before .before .before .before in ome
 returns : tie.Need-returns
 returns c =
     let S = c .before .before .before .before .before .before .before in
-    held-there (S .args .held .bytes) (S .args .from .now) (c .before .append .last .1 .1 .0) (S .args .held .count) (c .before .before .before .before .before .least .result) (c .before .before .before .before .least2 .result) (c .before .append .result) (full S) (c .before .before .before .before .before .least .ensures) (c .before .before .before .before .least2 .ensures) (c .before .append .ensures)
+    let first = c .before .before .before .before .before .least in
+    let more = c .before .before .before .before .least2 in
+    held-there (S .args .held .bytes) (S .args .from .now) (c .before .append .last .1 .1 .0) (S .args .held .count) (first .result) (more .result) (c .before .append .result) (full S) (first .ensures) (more .ensures) (c .before .append .ensures)
 
 pub hold-spec : {M : Type 1} → statement M
 hold-spec =

@@ -1,7 +1,8 @@
 -- `lines` goes from newline to newline: all before the present line is answered. What is left of the block falls.
 use mathlib.Core.Path.{_≡_, refl, sym, _∙_}
 use mathlib.Core.Bool.{true, _&&_}
-use Prim.Native.Nat.{_+_, _-_, _≤_, _<_}
+use mathlib.Core.List.{List}
+use Prim.Native.Nat.{ℕ, _+_, _-_, _≤_, _<_}
 use lib.Dec.{ltb, leb}
 use borrow.Author.Tests.{ltb-true, leb-true}
 use Rattle.lists.proofs.Every.{and-true}
@@ -21,16 +22,23 @@ Inv-loop block state₀ out₀ at space₀ from₀ filled₀ end₀ state out sp
 abbrev μ-loop : tie.MeasureT-loop
 μ-loop block state₀ out₀ at space₀ from₀ filled₀ end₀ state out space from filled end = length block - from
 
+-- in a turn: the block, and the loop's head
+abbrev blockOf : tie.Then1 Inv-loop μ-loop → List ℕ
+blockOf d = d .before .before .before .before .before .before .args .block .now
+
+abbrev headOf : tie.Then1 Inv-loop μ-loop → tie.At-loop Inv-loop μ-loop
+headOf d = d .before .before
+
 -- a newline stands at the end, and there is room for an answer
-test : (d : tie.Then1 Inv-loop μ-loop) → (ltb (d .before .before .loop .end) (length (d .before .before .before .before .before .before .args .block .now)) && leb (d .before .before .loop .filled + lineMost) (length (d .before .before .loop .out))) ≡ true
+test : (d : tie.Then1 Inv-loop μ-loop) → (ltb (headOf d .loop .end) (length (blockOf d)) && leb (headOf d .loop .filled + lineMost) (length (headOf d .loop .out))) ≡ true
 test d = sym (d .before .goes-on .ensures) ∙ d .if1 .taken
 
-ahead : (d : tie.Then1 Inv-loop μ-loop) → (d .before .before .loop .end < length (d .before .before .before .before .before .before .args .block .now)) × (d .before .before .loop .filled + lineMost ≤ length (d .before .before .loop .out))
+ahead : (d : tie.Then1 Inv-loop μ-loop) → (headOf d .loop .end < length (blockOf d)) × (headOf d .loop .filled + lineMost ≤ length (headOf d .loop .out))
 ahead d =
-    let L = d .before .before .loop in
-    let b = d .before .before .before .before .before .before .args .block .now in
-    let both = and-true (ltb (L .end) (length b)) (leb (L .filled + lineMost) (length (L .out))) (test d) in
-    (ltb-true (L .end) (length b) (both .0), leb-true (L .filled + lineMost) (length (L .out)) (both .1))
+    let L = headOf d .loop in
+    let size = length (blockOf d) in
+    let both = and-true (ltb (L .end) size) (leb (L .filled + lineMost) (length (L .out))) (test d) in
+    (ltb-true (L .end) size (both .0), leb-true (L .filled + lineMost) (length (L .out)) (both .1))
 
 find-requires : tie.Need-find-requires Inv-loop μ-loop
 find-requires c κs = search needs
@@ -60,12 +68,12 @@ find-requires-2 : tie.Need-find-requires-2 Inv-loop μ-loop
 find-requires-2 c κs = search needs
 
 loop-less : tie.Need-loop-less Inv-loop μ-loop
-loop-less c = let d = c .before .before .before .before .before .before .before .before in omega (arith, ahead d .0, d .before .before .loop .inv .1)
+loop-less c = let d = c .before .before .before .before .before .before .before .before in omega (arith, ahead d .0, headOf d .loop .inv .1)
 
 loop-again : tie.Need-loop-again Inv-loop μ-loop
 loop-again c =
     let d = c .before .before .before .before .before .before .before .before in
-    let L = d .before .before .loop in
+    let L = headOf d .loop in
     let q = c .before .before .before .collect in
     (walked-next (L .inv .0) (L .inv .1) (L .inv .2) (test d) (q .ensures), c .find2 .ensures, q .kept .1 .1 .1 .0 ∙ L .inv .2)
 
