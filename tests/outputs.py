@@ -10,8 +10,8 @@ The lines of crates/cases, beside those of a script:
     w SITE                      waiting report: the number, how many items, the items in rising order
     k PLACE WORD                a word of the state set by hand, and the line printed: an own count, or a word that makes the state not well
                                 shaped until the next such line on the same place, or a set-up
-    o SITE KIND ITEM VALUE      commit by records: a read of item 0 and this operation, its value as an unsigned word
-    u SITE KINDS ITEMS VALUES   commit by separate lists of so many entries: writes of item 0
+    o SITE KIND                 commit by two records: a read of item 0, and an operation of that kind on item 1 with the value -1
+    u SITE KINDS ITEMS VALUES   commit by separate lists of so many entries, writes of item 0
     = BYTES, + BYTES            the file anew, or more of it: how many bytes it has
     x SIZE                      export to so many bytes EE, which then are the file: the number and the length
     b, h                        the file's bytes; the bytes of its part
@@ -106,9 +106,8 @@ class Cases:
         stamp, values = (result[1], result[2]) if result[0] == 0 else ((0, []), [])
         return refusable(record_text(result[0], stamp, [(0, i, v) for i, v in enumerate(values)]))
 
-    def records(self, site, kind, item, word):
-        value = word - 2**32 if word >= 2**31 else word
-        return self.commit(site, [(0, 0, 7), (kind, item, value)])
+    def records(self, site, kind):
+        return self.commit(site, [(0, 0, 7), (kind, 1, -1)])
 
     def lists(self, site, kinds, items, values):
         # lists of two lengths are refused as no operations are

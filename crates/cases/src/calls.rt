@@ -6,21 +6,18 @@ use network::Operation;
 use network::WORDS;
 use script::ANSWER;
 
-// A line on the state; what has no letter of its own here is the script's.
+// A line on the state. `# ..` is a comment, which is printed as it is; what has no letter of its own here is the script's.
 pub fn call(line: &[u8], state: &mut [u32; WORDS]) {
     match lists::letter(line) {
-        35 => comment(line),
+        35 => {
+            io::write_all(STDOUT_FILENO, line);
+        }
         119 => report(line, state),
         107 => set(line, state),
         111 => records(line, state),
         117 => lengths(line, state),
         _ => step(line, state),
     }
-}
-
-// `# ..`: a comment, which is printed as it is.
-fn comment(line: &[u8]) {
-    io::write_all(STDOUT_FILENO, line);
 }
 
 // A line of the script, and behind a refusal whether every word of the state is as it was.
@@ -49,11 +46,11 @@ fn compare(before: &[u32; WORDS], state: &[u32; WORDS]) {
 // `k PLACE WORD`: a word of the state by hand. The line is printed as it is.
 fn set(line: &[u8], state: &mut [u32; WORDS]) {
     let list = lists::numbers(line);
-    let place = words::wide(list[0]);
+    let place = list[0] as usize;
     if place < 31635 {
         state[place] = list[1];
     }
-    comment(line);
+    io::write_all(STDOUT_FILENO, line);
 }
 
 // `w SITE`: the number of a waiting report, how many items it has and, since their order is left open, the items in rising order, each as
@@ -62,7 +59,7 @@ fn report(line: &[u8], state: &[u32; WORDS]) {
     let list = lists::numbers(line);
     let answer = network::waiting(state, list[0]);
     let items = answer.items;
-    lists::show(&[words::wide(answer.number), answer.count]);
+    lists::show(&[answer.number as usize, answer.count]);
     let mut k = 0u32;
     while k < 64 {
         times(&items, answer.count, k);
@@ -82,9 +79,8 @@ fn times(items: &[u32; 64], count: usize, k: u32) {
     }
 }
 
-// `o SITE KIND ITEM VALUE`: a commit of two records, a read of item 0 and the operation given.
+// `o SITE KIND`: a commit of two records, a read of item 0 and an operation of that kind on item 1 with the value -1.
 fn records(line: &[u8], state: &mut [u32; WORDS]) {
-    let before = *state;
     let list = lists::numbers(line);
     let read = Operation {
         kind: 0,
@@ -93,9 +89,10 @@ fn records(line: &[u8], state: &mut [u32; WORDS]) {
     };
     let given = Operation {
         kind: (list[1] % 256) as u8,
-        item: list[2],
-        value: words::value(list[3]),
+        item: 1,
+        value: -1,
     };
+    let before = *state;
     let answer = commit_two(state, list[0], [read, given]);
     committed(answer, &before, state);
 }
@@ -112,9 +109,9 @@ fn lengths(line: &[u8], state: &mut [u32; WORDS]) {
     let kinds = [1u8; 9];
     let items = [0u32; 9];
     let values = [9i32; 9];
-    let k = words::wide(list[1]) % 10;
-    let i = words::wide(list[2]) % 10;
-    let v = words::wide(list[3]) % 10;
+    let k = (list[1] % 10) as usize;
+    let i = (list[2] % 10) as usize;
+    let v = (list[3] % 10) as usize;
     let answer = network::commit(state, list[0], &kinds[0..k], &items[0..i], &values[0..v]);
     committed(answer, &before, state);
 }

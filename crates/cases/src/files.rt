@@ -49,7 +49,7 @@ pub fn export(line: &[u8], state: &[u32; WORDS], file: &mut [u8; ROOM]) -> usize
 {
     let list = lists::numbers(line);
     *file = [0xEE; ROOM];
-    export_to(state, file, words::wide(list[0]) % 65537)
+    export_to(state, file, (list[0] % 65537) as usize)
 }
 
 fn export_to(state: &[u32; WORDS], file: &mut [u8], size: usize) -> usize
@@ -57,7 +57,7 @@ fn export_to(state: &[u32; WORDS], file: &mut [u8], size: usize) -> usize
     ensures { λ r. ⌜ r ≡ size ⌝ }
 {
     let answer = history::export(state, &mut file[0..size]);
-    lists::show(&[words::wide(answer.number), answer.length]);
+    lists::show(&[answer.number as usize, answer.length]);
     size
 }
 
@@ -89,10 +89,10 @@ pub fn check(file: &[u8]) {
     let part = history::read(file);
     lists::show(
         &[
-            words::wide(checked.number),
-            words::wide(checked.records),
-            words::wide(checked.sites),
-            words::wide(checked.items),
+            checked.number as usize,
+            checked.records as usize,
+            checked.sites as usize,
+            checked.items as usize,
             part.len(),
         ],
     );
@@ -101,14 +101,14 @@ pub fn check(file: &[u8]) {
 // `r NUMBER`: a record by its number.
 pub fn record(line: &[u8], file: &[u8]) {
     let list = lists::numbers(line);
-    found(history::record(file, words::wide(list[0])));
+    found(history::record(file, list[0] as usize));
 }
 
 // `@ PLACE SITES ITEMS`: the record at a place of the part.
 pub fn record_from(line: &[u8], file: &[u8]) {
     let list = lists::numbers(line);
     let part = history::read(file);
-    found(history::record_from(part, words::wide(list[0]), list[1], list[2]));
+    found(history::record_from(part, list[0] as usize, list[1], list[2]));
 }
 
 // The number, where the next record starts, how many operations it has, and the record with all eight places of operations.
@@ -119,7 +119,7 @@ fn found(r: Found) {
     let values = r.values;
     let mut out = [0u8; ANSWER];
     let n = script::entry(r.site, stamp, 8, &kinds, &items, &values, &mut out);
-    lists::show(&[words::wide(r.number), r.next, r.count]);
+    lists::show(&[r.number as usize, r.next, r.count]);
     io::write_all(STDOUT_FILENO, b" ");
     lists::print(&out, n);
 }

@@ -5,16 +5,31 @@ use Rattle.network_speed.proofs.almost_empty.Statement.{statement}
 use Rattle.network_speed.proofs.almost_empty.Tie as tie
 
 abbrev Inv-loop : tie.InvT-loop
-Inv-loop state₀ sums₀ i₀ t4 state sums i = i ≤ 1000
+Inv-loop state₀ sum₀ i₀ t4 t5 t6 state sum i = i ≤ 1000
 
 abbrev μ-loop : tie.MeasureT-loop
-μ-loop state₀ sums₀ i₀ t4 state sums i = 1000 - i
+μ-loop state₀ sum₀ i₀ t4 t5 t6 state sum i = 1000 - i
 
 loop-holds : tie.Need-loop-holds Inv-loop μ-loop
 loop-holds c = search needs
 
-nine-rounds-requires : tie.Need-nine-rounds-requires Inv-loop μ-loop
-nine-rounds-requires c κs = search needs
+slice-aggregate-set-up : tie.Need-slice-aggregate-set-up Inv-loop μ-loop
+slice-aggregate-set-up c = search needs
+
+slice-aggregate-set-up-2 : tie.Need-slice-aggregate-set-up-2 Inv-loop μ-loop
+slice-aggregate-set-up-2 c = search needs
+
+set-up-requires : tie.Need-set-up-requires Inv-loop μ-loop
+set-up-requires c κs = search needs
+
+slice-aggregate-rounds : tie.Need-slice-aggregate-rounds Inv-loop μ-loop
+slice-aggregate-rounds c = search needs
+
+rounds-requires : tie.Need-rounds-requires Inv-loop μ-loop
+rounds-requires c κs = search needs
+
+wrapping-add-u64-requires : tie.Need-wrapping-add-u64-requires Inv-loop μ-loop
+wrapping-add-u64-requires c κs = search needs
 
 add-i : tie.Need-add-i Inv-loop μ-loop
 add-i c = search needs
@@ -24,12 +39,6 @@ loop-less c = search needs
 
 loop-again : tie.Need-loop-again Inv-loop μ-loop
 loop-again c = search needs
-
-slice-aggregate-show : tie.Need-slice-aggregate-show Inv-loop μ-loop
-slice-aggregate-show c = search needs
-
-show-requires : tie.Need-show-requires Inv-loop μ-loop
-show-requires c κs = search needs
 
 returns : tie.Need-returns Inv-loop μ-loop
 returns c = search needs
@@ -41,10 +50,13 @@ almost-empty-spec =
     Inv-loop
     μ-loop
     loop-holds
-    nine-rounds-requires
+    slice-aggregate-set-up
+    slice-aggregate-set-up-2
+    set-up-requires
+    slice-aggregate-rounds
+    rounds-requires
+    wrapping-add-u64-requires
     add-i
     loop-less
     loop-again
-    slice-aggregate-show
-    show-requires
     returns)

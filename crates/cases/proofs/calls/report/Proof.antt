@@ -19,8 +19,8 @@ array-read-waiting c = search needs
 waiting-requires : tie.Need-waiting-requires Inv-loop μ-loop
 waiting-requires c κs = search needs
 
-wide-requires : tie.Need-wide-requires Inv-loop μ-loop
-wide-requires c κs = search needs
+cast-t13 : tie.Need-cast-t13 Inv-loop μ-loop
+cast-t13 c = search needs
 
 slice-aggregate-show : tie.Need-slice-aggregate-show Inv-loop μ-loop
 slice-aggregate-show c = search needs
@@ -55,7 +55,7 @@ report-spec =
     numbers-requires
     array-read-waiting
     waiting-requires
-    wide-requires
+    cast-t13
     slice-aggregate-show
     show-requires
     loop-holds
