@@ -4,7 +4,7 @@ use Prim.Native.Nat.{ℕ, _≤_}
 use lib.ListN.{length}
 use Rattle.script_notation.specs.Parse.{longest}
 
--- the numbers of a set-up: those of its sites, and at most as many as a line has
+-- the numbers of a set-up: how many sites and items, then two for each item, no more than a line has
 pub record SetUpNumbers (list : List ℕ) : Type 0 where
   pub two-there : 2 ≤ length list
   pub few : length list ≤ 256
