@@ -2,11 +2,11 @@
 use network::WORDS;
 pub use script_notation::ANSWER;
 pub use script_printing::entry;
-ghost use Rattle.script_notation.specs.Parse.{parse, called as calledBy, longest};
-ghost use Prim.Native.Nat.{_≤_};
-ghost use lib.ListN.{length, getD};
+ghost use Rattle.script_notation.specs.Parse.{parse, called as calledBy};
+ghost use lib.ListN.{getD};
 ghost use Rattle.script_notation.specs.Fields.{fieldsFrom};
 ghost use Rattle.script_notation.specs.Answers.{Replied};
+ghost use Rattle.script.specs.Asked.{Lettered};
 
 // A line, without its newline, on a state: it answers the length of the answer, which is at the front of the buffer.
 pub fn line(text: &[u8], state: &mut [u32; WORDS], out: &mut [u8; ANSWER]) -> usize
@@ -23,7 +23,7 @@ pub fn line(text: &[u8], state: &mut [u32; WORDS], out: &mut [u8; ANSWER]) -> us
 
 // The call that the first byte chooses.
 fn called(text: &[u8], state: &mut [u32; WORDS], out: &mut [u8; ANSWER]) -> usize
-    requires { ⌜ (1 ≤ length (now text)) × (length (now text) ≤ longest) ⌝ }
+    requires { ⌜ Lettered (now text) ⌝ }
     ensures { λ r. ⌜ Replied (calledBy (getD (now (text .entry)) 0 0) (fieldsFrom (now (text .entry)) 2)) (now (state .entry)) (now (state .exit)) (now (out .entry)) (now (out .exit)) r ⌝ }
 {
     match text[0] {

@@ -9,6 +9,7 @@ ghost use Rattle.protocol.specs.Calls.{dummy as dummyCall, epoch as epochCall, 
 ghost use Rattle.script_notation.specs.Fields.{fieldsFrom};
 ghost use Rattle.script_notation.specs.Parse.{all, on, one, two, setUpOf, commitOf, commitWith, operation, longest};
 ghost use Rattle.script_notation.specs.Answers.{Replied};
+ghost use Rattle.script_calls.specs.Asked.{SetUpNumbers, BehindSite};
 
 pub fn set_up(text: &[u8], state: &mut [u32; WORDS], out: &mut [u8; ANSWER]) -> usize
     requires { ⌜ length (now text) ≤ longest ⌝ }
@@ -28,7 +29,7 @@ pub fn set_up(text: &[u8], state: &mut [u32; WORDS], out: &mut [u8; ANSWER]) -> 
 
 // A set-up of the numbers of its line.
 fn set_up_numbers(list: &[u32], state: &mut [u32; WORDS], out: &mut [u8; ANSWER]) -> usize
-    requires { ⌜ (2 ≤ length (now list)) × (length (now list) ≤ 256) ⌝ }
+    requires { ⌜ SetUpNumbers (now list) ⌝ }
     ensures { λ r. ⌜ Replied (setUpOf (now (list .entry))) (now (state .entry)) (now (state .exit)) (now (out .entry)) (now (out .exit)) r ⌝ }
 {
     let mut primaries = [0u32; 128];
@@ -71,7 +72,7 @@ fn commit_at(
     state: &mut [u32; WORDS],
     out: &mut [u8; ANSWER],
 ) -> usize
-    requires { ⌜ (length (now text) ≤ longest) × (4 ≤ from) ⌝ }
+    requires { ⌜ BehindSite (now text) from ⌝ }
     ensures { λ r. ⌜ Replied (on (all operation (fieldsFrom (now (text .entry)) from)) (λ os. some (commitWith site os))) (now (state .entry)) (now (state .exit)) (now (out .entry)) (now (out .exit)) r ⌝ }
 {
     let mut kinds = [0u8; 170];

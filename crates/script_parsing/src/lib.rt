@@ -4,11 +4,12 @@ use decimal::Number;
 ghost use mathlib.Core.Path.{_≡_};
 ghost use mathlib.Core.Bool.{false};
 ghost use Prim.Native.Nat.{_+_, _≤_};
-ghost use lib.ListN.{length, take, drop};
+ghost use lib.ListN.{take, drop};
 ghost use Rattle.decimal.specs.Decimal.{natural, numberOf, integerOf};
 ghost use Rattle.script_notation.specs.Fields.{position, fieldsFrom};
-ghost use Rattle.script_notation.specs.Parse.{all, longest, listed, exact, reading as readingOf, writing as writingOf, assigned as assignedIn, operation as operationIn, firstOperations, placed, firstItems};
+ghost use Rattle.script_notation.specs.Parse.{all, listed, exact, reading as readingOf, writing as writingOf, assigned as assignedIn, operation as operationIn, firstOperations, placed, firstItems};
 ghost use mathlib.Core.Option.{none};
+ghost use Rattle.script_parsing.specs.Asked.{ToNumbers, ToNumbersFrom, ToOperations, ToItems};
 ghost use Rattle.script_parsing.specs.Parsed.{operationOf};
 
 // How many things there are in a list, where it is one.
@@ -33,7 +34,7 @@ pub fn find(text: &[u8], from: usize, byte: u8) -> usize
 
 // The fields from a position on as numbers, from the front of a list.
 pub fn numbers(text: &[u8], from: usize, list: &mut [u32]) -> Listed
-    requires { ⌜ (length (now text) ≤ longest) × (2 ≤ from) × (length (now list) ≡ 256) ⌝ }
+    requires { ⌜ ToNumbersFrom (now text) from (now list) ⌝ }
     ensures { λ r. ⌜ (listed (r .ok) (take (r .count) (now (list .exit))) ≡ all natural (fieldsFrom (now (text .entry)) from)) × (r .count ≤ 256) ⌝ }
 {
     let mut at = from;
@@ -53,7 +54,7 @@ pub fn numbers(text: &[u8], from: usize, list: &mut [u32]) -> Listed
 
 // The fields behind the letter as k numbers, from the front of a list; false where they are not.
 pub fn exactly(text: &[u8], k: usize, list: &mut [u32]) -> bool
-    requires { ⌜ (length (now text) ≤ longest) × (length (now list) ≡ 256) ⌝ }
+    requires { ⌜ ToNumbers (now text) (now list) ⌝ }
     ensures { λ r. ⌜ listed r (take k (now (list .exit))) ≡ exact k (all natural (fieldsFrom (now (text .entry)) 2)) ⌝ }
 {
     let n = numbers(text, 2, list);
@@ -89,7 +90,7 @@ pub fn operations(
     items: &mut [u32],
     values: &mut [i32],
 ) -> Listed
-    requires { ⌜ (length (now text) ≤ longest) × (4 ≤ from) × (length (now kinds) ≡ 170) × (length (now items) ≡ 170) × (length (now values) ≡ 170) ⌝ }
+    requires { ⌜ ToOperations (now text) from (now kinds) (now items) (now values) ⌝ }
     ensures { λ r. ⌜ (listed (r .ok) (firstOperations (r .count) (now (kinds .exit)) (now (items .exit)) (now (values .exit))) ≡ all operationIn (fieldsFrom (now (text .entry)) from)) × (r .count ≤ 170) ⌝ }
 {
     let mut at = from;
@@ -184,7 +185,7 @@ fn no_operation() -> Parsed
 
 // The items that numbers stand for two by two, from the front of the lists.
 pub fn items(list: &[u32], primaries: &mut [u32], masks: &mut [u8]) -> Listed
-    requires { ⌜ (length (now list) ≤ 256) × (length (now primaries) ≡ 128) × (length (now masks) ≡ 128) ⌝ }
+    requires { ⌜ ToItems (now list) (now primaries) (now masks) ⌝ }
     ensures { λ r. ⌜ (listed (r .ok) (firstItems (r .count) (now (primaries .exit)) (now (masks .exit))) ≡ placed (now (list .entry))) × (r .count ≤ 128) ⌝ }
 {
     let mut count = 0usize;

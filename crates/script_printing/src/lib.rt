@@ -17,6 +17,7 @@ ghost use mathlib.Core.Bool.{cond};
 ghost use lib.Dec.{eqb};
 ghost use Rattle.decimal.specs.Decimal.{digits, signedDigits};
 ghost use Rattle.protocol.specs.Calls.{commit as commitCall, dummy as dummyCall, schedule as scheduleCall};
+ghost use Rattle.script_printing.specs.Asked.{RoomForOperations, RoomForValues};
 
 // The site, the timestamp and the first `count` operations, or all eight, at the front of the buffer. It answers the length.
 pub fn entry(
@@ -43,7 +44,7 @@ fn operations(
     items: &[u32],
     values: &[i32],
 ) -> usize
-    requires { ⌜ (at + 192 ≤ length (now out)) × (length (now kinds) ≡ 8) × (length (now items) ≡ 8) × (length (now values) ≡ 8) ⌝ }
+    requires { ⌜ RoomForOperations (now out) at (now kinds) (now items) (now values) ⌝ }
     ensures { λ r. ⌜ Put 192 (now (out .entry)) (now (out .exit)) at r (opsText (firstOperations count (now (kinds .entry)) (now (items .entry)) (now (values .entry)))) ⌝ }
 {
     let n = shorter(count);
@@ -184,7 +185,7 @@ fn separator(i: usize) -> u8
 
 // The first `count` values, or all eight, each behind a space.
 fn values(out: &mut [u8], at: usize, count: usize, list: &[i32]) -> usize
-    requires { ⌜ (at + 96 ≤ length (now out)) × (length (now list) ≡ 8) ⌝ }
+    requires { ⌜ RoomForValues (now out) at (now list) ⌝ }
     ensures { λ r. ⌜ Put 96 (now (out .entry)) (now (out .exit)) at r (valuesText (take count (now (list .entry)))) ⌝ }
 {
     let n = shorter(count);

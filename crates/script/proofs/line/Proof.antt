@@ -26,7 +26,7 @@ returns-2 c =
 called-requires : tie.Need-called-requires
 called-requires c κs =
     let T = c .before .before .before .before .before .before .args .text .now in
-    (omega (arith, place-within 32 T, c .before .before .before .find .ensures, c .before .before .if2 .left), omega arith)
+    record { some = omega (arith, place-within 32 T, c .before .before .before .find .ensures, c .before .before .if2 .left); short = omega arith }
 
 returns-3 : tie.Need-returns-3
 returns-3 c =

@@ -56,7 +56,7 @@ commit-at-requires c κs =
     let s = c .before .before .before .before .natural .result in
     let p = c .before .before .before .before .before .before .find .result in
     let long = natural-long (take (p - 2) (drop 2 T)) (s .value) (is-some (s .ok) (s .value) (c .before .before .if2 .left) ∙ c .before .before .before .before .natural .ensures) in
-    (c .before .before .before .before .before .before .before .before .before .pre, omega (arith, length-take (p - 2) (drop 2 T)))
+    record { short = c .before .before .before .before .before .before .before .before .before .pre; behind = omega (arith, length-take (p - 2) (drop 2 T)) }
 
 returns-3 : tie.Need-returns-3
 returns-3 c =

@@ -47,7 +47,7 @@ set-up-numbers-requires c κs =
     let n = c .before .before .before .before .before .before .before .numbers in
     let size : length (n .last .1 .1 .0) ≡ 256 = n .kept .1 .1 .0 in
     let taken : length (take (n .result .count) (n .last .1 .1 .0)) ≡ n .result .count = length-take-le (n .result .count) (n .last .1 .1 .0) (omega (arith, n .ensures .1)) in
-    (omega arith, omega (arith, n .ensures .1))
+    record { two-there = omega arith; few = omega (arith, n .ensures .1) }
 
 returns-3 : tie.Need-returns-3
 returns-3 c = let n = c .before .before .before .before .before .before .before .before .numbers in replied-as (on-is (n .result .ok) (take (n .result .count) (n .last .1 .1 .0)) _ setUpOf (n .ensures .0) (c .before .before .before .before .before .if1 .left)) (c .set-up-numbers .ensures)

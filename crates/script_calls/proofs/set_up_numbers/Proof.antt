@@ -44,7 +44,7 @@ returns c =
     let q = c .before .before .before .before .before .before .items in
     let rest : take (length T - 2) (drop 2 T) ≡ drop 2 T = take-all (length T - 2) (drop 2 T) (omega (arith, length-drop 2 T)) in
     let xs = firstItems (q .result .count) (q .last .1 .0) (q .last .1 .1 .0) in
-    replied-none _ (c .before .before .before .before .before .before .before .before .before .before .before .args .state .now) (on-none (q .result .ok) xs (placed (drop 2 T)) (λ (is : List Item). some (setUpWith (getD T 0 0) (getD T 1 0) is)) (q .ensures .0 ∙ ap placed rest) (c .before .before .if1 .taken) ∙ set-up-of T (c .before .before .before .before .before .before .before .before .before .before .before .pre .0)) (c .question .ensures)
+    replied-none _ (c .before .before .before .before .before .before .before .before .before .before .before .args .state .now) (on-none (q .result .ok) xs (placed (drop 2 T)) (λ (is : List Item). some (setUpWith (getD T 0 0) (getD T 1 0) is)) (q .ensures .0 ∙ ap placed rest) (c .before .before .if1 .taken) ∙ set-up-of T (c .before .before .before .before .before .before .before .before .before .before .before .pre .two-there)) (c .question .ensures)
 
 shared-slice-read-set-up : tie.Need-shared-slice-read-set-up
 shared-slice-read-set-up c = search needs
@@ -91,7 +91,7 @@ returns-2 c =
     replied-as
     (set-up-with a b k P M (length-take-le k M (omega (arith, q .ensures .1)) ∙ sym (length-take-le k P (omega (arith, q .ensures .1))))
     ∙ on-is (q .result .ok) (firstItems k P M) (placed (drop 2 T)) (λ (is : List Item). some (setUpWith a b is)) (q .ensures .0 ∙ ap placed rest) (c .before .before .before .before .before .before .before .before .if1 .left)
-    ∙ set-up-of T (c .before .before .before .before .before .before .before .before .before .before .before .before .before .before .before .before .before .pre .0))
+    ∙ set-up-of T (c .before .before .before .before .before .before .before .before .before .before .before .before .before .before .before .before .before .pre .two-there))
     (replied-some (setUp a b (take k P) (take k M)) (c .before .before .set-up .ensures) (put-as (omega arith) (print-number (setUp a b (take k P) (take k M)) (fieldsOf (c .before .before .set-up .result) 0 noStamp []) refl) (c .number .ensures)))
 
 pub set-up-numbers-spec : {M : Type 1} → statement M

@@ -22,7 +22,7 @@ same-length-2 c = search needs
 returns-2 : tie.Need-returns-2
 returns-2 c =
     let n = c .before .before .before .before .before .numbers in
-    let size : length (n .last .1 .1 .0) ≡ 256 = n .kept .1 .1 .0 ∙ c .before .before .before .before .before .before .before .before .before .pre .1 in
+    let size : length (n .last .1 .1 .0) ≡ 256 = n .kept .1 .1 .0 ∙ c .before .before .before .before .before .before .before .before .before .pre .sized in
     exact-is (c .before .before .before .before .before .before .before .before .before .args .k) (n .result .count) (n .result .ok) (n .last .1 .1 .0) _ (n .ensures .0) (c .before .if1 .left) (omega (arith, n .ensures .1))
 
 pub exactly-spec : {M : Type 1} → statement M

@@ -43,7 +43,7 @@ shared-slice-read-operation-2 : tie.Need-shared-slice-read-operation-2 Inv-loop 
 shared-slice-read-operation-2 c = search needs
 
 operation-requires : tie.Need-operation-requires Inv-loop μ-loop
-operation-requires c κs = omega (arith, put-end (c .before .before .before .before .before .loop .inv .3), c .before .before .before .before .before .loop .inv .1, c .before .before .before .before .before .loop .inv .2, c .before .before .before .before .before .before .before .before .before .before .pre .0)
+operation-requires c κs = omega (arith, put-end (c .before .before .before .before .before .loop .inv .3), c .before .before .before .before .before .loop .inv .1, c .before .before .before .before .before .loop .inv .2, c .before .before .before .before .before .before .before .before .before .before .pre .room)
 
 add-i : tie.Need-add-i Inv-loop μ-loop
 add-i c = search needs
@@ -59,11 +59,11 @@ loop-again c =
     let is = A .items .now in
     let vs = A .values .now in
     let v = getD vs (l .i) (pos 0) in
-    let next = ops-next ks is vs (l .i) (omega (arith, l .inv .1, c .before .before .before .before .before .before .before .before .before .before .before .before .before .pre .1)) (omega (arith, l .inv .1, c .before .before .before .before .before .before .before .before .before .before .before .before .before .pre .2)) (omega (arith, l .inv .1, c .before .before .before .before .before .before .before .before .before .before .before .before .before .pre .3)) _ (toZ-ofZ w32 v (record { sfits = c .before .before .before .before .before .before .v .given })) in (
+    let next = ops-next ks is vs (l .i) (omega (arith, l .inv .1, c .before .before .before .before .before .before .before .before .before .before .before .before .before .pre .kinds-sized)) (omega (arith, l .inv .1, c .before .before .before .before .before .before .before .before .before .before .before .before .before .pre .items-sized)) (omega (arith, l .inv .1, c .before .before .before .before .before .before .before .before .before .before .before .before .before .pre .values-sized)) _ (toZ-ofZ w32 v (record { sfits = c .before .before .before .before .before .before .v .given })) in (
       omega arith,
       l .inv .1,
       c .before .before .operation .kept .0 ∙ l .inv .2,
-      put-as (omega arith) (spaced-next opText (firstOperations (l .i) ks is vs) (firstOperations (l .i + 1) ks is vs) _ next) (put-then (omega (arith, c .before .before .before .before .before .before .before .before .before .before .before .before .before .pre .0, l .inv .1)) (l .inv .3) (c .before .before .operation .ensures)),
+      put-as (omega arith) (spaced-next opText (firstOperations (l .i) ks is vs) (firstOperations (l .i + 1) ks is vs) _ next) (put-then (omega (arith, c .before .before .before .before .before .before .before .before .before .before .before .before .before .pre .room, l .inv .1)) (l .inv .3) (c .before .before .operation .ensures)),
     )
 
 same-length : tie.Need-same-length Inv-loop μ-loop
@@ -73,7 +73,7 @@ returns : tie.Need-returns Inv-loop μ-loop
 returns c =
     let A = c .before .before .before .before .before .before .args in
     let l = c .before .loop in
-    put-as (omega (arith, l .inv .1)) (ap opsText (ops-least (A .kinds .now) (A .items .now) (A .values .now) (l .i) (A .count) 8 (omega (arith, l .inv .1)) (c .before .before .before .before .before .before .pre .1) (c .before .before .before .before .before .before .pre .2) (c .before .before .before .before .before .before .pre .3))) (l .inv .3)
+    put-as (omega (arith, l .inv .1)) (ap opsText (ops-least (A .kinds .now) (A .items .now) (A .values .now) (l .i) (A .count) 8 (omega (arith, l .inv .1)) (c .before .before .before .before .before .before .pre .kinds-sized) (c .before .before .before .before .before .before .pre .items-sized) (c .before .before .before .before .before .before .pre .values-sized))) (l .inv .3)
 
 pub operations-spec : {M : Type 1} → statement M
 operations-spec =
