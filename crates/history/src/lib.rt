@@ -12,6 +12,7 @@ ghost use lib.ListN.{length};
 ghost use Rattle.history_file.specs.File.{mark, trailerSize};
 ghost use Rattle.history_file.specs.Reading.{same, distanceRead, countRead, sitesRead, itemsRead, trailerFits, partRead, valid as validOf, fileNumber, historyRead, startOf};
 ghost use Rattle.history_file.specs.Promises.{partAnswered, stepNumbered, Gives};
+ghost use Rattle.history.specs.Asked.{Reached};
 
 // Whether four bytes are the mark.
 fn marked(b: &[u8]) -> bool
@@ -65,7 +66,7 @@ fn items_said(b: &[u8]) -> u32
 
 // The part from the first record to the trailer, found by the distance.
 fn part_of(b: &[u8]) -> &[u8]
-    requires { ⌜ (trailerSize ≤ length (now b)) × (trailerSize ≤ distanceRead (now b)) × (distanceRead (now b) ≤ length (now b)) ⌝ }
+    requires { ⌜ Reached (now b) ⌝ }
     ensures { λ r. ⌜ now r ≡ partRead (now (b .entry)) ⌝ }
 {
     let a = b.len() - distance(b);
@@ -98,7 +99,7 @@ fn trailer_fits(b: &[u8]) -> bool
 
 // Whether the bytes from the distance on are a valid file.
 fn valid(b: &[u8]) -> bool
-    requires { ⌜ (trailerSize ≤ length (now b)) × (trailerSize ≤ distanceRead (now b)) × (distanceRead (now b) ≤ length (now b)) ⌝ }
+    requires { ⌜ Reached (now b) ⌝ }
     ensures { λ r. ⌜ r ≡ validOf (now (b .entry)) ⌝ }
 {
     if !trailer_fits(b) {

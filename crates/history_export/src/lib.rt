@@ -10,12 +10,13 @@ ghost use Prim.Native.Nat.{_+_, _*_, _≤_};
 ghost use lib.ListN.{length};
 ghost use Rattle.timestamp.specs.Timestamp.{stampOf};
 ghost use Rattle.site.specs.InWords.{opsIn};
-ghost use Rattle.limits.specs.Limits.{opsMost, recordsMost};
+ghost use Rattle.limits.specs.Limits.{opsMost};
 ghost use Rattle.network_layout.specs.InWords.{networkIn, meaning};
 ghost use Rattle.history_file.specs.Bytes.{unitSize, joined};
 ghost use Rattle.history_file.specs.File.{pairBytes, opBytes, recordBytes, trailer, trailerSize};
 ghost use Rattle.history_file.specs.Entries.{entryOf};
 ghost use Rattle.history_file.specs.Promises.{exportOf};
+ghost use Rattle.history_export.specs.Asked.{ForOps, ForRecord, Counted, ForRecords};
 
 // The tuples of a timestamp, eight bytes each.
 fn put_tuples(b: &mut [u8], t: Timestamp)
@@ -36,7 +37,7 @@ fn put_tuples(b: &mut [u8], t: Timestamp)
 
 // The first n operations of the words, eight bytes each.
 fn put_operations(b: &mut [u8], ops: &[u32], n: usize)
-    requires { ⌜ (length (now b) ≡ n * unitSize) × (n ≤ opsMost) ⌝ }
+    requires { ⌜ ForOps (now b) n ⌝ }
     ensures { λ r. ⌜ now (b .exit) ≡ joined opBytes (opsIn n (now (ops .entry))) ⌝ }
 {
     let mut i = 0usize;
@@ -62,7 +63,7 @@ fn size(r: Entry) -> usize
 
 // A record over exactly its bytes.
 fn put_record(b: &mut [u8], r: Entry)
-    requires { ⌜ (length (now b) ≡ length (recordBytes (entryOf r))) × (r .count ≤ opsMost) ⌝ }
+    requires { ⌜ ForRecord (now b) r ⌝ }
     ensures { λ s. ⌜ now (b .exit) ≡ recordBytes (entryOf r) ⌝ }
 {
     let t = r.stamp;
@@ -86,7 +87,7 @@ fn short(n: usize) -> u32
 
 // How many bytes the n records of a state take.
 fn body_size(state: &[u32; WORDS], n: usize) -> usize
-    requires { ⌜ (n ≡ length (networkIn (now state) .history)) × (n ≤ recordsMost) ⌝ }
+    requires { ⌜ Counted (now state) n ⌝ }
     ensures { λ r. ⌜ (r ≡ length (joined recordBytes (networkIn (now (state .entry)) .history))) × (r ≤ 34816) ⌝ }
 {
     let mut sum = 0usize;
@@ -100,7 +101,7 @@ fn body_size(state: &[u32; WORDS], n: usize) -> usize
 
 // The n records of a state over exactly their bytes.
 fn put_records(b: &mut [u8], state: &[u32; WORDS], n: usize)
-    requires { ⌜ (n ≡ length (networkIn (now state) .history)) × (length (now b) ≡ length (joined recordBytes (networkIn (now state) .history))) ⌝ }
+    requires { ⌜ ForRecords (now b) (now state) n ⌝ }
     ensures { λ r. ⌜ now (b .exit) ≡ joined recordBytes (networkIn (now (state .entry)) .history) ⌝ }
 {
     let mut at = 0usize;

@@ -6,19 +6,20 @@ use timestamp::Timestamp;
 use timestamp::Tuple;
 ghost use mathlib.Core.Path.{_≡_};
 ghost use mathlib.Core.List.{map};
-ghost use Prim.Native.Nat.{_*_, _≤_, _<_};
+ghost use Prim.Native.Nat.{_*_, _≤_};
 ghost use lib.ListN.{length, getD};
 ghost use Rattle.words.specs.Words.{chunks};
-ghost use Rattle.timestamp.specs.Timestamp.{stampOf, pairOf, noPair, room};
+ghost use Rattle.timestamp.specs.Timestamp.{stampOf, pairOf, noPair};
 ghost use Rattle.limits.specs.Limits.{opsMost};
 ghost use Rattle.history_file.specs.Bytes.{unitSize};
-ghost use Rattle.history_file.specs.Reading.{pairRead, opRead, tupleCount, opCount, sizeRead, recordRead};
+ghost use Rattle.history_file.specs.Reading.{pairRead, opRead, recordRead};
 ghost use Rattle.site.specs.Operations.{noOp};
 ghost use Rattle.history_file.specs.Promises.{placesFrom, noStep, stepOf, Gives};
+ghost use Rattle.history_record.specs.Asked.{Tuples, AtTuple, AtOp, Whole};
 
 // Tuple i of n, and zeros past the last.
 fn tuple_at(b: &[u8], n: usize, i: usize) -> Tuple
-    requires { ⌜ (n * unitSize ≤ length (now b)) × (i < room) ⌝ }
+    requires { ⌜ AtTuple (now b) n i ⌝ }
     ensures { λ r. ⌜ pairOf r ≡ getD (map pairRead (chunks unitSize n (now (b .entry)))) i noPair ⌝ }
 {
     if i < n {
@@ -36,7 +37,7 @@ fn tuple_at(b: &[u8], n: usize, i: usize) -> Tuple
 
 // The timestamp of n tuples.
 fn stamp(b: &[u8], n: usize, epoch: u32) -> Timestamp
-    requires { ⌜ (n * unitSize ≤ length (now b)) × (n ≤ room) ⌝ }
+    requires { ⌜ Tuples (now b) n ⌝ }
     ensures { λ r. ⌜ stampOf r ≡ record { epoch = epoch; tuples = map pairRead (chunks unitSize n (now (b .entry))) } ⌝ }
 {
     Timestamp {
@@ -57,7 +58,7 @@ fn stamp(b: &[u8], n: usize, epoch: u32) -> Timestamp
 
 // The kind, the item and the value of operation i of n; 0 past the last.
 fn kind_at(b: &[u8], n: usize, i: usize) -> u8
-    requires { ⌜ (n * unitSize ≤ length (now b)) × (i < opsMost) ⌝ }
+    requires { ⌜ AtOp (now b) n i ⌝ }
     ensures { λ r. ⌜ r ≡ getD (map opRead (chunks unitSize n (now (b .entry)))) i noOp .kind ⌝ }
 {
     if i < n {
@@ -67,7 +68,7 @@ fn kind_at(b: &[u8], n: usize, i: usize) -> u8
 }
 
 fn item_at(b: &[u8], n: usize, i: usize) -> u32
-    requires { ⌜ (n * unitSize ≤ length (now b)) × (i < opsMost) ⌝ }
+    requires { ⌜ AtOp (now b) n i ⌝ }
     ensures { λ r. ⌜ r ≡ getD (map opRead (chunks unitSize n (now (b .entry)))) i noOp .item ⌝ }
 {
     if i < n {
@@ -77,7 +78,7 @@ fn item_at(b: &[u8], n: usize, i: usize) -> u32
 }
 
 fn value_at(b: &[u8], n: usize, i: usize) -> i32
-    requires { ⌜ (n * unitSize ≤ length (now b)) × (i < opsMost) ⌝ }
+    requires { ⌜ AtOp (now b) n i ⌝ }
     ensures { λ r. ⌜ r ≡ getD (map opRead (chunks unitSize n (now (b .entry)))) i noOp .value ⌝ }
 {
     if i < n {
@@ -137,7 +138,7 @@ fn values(b: &[u8], n: usize) -> [i32; 8]
 
 // The record that the bytes start with.
 fn found(b: &[u8], next: usize) -> Found
-    requires { ⌜ (sizeRead (now b) ≤ length (now b)) × (tupleCount (now b) ≤ room) × (opCount (now b) ≤ opsMost) ⌝ }
+    requires { ⌜ Whole (now b) ⌝ }
     ensures { λ r. ⌜ Gives (record { number = 0; next = next; found = recordRead (now (b .entry)) }) r ⌝ }
 {
     let t = history_validity::count(b, 1);

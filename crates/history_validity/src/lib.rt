@@ -11,6 +11,7 @@ ghost use Rattle.timestamp.specs.Made.{rising as risingOf, madeBy};
 ghost use Rattle.records.specs.Records.{opFits, recordFits};
 ghost use Rattle.history_file.specs.Bytes.{unitSize, padded as paddedOf};
 ghost use Rattle.history_file.specs.Reading.{pairRead, opRead, recordRead, sizeRead, recordValid, countsFit, padsZero, recordsFill};
+ghost use Rattle.history_validity.specs.Asked.{Padding};
 
 // A count in one byte.
 pub fn count(b: &[u8], i: usize) -> usize
@@ -50,7 +51,7 @@ fn counts_fit(tuples: usize, ops: usize) -> bool
 
 // Whether of each of n eights of bytes those from number `from` up to the fourth are 0.
 fn padded(b: &[u8], n: usize, from: usize) -> bool
-    requires { ⌜ (n * unitSize ≤ length (now b)) × (from ≤ 4) ⌝ }
+    requires { ⌜ Padding (now b) n from ⌝ }
     ensures { λ r. ⌜ r ≡ every (paddedOf from) (chunks unitSize n (now (b .entry))) ⌝ }
 {
     let mut i = 0usize;

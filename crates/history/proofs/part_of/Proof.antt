@@ -24,7 +24,7 @@ part-result-end : tie.Need-part-result-end
 part-result-end c = search needs
 
 returns : tie.Need-returns
-returns c = part-is (c .before .before .before .args .b .now) (c .before .distance .result) (c .before .distance .ensures) (omega (arith, c .before .before .before .pre .1, c .before .distance .ensures)) (omega (arith, c .before .before .before .pre .2, c .before .distance .ensures))
+returns c = part-is (c .before .before .before .args .b .now) (c .before .distance .result) (c .before .distance .ensures) (omega (arith, c .before .before .before .pre .low, c .before .distance .ensures)) (omega (arith, c .before .before .before .pre .high, c .before .distance .ensures))
 
 pub part-of-spec : {M : Type 1} → statement M
 part-of-spec =

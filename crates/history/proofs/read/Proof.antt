@@ -23,7 +23,7 @@ returns c = part-none (c .before .before .before .before .args .b .now) (λ e. c
 part-of-requires : tie.Need-part-of-requires
 part-of-requires c κs =
     let a = accepted (c .before .before .before .args .b .now) (sym (c .before .file-number .ensures) ∙ c .if1 .left) in
-    (a .long, a .low, a .high)
+    record { long = a .long; low = a .low; high = a .high }
 
 returns-2 : tie.Need-returns-2
 returns-2 c = c .part-of .ensures ∙ part-read (c .before .before .before .before .args .b .now) (sym (c .before .before .file-number .ensures) ∙ c .before .if1 .left)

@@ -37,7 +37,7 @@ returns-2 c =
 part-of-requires : tie.Need-part-of-requires
 part-of-requires c κs =
     let a = accepted (c .before .before .before .before .before .before .args .b .now) (sym (c .before .before .before .before .check .ensures .0) ∙ c .before .before .if1 .left) in
-    (a .long, a .low, a .high)
+    record { long = a .long; low = a .low; high = a .high }
 
 start-requires : tie.Need-start-requires
 start-requires c κs =

@@ -27,7 +27,7 @@ size-requires : tie.Need-size-requires Inv-loop μ-loop
 size-requires c κs = c .«record» .ensures .few
 
 add-sum : tie.Need-add-sum Inv-loop μ-loop
-add-sum c = omega (arith, c .before .before .before .loop .inv, c .size .ensures .1, c .before .before .before .before .pre .1, c .before .before .loop-test .taken)
+add-sum c = omega (arith, c .before .before .before .loop .inv, c .size .ensures .1, c .before .before .before .before .pre .few, c .before .before .loop-test .taken)
 
 add-i : tie.Need-add-i Inv-loop μ-loop
 add-i c = search needs
@@ -38,13 +38,13 @@ loop-less c = search needs
 loop-again : tie.Need-loop-again Inv-loop μ-loop
 loop-again c =
     let hs = networkIn (c .before .before .before .before .args .state .now) .history in
-    let less : c .before .before .before .loop .i < length hs = omega (arith, c .before .before .before .before .pre .0, c .before .before .loop-test .taken) in
+    let less : c .before .before .before .loop .i < length hs = omega (arith, c .before .before .before .before .pre .all, c .before .before .loop-test .taken) in
     (omega (arith, c .before .before .loop-test .taken), body-more hs (c .before .before .before .loop .i) less (c .before .«record» .result) (c .before .«record» .ensures) (c .before .before .before .loop .sum) (c .size .result) (c .before .before .before .loop .inv .1) (c .size .ensures .0), omega (arith, c .before .before .before .loop .inv .2, c .size .ensures .1))
 
 returns : tie.Need-returns Inv-loop μ-loop
 returns c =
     let hs = networkIn (c .before .before .args .state .now) .history in
-    (body-done hs (c .before .loop .i) (c .before .loop .sum) (omega (arith, c .before .before .pre .0, c .loop-test .left)) (c .before .loop .inv .1), omega (arith, c .before .loop .inv, c .before .before .pre .1))
+    (body-done hs (c .before .loop .i) (c .before .loop .sum) (omega (arith, c .before .before .pre .all, c .loop-test .left)) (c .before .loop .inv .1), omega (arith, c .before .loop .inv, c .before .before .pre .few))
 
 pub body-size-spec : {M : Type 1} → statement M
 body-size-spec =

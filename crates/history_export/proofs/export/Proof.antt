@@ -28,7 +28,7 @@ body-size-requires : tie.Need-body-size-requires
 body-size-requires c κs =
     let A = c .before .before .before .before .before .args in
     let e = sym (c .before .before .before .well-shaped .ensures) ∙ not-false (c .before .before .before .well-shaped .result) (c .before .before .if1 .left) in
-    (omega (arith, c .wide .ensures, c .before .holdings .ensures .2), omega (arith, c .wide .ensures, c .before .holdings .ensures .2, few-records (A .state .now) (A .b .now) e))
+    record { all = omega (arith, c .wide .ensures, c .before .holdings .ensures .2); few = omega (arith, c .wide .ensures, c .before .holdings .ensures .2, few-records (A .state .now) (A .b .now) e) }
 
 add-e : tie.Need-add-e
 add-e c = search needs
@@ -52,7 +52,7 @@ put-records-requires : tie.Need-put-records-requires
 put-records-requires c κs =
     let A = c .before .before .before .before .before .before .before .before .args in
     let e = sym (c .before .before .before .before .before .before .well-shaped .ensures) ∙ not-false (c .before .before .before .before .before .before .well-shaped .result) (c .before .before .before .before .before .if1 .left) in
-    (omega (arith, c .before .before .before .wide .ensures, c .before .before .before .before .holdings .ensures .2), body-lent (A .state .now) (A .b .now) e (c .before .before .body-size .result) (c .before .before .body-size .ensures .0) (c .before .if2 .left))
+    record { all = omega (arith, c .before .before .before .wide .ensures, c .before .before .before .before .holdings .ensures .2); sized = body-lent (A .state .now) (A .b .now) e (c .before .before .body-size .result) (c .before .before .body-size .ensures .0) (c .before .if2 .left) }
 
 sub-put-trailer : tie.Need-sub-put-trailer
 sub-put-trailer c = search needs

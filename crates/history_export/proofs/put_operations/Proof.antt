@@ -79,7 +79,7 @@ loop-again c =
     let ys = c .before .before .put-unit .last .0 in
     let h = c .before .before .before .before .before .before .before .before .loop .inv in
     let is = c .before .before .put-unit .ensures ∙ op-written (A .n) (A .ops .now) i (c .before .before .before .before .before .before .before .loop-test .taken) _ _ _ (c .before .before .before .before .before .before .word .ensures) (c .before .before .before .before .before .word2 .ensures) (c .before .before .before .before .word3 .ensures) (c .before .before .before .before .word3 .ok) in
-    let long : length (A .b .now) ≡ length os * unitSize = omega (arith, ops-length (A .n) (A .ops .now), c .before .before .before .before .before .before .before .before .before .before .before .pre .0) in
+    let long : length (A .b .now) ≡ length os * unitSize = omega (arith, ops-length (A .n) (A .ops .now), c .before .before .before .before .before .before .before .before .before .before .before .pre .sized) in
     let less : c .before .before .before .before .before .before .before .before .loop .i < length os = omega (arith, ops-length (A .n) (A .ops .now), c .before .before .before .before .before .before .before .loop-test .taken) in
     (omega (arith, c .before .before .before .before .before .before .before .loop-test .taken), units-length opBytes op-size (opIn []) os (A .b .now) long i less w ys (h .1) is, units-next opBytes op-size (opIn []) os (A .b .now) long i less w ys (h .2) is)
 
@@ -90,7 +90,7 @@ returns : tie.Need-returns Inv-loop μ-loop
 returns c =
     let A = c .before .before .before .before .args in
     let os = opsIn (A .n) (A .ops .now) in
-    let long : length (A .b .now) ≡ length os * unitSize = omega (arith, ops-length (A .n) (A .ops .now), c .before .before .before .before .pre .0) in
+    let long : length (A .b .now) ≡ length os * unitSize = omega (arith, ops-length (A .n) (A .ops .now), c .before .before .before .before .pre .sized) in
     units-all opBytes op-size (opIn []) os (A .b .now) long (c .before .loop .i) (omega (arith, ops-length (A .n) (A .ops .now), c .loop-test .left)) (c .before .loop .b) (c .before .loop .inv .2)
 
 pub put-operations-spec : {M : Type 1} → statement M

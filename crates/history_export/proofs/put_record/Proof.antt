@@ -47,7 +47,7 @@ part-put-unit-start : tie.Need-part-put-unit-start
 part-put-unit-start c = search needs
 
 part-put-unit-end : tie.Need-part-put-unit-end
-part-put-unit-end c = omega (arith, c .before .before .before .before .pre .0, record-size (entryOf (c .before .before .before .before .args .r)))
+part-put-unit-end c = omega (arith, c .before .before .before .before .pre .sized, record-size (entryOf (c .before .before .before .before .args .r)))
 
 short-requires : tie.Need-short-requires
 short-requires c κs = search needs
@@ -67,7 +67,7 @@ part-put-tuples-start c = search needs
 part-put-tuples-end : tie.Need-part-put-tuples-end
 part-put-tuples-end c =
     let A = c .before .before .before .before .before .before .before .before .before .before .args in
-    omega (arith, head-length (A .b .now) (entryOf (A .r)) (c .before .before .before .before .before .before .before .size .result) (A .r .count) (tuples-are (c .before .before .before .before .before .before .before)) (ops-are (c .before .before .before .before .before .before .before .before .before .before)) (c .before .before .before .before .before .before .before .before .before .before .pre .0) (c .before .before .put-unit .last .0) [] [] (headed (c .before .before)), c .before .before .before .before .before .before .before .before .before .before .pre .0, record-size (entryOf (A .r)), tuples-are (c .before .before .before .before .before .before .before))
+    omega (arith, head-length (A .b .now) (entryOf (A .r)) (c .before .before .before .before .before .before .before .size .result) (A .r .count) (tuples-are (c .before .before .before .before .before .before .before)) (ops-are (c .before .before .before .before .before .before .before .before .before .before)) (c .before .before .before .before .before .before .before .before .before .before .pre .sized) (c .before .before .put-unit .last .0) [] [] (headed (c .before .before)), c .before .before .before .before .before .before .before .before .before .before .pre .sized, record-size (entryOf (A .r)), tuples-are (c .before .before .before .before .before .before .before))
 
 put-tuples-requires : tie.Need-put-tuples-requires
 put-tuples-requires c κs = search needs
@@ -81,7 +81,7 @@ part-put-operations-start c = search needs
 part-put-operations-end : tie.Need-part-put-operations-end
 part-put-operations-end c =
     let A = c .before .before .before .before .before .before .before .before .before .before .before .before .before .before .args in
-    omega (arith, tuples-length (A .b .now) (entryOf (A .r)) (c .before .before .before .before .before .before .before .before .before .before .before .size .result) (A .r .count) (tuples-are (c .before .before .before .before .before .before .before .before .before .before .before)) (ops-are (c .before .before .before .before .before .before .before .before .before .before .before .before .before .before)) (c .before .before .before .before .before .before .before .before .before .before .before .before .before .before .pre .0) (c .before .before .before .before .before .before .put-unit .last .0) (c .before .before .put-tuples .last .0) [] (headed (c .before .before .before .before .before .before)) (c .before .before .put-tuples .ensures), c .before .before .before .before .before .before .before .before .before .before .before .before .before .before .pre .0, record-size (entryOf (A .r)), tuples-are (c .before .before .before .before .before .before .before .before .before .before .before), ops-are (c .before .before .before .before .before .before .before .before .before .before .before .before .before .before))
+    omega (arith, tuples-length (A .b .now) (entryOf (A .r)) (c .before .before .before .before .before .before .before .before .before .before .before .size .result) (A .r .count) (tuples-are (c .before .before .before .before .before .before .before .before .before .before .before)) (ops-are (c .before .before .before .before .before .before .before .before .before .before .before .before .before .before)) (c .before .before .before .before .before .before .before .before .before .before .before .before .before .before .pre .sized) (c .before .before .before .before .before .before .put-unit .last .0) (c .before .before .put-tuples .last .0) [] (headed (c .before .before .before .before .before .before)) (c .before .before .put-tuples .ensures), c .before .before .before .before .before .before .before .before .before .before .before .before .before .before .pre .sized, record-size (entryOf (A .r)), tuples-are (c .before .before .before .before .before .before .before .before .before .before .before), ops-are (c .before .before .before .before .before .before .before .before .before .before .before .before .before .before))
 
 slice-aggregate-put-operations : tie.Need-slice-aggregate-put-operations
 slice-aggregate-put-operations c = search needs
@@ -95,7 +95,7 @@ same-length c = search needs
 returns : tie.Need-returns
 returns c =
     let A = c .before .before .before .before .before .before .before .before .before .before .before .before .before .before .before .before .before .before .before .args in
-    record-written (A .b .now) (entryOf (A .r)) (c .before .before .before .before .before .before .before .before .before .before .before .before .before .before .before .before .size .result) (A .r .count) (tuples-are (c .before .before .before .before .before .before .before .before .before .before .before .before .before .before .before .before)) (ops-are (c .before .before .before .before .before .before .before .before .before .before .before .before .before .before .before .before .before .before .before)) (c .before .before .before .before .before .before .before .before .before .before .before .before .before .before .before .before .before .before .before .pre .0) (c .before .before .before .before .before .before .before .before .before .before .before .put-unit .last .0) (c .before .before .before .before .before .before .before .put-tuples .last .0) (c .before .before .put-operations .last .0) (headed (c .before .before .before .before .before .before .before .before .before .before .before)) (c .before .before .before .before .before .before .before .put-tuples .ensures) (c .before .before .put-operations .ensures)
+    record-written (A .b .now) (entryOf (A .r)) (c .before .before .before .before .before .before .before .before .before .before .before .before .before .before .before .before .size .result) (A .r .count) (tuples-are (c .before .before .before .before .before .before .before .before .before .before .before .before .before .before .before .before)) (ops-are (c .before .before .before .before .before .before .before .before .before .before .before .before .before .before .before .before .before .before .before)) (c .before .before .before .before .before .before .before .before .before .before .before .before .before .before .before .before .before .before .before .pre .sized) (c .before .before .before .before .before .before .before .before .before .before .before .put-unit .last .0) (c .before .before .before .before .before .before .before .put-tuples .last .0) (c .before .before .put-operations .last .0) (headed (c .before .before .before .before .before .before .before .before .before .before .before)) (c .before .before .before .before .before .before .before .put-tuples .ensures) (c .before .before .put-operations .ensures)
 
 pub put-record-spec : {M : Type 1} → statement M
 put-record-spec =

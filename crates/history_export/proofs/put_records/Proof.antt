@@ -31,8 +31,8 @@ size-requires c κs = c .«record» .ensures .few
 add-e : tie.Need-add-e Inv-loop μ-loop
 add-e c =
     let hs = networkIn (c .before .before .before .before .before .args .state .now) .history in
-    let less : c .before .before .before .loop .i < length hs = omega (arith, c .before .before .before .before .before .pre .0, c .before .before .loop-test .taken) in
-    omega (arith, body-room hs (c .before .before .before .loop .i) less (c .before .«record» .result) (c .before .«record» .ensures) (c .before .before .before .loop .at) (c .size .result) (c .before .before .before .loop .inv .1) (c .size .ensures .0), c .before .before .before .before .before .pre .1)
+    let less : c .before .before .before .loop .i < length hs = omega (arith, c .before .before .before .before .before .pre .all, c .before .before .loop-test .taken) in
+    omega (arith, body-room hs (c .before .before .before .loop .i) less (c .before .«record» .result) (c .before .«record» .ensures) (c .before .before .before .loop .at) (c .size .result) (c .before .before .before .loop .inv .1) (c .size .ensures .0), c .before .before .before .before .before .pre .sized)
 
 sub-put-record : tie.Need-sub-put-record Inv-loop μ-loop
 sub-put-record c = search needs
@@ -43,15 +43,15 @@ part-put-record-start c = search needs
 part-put-record-end : tie.Need-part-put-record-end Inv-loop μ-loop
 part-put-record-end c =
     let hs = networkIn (c .before .before .before .before .before .args .state .now) .history in
-    let less : c .before .before .before .loop .i < length hs = omega (arith, c .before .before .before .before .before .pre .0, c .before .before .loop-test .taken) in
-    omega (arith, body-room hs (c .before .before .before .loop .i) less (c .before .«record» .result) (c .before .«record» .ensures) (c .before .before .before .loop .at) (c .size .result) (c .before .before .before .loop .inv .1) (c .size .ensures .0), c .before .before .before .before .before .pre .1, c .before .before .before .loop .inv .2)
+    let less : c .before .before .before .loop .i < length hs = omega (arith, c .before .before .before .before .before .pre .all, c .before .before .loop-test .taken) in
+    omega (arith, body-room hs (c .before .before .before .loop .i) less (c .before .«record» .result) (c .before .«record» .ensures) (c .before .before .before .loop .at) (c .size .result) (c .before .before .before .loop .inv .1) (c .size .ensures .0), c .before .before .before .before .before .pre .sized, c .before .before .before .loop .inv .2)
 
 put-record-requires : tie.Need-put-record-requires Inv-loop μ-loop
 put-record-requires c κs =
     let hs = networkIn (c .before .before .before .before .before .before .args .state .now) .history in
-    let less : c .before .before .before .before .loop .i < length hs = omega (arith, c .before .before .before .before .before .before .pre .0, c .before .before .before .loop-test .taken) in
+    let less : c .before .before .before .before .loop .i < length hs = omega (arith, c .before .before .before .before .before .before .pre .all, c .before .before .before .loop-test .taken) in
     let room = body-room hs (c .before .before .before .before .loop .i) less (c .before .before .«record» .result) (c .before .before .«record» .ensures) (c .before .before .before .before .loop .at) (c .before .size .result) (c .before .before .before .before .loop .inv .1) (c .before .size .ensures .0) in
-    (ap length (lent-part (c .before .before .before .before .loop .b) (c .before .before .before .before .loop .at) (c .before .size .result)) ∙ part-length (c .before .before .before .before .loop .b) (c .before .before .before .before .loop .at) (c .before .size .result) (omega (arith, room, c .before .before .before .before .before .before .pre .1, c .before .before .before .before .loop .inv .2)) ∙ c .before .size .ensures .0, c .before .before .«record» .ensures .few)
+    record { sized = ap length (lent-part (c .before .before .before .before .loop .b) (c .before .before .before .before .loop .at) (c .before .size .result)) ∙ part-length (c .before .before .before .before .loop .b) (c .before .before .before .before .loop .at) (c .before .size .result) (omega (arith, room, c .before .before .before .before .before .before .pre .sized, c .before .before .before .before .loop .inv .2)) ∙ c .before .size .ensures .0; few = c .before .before .«record» .ensures .few }
 
 add-i : tie.Need-add-i Inv-loop μ-loop
 add-i c = search needs
@@ -63,8 +63,8 @@ loop-again : tie.Need-loop-again Inv-loop μ-loop
 loop-again c =
     let hs = networkIn (c .before .before .before .before .before .before .before .before .before .args .state .now) .history in
     let b = c .before .before .before .before .before .before .before .before .before .args .b .now in
-    let less : c .before .before .before .before .before .before .before .loop .i < length hs = omega (arith, c .before .before .before .before .before .before .before .before .before .pre .0, c .before .before .before .before .before .before .loop-test .taken) in
-    (omega (arith, c .before .before .before .before .before .before .loop-test .taken), body-more hs (c .before .before .before .before .before .before .before .loop .i) less (c .before .before .before .before .before .«record» .result) (c .before .before .before .before .before .«record» .ensures) (c .before .before .before .before .before .before .before .loop .at) (c .before .before .before .before .size .result) (c .before .before .before .before .before .before .before .loop .inv .1) (c .before .before .before .before .size .ensures .0), body-put-length hs (c .before .before .before .before .before .before .before .loop .i) less (c .before .before .before .before .before .«record» .result) (c .before .before .before .before .before .«record» .ensures) (c .before .before .before .before .before .before .before .loop .at) (c .before .before .before .before .size .result) (c .before .before .before .before .before .before .before .loop .inv .1) (c .before .before .before .before .size .ensures .0) b (c .before .before .before .before .before .before .before .loop .b) (c .before .before .put-record .last .0) (c .before .before .before .before .before .before .before .before .before .pre .1) (c .before .before .before .before .before .before .before .loop .inv .2) (c .before .before .put-record .ensures), body-put hs (c .before .before .before .before .before .before .before .loop .i) less (c .before .before .before .before .before .«record» .result) (c .before .before .before .before .before .«record» .ensures) (c .before .before .before .before .before .before .before .loop .at) (c .before .before .before .before .size .result) (c .before .before .before .before .before .before .before .loop .inv .1) (c .before .before .before .before .size .ensures .0) b (c .before .before .before .before .before .before .before .loop .b) (c .before .before .put-record .last .0) (c .before .before .before .before .before .before .before .before .before .pre .1) (c .before .before .before .before .before .before .before .loop .inv .3) (c .before .before .put-record .ensures))
+    let less : c .before .before .before .before .before .before .before .loop .i < length hs = omega (arith, c .before .before .before .before .before .before .before .before .before .pre .all, c .before .before .before .before .before .before .loop-test .taken) in
+    (omega (arith, c .before .before .before .before .before .before .loop-test .taken), body-more hs (c .before .before .before .before .before .before .before .loop .i) less (c .before .before .before .before .before .«record» .result) (c .before .before .before .before .before .«record» .ensures) (c .before .before .before .before .before .before .before .loop .at) (c .before .before .before .before .size .result) (c .before .before .before .before .before .before .before .loop .inv .1) (c .before .before .before .before .size .ensures .0), body-put-length hs (c .before .before .before .before .before .before .before .loop .i) less (c .before .before .before .before .before .«record» .result) (c .before .before .before .before .before .«record» .ensures) (c .before .before .before .before .before .before .before .loop .at) (c .before .before .before .before .size .result) (c .before .before .before .before .before .before .before .loop .inv .1) (c .before .before .before .before .size .ensures .0) b (c .before .before .before .before .before .before .before .loop .b) (c .before .before .put-record .last .0) (c .before .before .before .before .before .before .before .before .before .pre .sized) (c .before .before .before .before .before .before .before .loop .inv .2) (c .before .before .put-record .ensures), body-put hs (c .before .before .before .before .before .before .before .loop .i) less (c .before .before .before .before .before .«record» .result) (c .before .before .before .before .before .«record» .ensures) (c .before .before .before .before .before .before .before .loop .at) (c .before .before .before .before .size .result) (c .before .before .before .before .before .before .before .loop .inv .1) (c .before .before .before .before .size .ensures .0) b (c .before .before .before .before .before .before .before .loop .b) (c .before .before .put-record .last .0) (c .before .before .before .before .before .before .before .before .before .pre .sized) (c .before .before .before .before .before .before .before .loop .inv .3) (c .before .before .put-record .ensures))
 
 same-length : tie.Need-same-length Inv-loop μ-loop
 same-length c = c .before .loop .inv .2
@@ -72,7 +72,7 @@ same-length c = c .before .loop .inv .2
 returns : tie.Need-returns Inv-loop μ-loop
 returns c =
     let hs = networkIn (c .before .before .before .args .state .now) .history in
-    body-all hs (c .before .loop .i) (c .before .loop .at) (omega (arith, c .before .before .before .pre .0, c .loop-test .left)) (c .before .loop .inv .1) (c .before .before .before .args .b .now) (c .before .loop .b) (c .before .before .before .pre .1) (c .before .loop .inv .3)
+    body-all hs (c .before .loop .i) (c .before .loop .at) (omega (arith, c .before .before .before .pre .all, c .loop-test .left)) (c .before .loop .inv .1) (c .before .before .before .args .b .now) (c .before .loop .b) (c .before .before .before .pre .sized) (c .before .loop .inv .3)
 
 pub put-records-spec : {M : Type 1} → statement M
 put-records-spec =

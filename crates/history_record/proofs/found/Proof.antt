@@ -23,70 +23,70 @@ add-a c = search needs
 
 sub-kinds : tie.Need-sub-kinds
 unfolding sizeRead
-sub-kinds c = omega (arith, c .before .before .before .pre .0, c .before .count .ensures)
+sub-kinds c = omega (arith, c .before .before .before .pre .inside, c .before .count .ensures)
 
 part-kinds-start : tie.Need-part-kinds-start
 unfolding sizeRead
-part-kinds-start c = omega (arith, c .before .before .before .pre .0, c .before .count .ensures)
+part-kinds-start c = omega (arith, c .before .before .before .pre .inside, c .before .count .ensures)
 
 part-kinds-end : tie.Need-part-kinds-end
 part-kinds-end c = search needs
 
 kinds-requires : tie.Need-kinds-requires
 unfolding sizeRead
-kinds-requires c κs = omega (arith, c .before .before .before .before .pre .0, c .before .before .count .ensures, c .before .count2 .ensures, rest-length (c .before .before .before .before .args .b .now) (8 + 8 * c .before .before .count .result))
+kinds-requires c κs = omega (arith, c .before .before .before .before .pre .inside, c .before .before .count .ensures, c .before .count2 .ensures, rest-length (c .before .before .before .before .args .b .now) (8 + 8 * c .before .before .count .result))
 
 sub-items : tie.Need-sub-items
 unfolding sizeRead
-sub-items c = omega (arith, c .before .before .before .before .before .pre .0, c .before .before .before .count .ensures)
+sub-items c = omega (arith, c .before .before .before .before .before .pre .inside, c .before .before .before .count .ensures)
 
 part-items-start : tie.Need-part-items-start
 unfolding sizeRead
-part-items-start c = omega (arith, c .before .before .before .before .before .pre .0, c .before .before .before .count .ensures)
+part-items-start c = omega (arith, c .before .before .before .before .before .pre .inside, c .before .before .before .count .ensures)
 
 part-items-end : tie.Need-part-items-end
 part-items-end c = search needs
 
 items-requires : tie.Need-items-requires
 unfolding sizeRead
-items-requires c κs = omega (arith, c .before .before .before .before .before .before .pre .0, c .before .before .before .before .count .ensures, c .before .before .before .count2 .ensures, rest-length (c .before .before .before .before .before .before .args .b .now) (8 + 8 * c .before .before .before .before .count .result))
+items-requires c κs = omega (arith, c .before .before .before .before .before .before .pre .inside, c .before .before .before .before .count .ensures, c .before .before .before .count2 .ensures, rest-length (c .before .before .before .before .before .before .args .b .now) (8 + 8 * c .before .before .before .before .count .result))
 
 sub-values : tie.Need-sub-values
 unfolding sizeRead
-sub-values c = omega (arith, c .before .before .before .before .before .before .before .pre .0, c .before .before .before .before .before .count .ensures)
+sub-values c = omega (arith, c .before .before .before .before .before .before .before .pre .inside, c .before .before .before .before .before .count .ensures)
 
 part-values-start : tie.Need-part-values-start
 unfolding sizeRead
-part-values-start c = omega (arith, c .before .before .before .before .before .before .before .pre .0, c .before .before .before .before .before .count .ensures)
+part-values-start c = omega (arith, c .before .before .before .before .before .before .before .pre .inside, c .before .before .before .before .before .count .ensures)
 
 part-values-end : tie.Need-part-values-end
 part-values-end c = search needs
 
 values-requires : tie.Need-values-requires
 unfolding sizeRead
-values-requires c κs = omega (arith, c .before .before .before .before .before .before .before .before .pre .0, c .before .before .before .before .before .before .count .ensures, c .before .before .before .before .before .count2 .ensures, rest-length (c .before .before .before .before .before .before .before .before .args .b .now) (8 + 8 * c .before .before .before .before .before .before .count .result))
+values-requires c κs = omega (arith, c .before .before .before .before .before .before .before .before .pre .inside, c .before .before .before .before .before .before .count .ensures, c .before .before .before .before .before .count2 .ensures, rest-length (c .before .before .before .before .before .before .before .before .args .b .now) (8 + 8 * c .before .before .before .before .before .before .count .result))
 
 field-requires : tie.Need-field-requires
 field-requires c κs = search needs
 
 sub-stamp : tie.Need-sub-stamp
 unfolding sizeRead
-sub-stamp c = omega (arith, c .before .before .before .before .before .before .before .before .before .before .pre .0)
+sub-stamp c = omega (arith, c .before .before .before .before .before .before .before .before .before .before .pre .inside)
 
 part-stamp-start : tie.Need-part-stamp-start
 unfolding sizeRead
-part-stamp-start c = omega (arith, c .before .before .before .before .before .before .before .before .before .before .pre .0)
+part-stamp-start c = omega (arith, c .before .before .before .before .before .before .before .before .before .before .pre .inside)
 
 part-stamp-end : tie.Need-part-stamp-end
 part-stamp-end c = search needs
 
 number-requires : tie.Need-number-requires
 unfolding sizeRead
-number-requires c κs = omega (arith, c .before .before .before .before .before .before .before .before .before .before .before .pre .0)
+number-requires c κs = omega (arith, c .before .before .before .before .before .before .before .before .before .before .before .pre .inside)
 
 stamp-requires : tie.Need-stamp-requires
 unfolding sizeRead
-stamp-requires c κs = (omega (arith, c .before .before .before .before .before .before .before .before .before .before .before .before .pre .0, c .before .before .before .before .before .before .before .before .before .before .count .ensures, rest-length (c .before .before .before .before .before .before .before .before .before .before .before .before .args .b .now) 8), omega (arith, c .before .before .before .before .before .before .before .before .before .before .before .before .pre .1, c .before .before .before .before .before .before .before .before .before .before .count .ensures))
+stamp-requires c κs = record { inside = omega (arith, c .before .before .before .before .before .before .before .before .before .before .before .before .pre .inside, c .before .before .before .before .before .before .before .before .before .before .count .ensures, rest-length (c .before .before .before .before .before .before .before .before .before .before .before .before .args .b .now) 8); few = omega (arith, c .before .before .before .before .before .before .before .before .before .before .before .before .pre .few-tuples, c .before .before .before .before .before .before .before .before .before .before .count .ensures) }
 
 returns : tie.Need-returns
 returns c =

@@ -43,7 +43,8 @@ add-found c =
 found-requires : tie.Need-found-requires
 found-requires c κs =
     let A = c .before .before .before .before .before .args in
-    step-fits (A .part .now) (A .at) (A .sites) (A .items) (c .before .before .before .if1 .left) (c .before .before .step .result) (c .before .before .step .ensures) (c .before .if2 .left)
+    let fits = step-fits (A .part .now) (A .at) (A .sites) (A .items) (c .before .before .before .if1 .left) (c .before .before .step .result) (c .before .before .step .ensures) (c .before .if2 .left) in
+    record { inside = fits .0; few-tuples = fits .1; few-ops = fits .2 }
 
 returns-3 : tie.Need-returns-3
 returns-3 c =

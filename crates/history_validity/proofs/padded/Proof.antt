@@ -48,7 +48,7 @@ zeros-requires c κs = search needs
 returns : tie.Need-returns Inv-loop μ-loop
 returns c =
     let A = c .before .before .before .before .before .before .args in
-    pad-fails (A .b .now) (A .n) (A .from) (c .before .before .before .before .loop .i) (c .before .before .before .before .before .before .pre .1) (c .before .before .before .before .loop .inv .1) (c .before .before .before .loop-test .taken) (c .before .zeros .result) (c .before .zeros .ensures) (not-true (c .before .zeros .result) (c .if1 .taken))
+    pad-fails (A .b .now) (A .n) (A .from) (c .before .before .before .before .loop .i) (c .before .before .before .before .before .before .pre .within) (c .before .before .before .before .loop .inv .1) (c .before .before .before .loop-test .taken) (c .before .zeros .result) (c .before .zeros .ensures) (not-true (c .before .zeros .result) (c .if1 .taken))
 
 add-i : tie.Need-add-i Inv-loop μ-loop
 add-i c = search needs
@@ -59,12 +59,12 @@ loop-less c = search needs
 loop-again : tie.Need-loop-again Inv-loop μ-loop
 loop-again c =
     let A = c .before .before .before .before .before .before .args in
-    (omega arith, pad-passes (A .b .now) (A .n) (A .from) (c .before .before .before .before .loop .i) (c .before .before .before .before .before .before .pre .1) (c .before .before .before .before .loop .inv .1) (c .before .before .before .loop-test .taken) (c .before .zeros .result) (c .before .zeros .ensures) (not-false (c .before .zeros .result) (c .if1 .left)))
+    (omega arith, pad-passes (A .b .now) (A .n) (A .from) (c .before .before .before .before .loop .i) (c .before .before .before .before .before .before .pre .within) (c .before .before .before .before .loop .inv .1) (c .before .before .before .loop-test .taken) (c .before .zeros .result) (c .before .zeros .ensures) (not-false (c .before .zeros .result) (c .if1 .left)))
 
 returns-2 : tie.Need-returns-2 Inv-loop μ-loop
 returns-2 c =
     let A = c .before .before .before .args in
-    pads-done (A .b .now) (A .n) (A .from) (c .before .loop .i) (c .before .before .before .pre .1) (c .before .loop .inv .1) (c .loop-test .left)
+    pads-done (A .b .now) (A .n) (A .from) (c .before .loop .i) (c .before .before .before .pre .within) (c .before .loop .inv .1) (c .loop-test .left)
 
 pub padded-spec : {M : Type 1} → statement M
 padded-spec =

@@ -44,7 +44,7 @@ part-padded-end c = omega (arith, c .before .before .before .before .before .pre
 
 padded-requires : tie.Need-padded-requires
 unfolding sizeRead
-padded-requires c κs = (omega (arith, c .before .before .before .before .before .before .pre, c .before .before .before .before .count .ensures, rest-length (c .before .before .before .before .before .before .args .b .now) 8), omega arith)
+padded-requires c κs = record { inside = omega (arith, c .before .before .before .before .before .before .pre, c .before .before .before .before .count .ensures, rest-length (c .before .before .before .before .before .before .args .b .now) 8); within = omega arith }
 
 returns-2 : tie.Need-returns-2
 returns-2 c =
@@ -65,7 +65,7 @@ part-padded-end-2 c = omega (arith, c .before .before .before .before .before .b
 
 padded-requires-2 : tie.Need-padded-requires-2
 unfolding sizeRead
-padded-requires-2 c κs = (omega (arith, c .before .before .before .before .before .before .before .before .before .pre, c .before .before .before .before .before .before .before .count .ensures, c .before .before .before .before .before .before .count2 .ensures, rest-length (c .before .before .before .before .before .before .before .before .before .args .b .now) (8 + 8 * c .before .before .before .before .before .before .before .count .result)), omega arith)
+padded-requires-2 c κs = record { inside = omega (arith, c .before .before .before .before .before .before .before .before .before .pre, c .before .before .before .before .before .before .before .count .ensures, c .before .before .before .before .before .before .count2 .ensures, rest-length (c .before .before .before .before .before .before .before .before .before .args .b .now) (8 + 8 * c .before .before .before .before .before .before .before .count .result)); within = omega arith }
 
 returns-3 : tie.Need-returns-3
 returns-3 c =
