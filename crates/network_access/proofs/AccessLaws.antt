@@ -1,15 +1,13 @@
 -- A site, a line or a record lent as a part of the state: what is read of it, and what a step on it does to the network.
 use mathlib.Core.Path.{_≡_, sym, ap, ap₂, _∙_}
 use mathlib.Core.Bool.{true}
-use mathlib.Core.List.{List, []}
+use mathlib.Core.List.{List}
 use Prim.Native.Nat.{ℕ, _+_, _-_, _*_, _≤_, _<_, min}
 use native.Mathlib.Omega.{arith}
 use lib.ListN.{length, getD, set}
 use Rattle.words.specs.Words.{part, put, overlaid, Stepped}
 use Rattle.words.proofs.Parts.{part-length, lent-part, lent-put, lent-size}
-use Rattle.words.proofs.Chunks.{chunks-length}
 use Rattle.words.proofs.Walks.{overlaid-same}
-use Rattle.lists.proofs.Every.{every-at}
 use Rattle.timestamp.specs.Timestamp.{Stamp}
 use Rattle.site.specs.Site.{Site}
 use Rattle.site.specs.InWords.{siteIn, siteRange, siteSize, opsIn, opsSize}
@@ -21,11 +19,11 @@ use Rattle.lines.specs.InWords.{lineIn, lineRange, lineSize}
 use Rattle.records.specs.Records.{Record}
 use Rattle.records.specs.InWords.{recordIn, recordSize, opsAt, opsWords, Written}
 use Rattle.records.proofs.Laws.{ops-whole}
-use Rattle.protocol.specs.Network.{linesMost, siteAt, withSite, withLine, withRecord, noRecord}
-use Rattle.network_layout.specs.Layout.{siteCount, itemCount, recordCount, itemsAt, itemsSize, sitesAt, sitesSize, linesAt, linesSize, historyAt}
-use Rattle.network_layout.specs.InWords.{siteWords, lineWords, networkIn, inRange, SiteStep, LineStep, RecordStep}
+use Rattle.protocol.specs.Network.{siteAt, withSite, withLine, withRecord, noRecord}
+use Rattle.network_layout.specs.Layout.{siteCount, itemCount, recordCount, itemsAt, itemsSize, sitesAt, linesAt, historyAt}
+use Rattle.network_layout.specs.InWords.{networkIn, inRange, SiteStep, LineStep, RecordStep}
 use Rattle.network_layout.specs.At.{AtState, AtSite, AtLine, AtRoom, HasLine, HasRecord}
-use Rattle.network_layout.proofs.Assembled.{partsOf, range-parts, line-words, line-read, line-put, line-range, site-words, site-read, site-put, site-range, record-read, longer, record-put, record-range}
+use Rattle.network_layout.proofs.Assembled.{partsOf, range-parts, line-read, line-in-range, line-put, line-range, site-read, site-in-range, site-put, site-range, record-read, longer, record-put, record-range}
 use Rattle.network_layout.proofs.Performs.{items-asked, item-read}
 use Rattle.network_access.specs.Lent.{Lent}
 
@@ -96,13 +94,12 @@ module _ (w : List ℕ) (k : ℕ) where
   pub line-stepped : AtLine w k → (step : Line → Line) (ys : List ℕ) → length ys ≡ length (lent w (lineStart k) lineSize)
       → Stepped lineSize lineIn lineRange step (lent w (lineStart k) lineSize) ys
       → LineStep w (put w (lineStart k) (lineStart k + lineSize - lineStart k) ys) k step
-  unfolding partsOf
   line-stepped h step ys long s =
       let size = h .sized in
       let l = line-lent (record { sized = size; few = h .few }) in
       let fits : length ys ≡ lineSize = long ∙ l .sized in
       let held : lineRange (lent w (lineStart k) lineSize) ≡ true
-      = ap lineRange (lent-part w (lineStart k) lineSize ∙ sym (line-words w size k (h .few))) ∙ every-at lineRange (lineWords w) k [] (range-parts w (h .ranged) .line-ranges) (omega (arith, h .few, chunks-length lineSize linesMost (part w linesAt linesSize))) in
+      = ap lineRange (lent-part w (lineStart k) lineSize) ∙ line-in-range w size k (h .few) (h .ranged) in
       record {
         meant = ap networkIn (lent-put w (lineStart k) lineSize ys) ∙ line-put w size k (h .few) ys fits ∙ ap (withLine (networkIn w) k) (s .meant (l .sized) ∙ ap step (l .meant));
         ranged = ap inRange (lent-put w (lineStart k) lineSize ys) ∙ line-range w size k (h .few) ys fits (h .ranged) (s .ranged (l .sized) held);
@@ -111,13 +108,12 @@ module _ (w : List ℕ) (k : ℕ) where
   pub site-stepped : AtSite w k → (step : Site → Site) (ys : List ℕ) → length ys ≡ length (lent w (siteStart k) siteSize)
       → Stepped siteSize siteIn siteRange step (lent w (siteStart k) siteSize) ys
       → SiteStep w (put w (siteStart k) (siteStart k + siteSize - siteStart k) ys) k step
-  unfolding partsOf
   site-stepped h step ys long s =
       let size = h .sized in
       let l = site-lent h in
       let fits : length ys ≡ siteSize = long ∙ l .sized in
       let held : siteRange (lent w (siteStart k) siteSize) ≡ true
-      = ap siteRange (lent-part w (siteStart k) siteSize ∙ sym (site-words w size (few-sites h) k (h .there))) ∙ every-at siteRange (siteWords w) k [] (range-parts w (h .ranged) .site-ranges) (omega (arith, h .there, chunks-length siteSize (siteCount w) (part w sitesAt sitesSize))) in
+      = ap siteRange (lent-part w (siteStart k) siteSize) ∙ site-in-range w size (few-sites h) k (h .there) (h .ranged) in
       record {
         meant = ap networkIn (lent-put w (siteStart k) siteSize ys) ∙ site-put w size (few-sites h) k (h .there) ys fits ∙ ap (withSite (networkIn w) k) (s .meant (l .sized) ∙ ap step (l .meant));
         ranged = ap inRange (lent-put w (siteStart k) siteSize ys) ∙ site-range w size (few-sites h) k (h .there) ys fits (h .ranged) (s .ranged (l .sized) held);

@@ -1,10 +1,11 @@
 -- A state's words and the network they stand for: one line, one site or one record read, and what is put in its place.
 use mathlib.Core.Path.{_≡_, refl, sym, ap, ap₂, subst, _∙_}
-use mathlib.Core.Bool.{true}
+use mathlib.Core.Bool.{Bool, true}
 use mathlib.Core.List.{List, [], _∷_, _++_, map, map-append}
 use Prim.Native.Nat.{ℕ, _+_, _-_, _*_, _≤_, _<_}
 use native.Mathlib.Omega.{arith}
 use native.Mathlib.Numerals.{add-one}
+use native.Mathlib.Nat.{mul-le-mul-right}
 use lib.ListN.{length, getD, set, take, List·getD-map}
 use lib.Seq.{getD-set-same, getD-set-other, drop-set-lt}
 use lib.Dec.{leb}
@@ -12,20 +13,20 @@ use borrow.Author.Tests.{leb-true, le-leb}
 use Rattle.words.specs.Words.{part, put, chunks}
 use Rattle.lists.specs.Lists.{every}
 use Rattle.words.proofs.Parts.{part-length, part-part, put-length, put-here, put-below, put-above, put-in, put-getD-below}
-use Rattle.words.proofs.Chunks.{chunks-at, chunks-put, chunks-last, chunks-below}
+use Rattle.words.proofs.Chunks.{mul-room, chunks-length, chunks-at, chunks-put, chunks-last, chunks-below}
 use Rattle.lists.proofs.Lists.{map-set}
-use Rattle.lists.proofs.Every.{and-true, every-set, every-snoc}
+use Rattle.lists.proofs.Every.{and-true, every-at, every-set, every-snoc}
 use Rattle.timestamp.specs.InWords.{stampIn}
 use Rattle.site.specs.Site.{Site}
 use Rattle.site.specs.InWords.{siteIn, siteRange, siteSize}
 use Rattle.placement.specs.InWords.{itemsIn}
 use Rattle.limits.specs.Limits.{itemsMost, sitesMost, recordsMost}
-use Rattle.lines.specs.Lines.{Line, noLine}
+use Rattle.lines.specs.Lines.{noLine}
 use Rattle.lines.specs.InWords.{lineIn, lineRange, lineSize}
 use Rattle.records.specs.Records.{Record}
 use Rattle.records.specs.InWords.{recordIn, recordRange, recordSize}
-use Rattle.network_layout.specs.Layout.{itemsAt, itemsSize, sitesAt, sitesSize, linesAt, linesSize, historyAt, historySize, stateSize}
-use Rattle.protocol.specs.Network.{linesMost, Network, noSite, noRecord}
+use Rattle.network_layout.specs.Layout.{siteCount, itemCount, recordCount, itemsAt, itemsSize, sitesAt, sitesSize, linesAt, linesSize, historyAt, historySize, stateSize}
+use Rattle.protocol.specs.Network.{linesMost, Network, withSite, withLine, withLines, withRecord, noSite, noRecord}
 use Rattle.network_layout.specs.InWords.{siteWords, lineWords, recordWords, networkIn, inRange}
 
 -- ---- the parts of a state: three counts, and the words of the placement, the sites, the lines, the history
@@ -41,9 +42,9 @@ pub record Parts : Type 0 where
 unfoldable pub partsOf : List ℕ → Parts
 partsOf w =
     record {
-      sites = getD w 0 0;
-      items = getD w 1 0;
-      made = getD w 2 0;
+      sites = siteCount w;
+      items = itemCount w;
+      made = recordCount w;
       placed = part w itemsAt itemsSize;
       housed = part w sitesAt sitesSize;
       lined = part w linesAt linesSize;
@@ -77,19 +78,19 @@ network-of w = refl
 pub range-parts : (w : List ℕ) → inRange w ≡ true → Range (partsOf w)
 unfolding inRange partsOf
 range-parts w e =
-    let a = and-true (leb 1 (getD w 0 0)) _ e in
-    let b = and-true (leb (getD w 0 0) sitesMost) _ (a .1) in
-    let c = and-true (leb 1 (getD w 1 0)) _ (b .1) in
-    let d = and-true (leb (getD w 1 0) itemsMost) _ (c .1) in
-    let f = and-true (leb (getD w 2 0) recordsMost) _ (d .1) in
+    let a = and-true (leb 1 (siteCount w)) _ e in
+    let b = and-true (leb (siteCount w) sitesMost) _ (a .1) in
+    let c = and-true (leb 1 (itemCount w)) _ (b .1) in
+    let d = and-true (leb (itemCount w) itemsMost) _ (c .1) in
+    let f = and-true (leb (recordCount w) recordsMost) _ (d .1) in
     let g = and-true (every siteRange (siteWords w)) _ (f .1) in
     let h = and-true (every lineRange (lineWords w)) (every recordRange (recordWords w)) (g .1) in
     record {
-      some-sites = leb-true 1 (getD w 0 0) (a .0);
-      few-sites = leb-true (getD w 0 0) sitesMost (b .0);
-      some-items = leb-true 1 (getD w 1 0) (c .0);
-      few-items = leb-true (getD w 1 0) itemsMost (d .0);
-      few-records = leb-true (getD w 2 0) recordsMost (f .0);
+      some-sites = leb-true 1 (siteCount w) (a .0);
+      few-sites = leb-true (siteCount w) sitesMost (b .0);
+      some-items = leb-true 1 (itemCount w) (c .0);
+      few-items = leb-true (itemCount w) itemsMost (d .0);
+      few-records = leb-true (recordCount w) recordsMost (f .0);
       site-ranges = g .0;
       line-ranges = h .0;
       record-ranges = h .1;
@@ -99,11 +100,11 @@ pub range-whole : (w : List ℕ) → Range (partsOf w) → inRange w ≡ true
 unfolding inRange partsOf
 range-whole w r =
     rw (
-      le-leb 1 (getD w 0 0) (r .some-sites),
-      le-leb (getD w 0 0) sitesMost (r .few-sites),
-      le-leb 1 (getD w 1 0) (r .some-items),
-      le-leb (getD w 1 0) itemsMost (r .few-items),
-      le-leb (getD w 2 0) recordsMost (r .few-records),
+      le-leb 1 (siteCount w) (r .some-sites),
+      le-leb (siteCount w) sitesMost (r .few-sites),
+      le-leb 1 (itemCount w) (r .some-items),
+      le-leb (itemCount w) itemsMost (r .few-items),
+      le-leb (recordCount w) recordsMost (r .few-records),
       r .site-ranges,
       r .line-ranges,
     )
@@ -113,7 +114,27 @@ pub no-record : noRecord ≡ recordIn []
 unfolding recordIn stampIn chunks
 no-record = refl
 
--- ---- a line, a site, a record of the network
+-- ---- thing k of a bank of n things, m words each from a place on: read, in range, and with other words in its place
+record Thing {A : Type 0} (meaning : List ℕ → A) (range : List ℕ → Bool) (w bank : List ℕ) (first m n k : ℕ) : Type 0 where
+  read : getD (map meaning (chunks m n bank)) k (meaning []) ≡ meaning (part w (first + k * m) m)
+  ranged : every range (chunks m n bank) ≡ true → range (part w (first + k * m) m) ≡ true
+  put-meant : (ys : List ℕ) → length ys ≡ m → map meaning (chunks m n (put bank (k * m) m ys)) ≡ set (map meaning (chunks m n bank)) k (meaning ys)
+  put-ranged : (ys : List ℕ) → length ys ≡ m → every range (chunks m n bank) ≡ true → range ys ≡ true → every range (chunks m n (put bank (k * m) m ys)) ≡ true
+
+thing : {A : Type 0} (meaning : List ℕ → A) (range : List ℕ → Bool) (w : List ℕ) (first m most n k : ℕ) → first + most * m ≤ length w → n ≤ most → k < n → Thing meaning range w (part w first (most * m)) first m n k
+thing meaning range w first m most n k inside few there =
+    let bank = part w first (most * m) in
+    let all : n * m ≤ most * m = mul-le-mul-right m few in
+    let words : getD (chunks m n bank) k [] ≡ part w (first + k * m) m = chunks-at m n bank k there ∙ part-part w first (most * m) (k * m) m (mul-room k most m (omega arith)) in
+    let replaced : (ys : List ℕ) → length ys ≡ m → chunks m n (put bank (k * m) m ys) ≡ set (chunks m n bank) k ys
+    = λ ys fits. chunks-put m n bank k ys fits there (omega (arith, part-length w first (most * m) inside)) in
+    record {
+      read = List·getD-map meaning (chunks m n bank) k [] ∙ ap meaning words;
+      ranged = λ e. ap range (sym words) ∙ every-at range (chunks m n bank) k [] e (omega (arith, chunks-length m n bank));
+      put-meant = λ ys fits. ap (map meaning) (replaced ys fits) ∙ map-set meaning (chunks m n bank) k ys;
+      put-ranged = λ ys fits e g. ap (every range) (replaced ys fits) ∙ every-set range (chunks m n bank) k ys e g;
+    }
+
 module _ (w : List ℕ) (size : length w ≡ stateSize) where
   pub lined-size : length (part w linesAt linesSize) ≡ linesSize
   lined-size = part-length w linesAt linesSize (omega arith)
@@ -124,216 +145,183 @@ module _ (w : List ℕ) (size : length w ≡ stateSize) where
   pub kept-size : length (part w historyAt historySize) ≡ historySize
   kept-size = part-length w historyAt historySize (omega arith)
 
+  -- ---- the same sites, items and placement, with other words in the banks
+  abbrev standing : ℕ → List ℕ → List ℕ → List ℕ → Parts
+  standing made housed lined kept = record { sites = siteCount w; items = itemCount w; made = made; placed = part w itemsAt itemsSize; housed = housed; lined = lined; kept = kept }
+
+  module _ (v : List ℕ) (made : ℕ) (housed lined kept : List ℕ) (e : partsOf v ≡ standing made housed lined kept) where
+    network-stands : networkIn v
+        ≡ record { sites = map siteIn (chunks siteSize (siteCount w) housed); items = networkIn w .items; lines = map lineIn (chunks lineSize linesMost lined); history = map recordIn (chunks recordSize made kept) }
+    unfolding networkIn networkOf
+    network-stands = network-of v ∙ ap networkOf e
+
+    range-stands : Range (partsOf w) → made ≤ recordsMost → every siteRange (chunks siteSize (siteCount w) housed) ≡ true → every lineRange (chunks lineSize linesMost lined) ≡ true → every recordRange (chunks recordSize made kept) ≡ true → inRange v ≡ true
+    unfolding partsOf
+    range-stands r few h l k =
+        range-whole v
+        (subst Range (sym e)
+        (record {
+          some-sites = r .some-sites;
+          few-sites = r .few-sites;
+          some-items = r .some-items;
+          few-items = r .few-items;
+          few-records = few;
+          site-ranges = h;
+          line-ranges = l;
+          record-ranges = k;
+        }))
+
+  -- words put at a place of a bank
+  module _ (at n : ℕ) (ys : List ℕ) (fits : length ys ≡ n) (inside : at + n ≤ length w) (behind : sitesAt ≤ at) where
+    parts-put : (housed lined kept : List ℕ) → part (put w at n ys) sitesAt sitesSize ≡ housed → part (put w at n ys) linesAt linesSize ≡ lined → part (put w at n ys) historyAt historySize ≡ kept
+        → partsOf (put w at n ys) ≡ standing (recordCount w) housed lined kept
+    unfolding partsOf
+    parts-put housed lined kept h l k =
+        let count-is = put-getD-below w at n ys inside fits in
+        λ i.
+        record {
+          sites = count-is 0 (omega arith) i;
+          items = count-is 1 (omega arith) i;
+          made = count-is 2 (omega arith) i;
+          placed = put-below w at n ys inside fits itemsAt itemsSize (omega arith) i;
+          housed = h i;
+          lined = l i;
+          kept = k i;
+        }
+
   -- ---- one line
   module _ (k : ℕ) (b : k < linesMost) where
-    pub line-words : getD (lineWords w) k [] ≡ part w (linesAt + k * lineSize) lineSize
-    line-words = chunks-at lineSize linesMost (part w linesAt linesSize) k b ∙ part-part w linesAt linesSize (k * lineSize) lineSize (omega arith)
+    line : Thing lineIn lineRange w (part w linesAt linesSize) linesAt lineSize linesMost k
+    line = thing lineIn lineRange w linesAt lineSize linesMost linesMost k (omega arith) (omega arith) b
 
     pub line-read : getD (networkIn w .lines) k noLine ≡ lineIn (part w (linesAt + k * lineSize) lineSize)
     unfolding networkIn lineIn
-    line-read = List·getD-map lineIn (lineWords w) k [] ∙ ap lineIn line-words
+    line-read = line .read
+
+    pub line-in-range : inRange w ≡ true → lineRange (part w (linesAt + k * lineSize) lineSize) ≡ true
+    unfolding partsOf
+    line-in-range e = line .ranged (range-parts w e .line-ranges)
 
     module _ (ys : List ℕ) (fits : length ys ≡ lineSize) where
-      inside-line : linesAt + k * lineSize + lineSize ≤ length w
-      inside-line = omega arith
+      abbrev rewired : List ℕ
+      rewired = put w (linesAt + k * lineSize) lineSize ys
 
-      line-parts : partsOf (put w (linesAt + k * lineSize) lineSize ys)
-          ≡ record {
-            sites = getD w 0 0;
-            items = getD w 1 0;
-            made = getD w 2 0;
-            placed = part w itemsAt itemsSize;
-            housed = part w sitesAt sitesSize;
-            lined = put (part w linesAt linesSize) (k * lineSize) lineSize ys;
-            kept = part w historyAt historySize;
-          }
-      unfolding partsOf
+      line-parts : partsOf rewired ≡ standing (recordCount w) (part w sitesAt sitesSize) (put (part w linesAt linesSize) (k * lineSize) lineSize ys) (part w historyAt historySize)
       line-parts =
           let at = linesAt + k * lineSize in
-          λ i.
-          record {
-            sites = put-getD-below w at lineSize ys inside-line fits 0 (omega arith) i;
-            items = put-getD-below w at lineSize ys inside-line fits 1 (omega arith) i;
-            made = put-getD-below w at lineSize ys inside-line fits 2 (omega arith) i;
-            placed = put-below w at lineSize ys inside-line fits itemsAt itemsSize (omega arith) i;
-            housed = put-below w at lineSize ys inside-line fits sitesAt sitesSize (omega arith) i;
-            lined = put-in w linesAt linesSize (k * lineSize) lineSize ys (omega arith) (omega arith) fits i;
-            kept = put-above w at lineSize ys inside-line fits historyAt historySize (omega arith) i;
-          }
+          let inside : at + lineSize ≤ length w = omega arith in
+          parts-put at lineSize ys fits inside (omega arith) _ _ _
+          (put-below w at lineSize ys inside fits sitesAt sitesSize (omega arith))
+          (put-in w linesAt linesSize (k * lineSize) lineSize ys (omega arith) (omega arith) fits)
+          (put-above w at lineSize ys inside fits historyAt historySize (omega arith))
 
-      lines-put : chunks lineSize linesMost (put (part w linesAt linesSize) (k * lineSize) lineSize ys) ≡ set (lineWords w) k ys
-      lines-put = chunks-put lineSize linesMost (part w linesAt linesSize) k ys fits b (omega (arith, lined-size))
-
-      pub line-put : networkIn (put w (linesAt + k * lineSize) lineSize ys)
-          ≡ record { sites = networkIn w .sites; items = networkIn w .items; lines = set (networkIn w .lines) k (lineIn ys); history = networkIn w .history }
-      unfolding networkIn networkOf
+      pub line-put : networkIn rewired ≡ withLine (networkIn w) k (lineIn ys)
+      unfolding networkIn
       line-put =
-          network-of (put w (linesAt + k * lineSize) lineSize ys)
-          ∙ ap networkOf line-parts
-          ∙ ap (λ (ls : List Line). record { sites = networkIn w .sites; items = networkIn w .items; lines = ls; history = networkIn w .history }) (ap (map lineIn) lines-put ∙ map-set lineIn (lineWords w) k ys)
+          network-stands rewired _ _ _ _ line-parts ∙ ap (withLines (networkIn w)) (line .put-meant ys fits)
 
-      pub line-range : inRange w ≡ true → lineRange ys ≡ true → inRange (put w (linesAt + k * lineSize) lineSize ys) ≡ true
+      pub line-range : inRange w ≡ true → lineRange ys ≡ true → inRange rewired ≡ true
       unfolding partsOf
       line-range e g =
           let r = range-parts w e in
-          range-whole (put w (linesAt + k * lineSize) lineSize ys)
-          (subst Range (sym line-parts)
-          (record {
-            some-sites = r .some-sites;
-            few-sites = r .few-sites;
-            some-items = r .some-items;
-            few-items = r .few-items;
-            few-records = r .few-records;
-            site-ranges = r .site-ranges;
-            line-ranges = ap (every lineRange) lines-put ∙ every-set lineRange (lineWords w) k ys (r .line-ranges) g;
-            record-ranges = r .record-ranges;
-          }))
+          range-stands rewired _ _ _ _ line-parts r (r .few-records) (r .site-ranges) (line .put-ranged ys fits (r .line-ranges) g) (r .record-ranges)
 
   -- ---- one site
-  module _ (few : getD w 0 0 ≤ sitesMost) (i : ℕ) (b : i < getD w 0 0) where
-    inside-sites : i * siteSize + siteSize ≤ getD w 0 0 * siteSize
-    inside-sites = omega arith
-
-    pub site-words : getD (siteWords w) i [] ≡ part w (sitesAt + i * siteSize) siteSize
-    site-words = chunks-at siteSize (getD w 0 0) (part w sitesAt sitesSize) i b ∙ part-part w sitesAt sitesSize (i * siteSize) siteSize (omega arith)
+  module _ (few : siteCount w ≤ sitesMost) (i : ℕ) (b : i < siteCount w) where
+    site : Thing siteIn siteRange w (part w sitesAt sitesSize) sitesAt siteSize (siteCount w) i
+    site = thing siteIn siteRange w sitesAt siteSize sitesMost (siteCount w) i (omega arith) few b
 
     pub site-read : getD (networkIn w .sites) i noSite ≡ siteIn (part w (sitesAt + i * siteSize) siteSize)
     unfolding networkIn siteIn stampIn
-    site-read = List·getD-map siteIn (siteWords w) i [] ∙ ap siteIn site-words
+    site-read = site .read
+
+    pub site-in-range : inRange w ≡ true → siteRange (part w (sitesAt + i * siteSize) siteSize) ≡ true
+    unfolding partsOf
+    site-in-range e = site .ranged (range-parts w e .site-ranges)
 
     module _ (ys : List ℕ) (fits : length ys ≡ siteSize) where
-      inside-site : sitesAt + i * siteSize + siteSize ≤ length w
-      inside-site = omega arith
+      abbrev rehoused : List ℕ
+      rehoused = put w (sitesAt + i * siteSize) siteSize ys
 
-      site-parts : partsOf (put w (sitesAt + i * siteSize) siteSize ys)
-          ≡ record {
-            sites = getD w 0 0;
-            items = getD w 1 0;
-            made = getD w 2 0;
-            placed = part w itemsAt itemsSize;
-            housed = put (part w sitesAt sitesSize) (i * siteSize) siteSize ys;
-            lined = part w linesAt linesSize;
-            kept = part w historyAt historySize;
-          }
-      unfolding partsOf
+      site-parts : partsOf rehoused ≡ standing (recordCount w) (put (part w sitesAt sitesSize) (i * siteSize) siteSize ys) (part w linesAt linesSize) (part w historyAt historySize)
       site-parts =
           let at = sitesAt + i * siteSize in
-          λ j.
-          record {
-            sites = put-getD-below w at siteSize ys inside-site fits 0 (omega arith) j;
-            items = put-getD-below w at siteSize ys inside-site fits 1 (omega arith) j;
-            made = put-getD-below w at siteSize ys inside-site fits 2 (omega arith) j;
-            placed = put-below w at siteSize ys inside-site fits itemsAt itemsSize (omega arith) j;
-            housed = put-in w sitesAt sitesSize (i * siteSize) siteSize ys (omega arith) (omega arith) fits j;
-            lined = put-above w at siteSize ys inside-site fits linesAt linesSize (omega arith) j;
-            kept = put-above w at siteSize ys inside-site fits historyAt historySize (omega arith) j;
-          }
+          let inside : at + siteSize ≤ length w = omega arith in
+          parts-put at siteSize ys fits inside (omega arith) _ _ _
+          (put-in w sitesAt sitesSize (i * siteSize) siteSize ys (omega arith) (omega arith) fits)
+          (put-above w at siteSize ys inside fits linesAt linesSize (omega arith))
+          (put-above w at siteSize ys inside fits historyAt historySize (omega arith))
 
-      sites-put : chunks siteSize (getD w 0 0) (put (part w sitesAt sitesSize) (i * siteSize) siteSize ys) ≡ set (siteWords w) i ys
-      sites-put = chunks-put siteSize (getD w 0 0) (part w sitesAt sitesSize) i ys fits b (omega (arith, housed-size))
-
-      pub site-put : networkIn (put w (sitesAt + i * siteSize) siteSize ys)
-          ≡ record { sites = set (networkIn w .sites) i (siteIn ys); items = networkIn w .items; lines = networkIn w .lines; history = networkIn w .history }
-      unfolding networkIn networkOf
+      pub site-put : networkIn rehoused ≡ withSite (networkIn w) i (siteIn ys)
+      unfolding networkIn
       site-put =
-          network-of (put w (sitesAt + i * siteSize) siteSize ys)
-          ∙ ap networkOf site-parts
-          ∙ ap (λ (ss : List Site). record { sites = ss; items = networkIn w .items; lines = networkIn w .lines; history = networkIn w .history }) (ap (map siteIn) sites-put ∙ map-set siteIn (siteWords w) i ys)
+          network-stands rehoused _ _ _ _ site-parts
+          ∙ ap (λ (ss : List Site). record { sites = ss; items = networkIn w .items; lines = networkIn w .lines; history = networkIn w .history }) (site .put-meant ys fits)
 
-      pub site-range : inRange w ≡ true → siteRange ys ≡ true → inRange (put w (sitesAt + i * siteSize) siteSize ys) ≡ true
+      pub site-range : inRange w ≡ true → siteRange ys ≡ true → inRange rehoused ≡ true
       unfolding partsOf
       site-range e g =
           let r = range-parts w e in
-          range-whole (put w (sitesAt + i * siteSize) siteSize ys)
-          (subst Range (sym site-parts)
-          (record {
-            some-sites = r .some-sites;
-            few-sites = r .few-sites;
-            some-items = r .some-items;
-            few-items = r .few-items;
-            few-records = r .few-records;
-            site-ranges = ap (every siteRange) sites-put ∙ every-set siteRange (siteWords w) i ys (r .site-ranges) g;
-            line-ranges = r .line-ranges;
-            record-ranges = r .record-ranges;
-          }))
+          range-stands rehoused _ _ _ _ site-parts r (r .few-records) (site .put-ranged ys fits (r .site-ranges) g) (r .line-ranges) (r .record-ranges)
 
   -- ---- one record
-  module _ (k : ℕ) (b : k < getD w 2 0) (few : k < recordsMost) where
-    pub record-words : getD (recordWords w) k [] ≡ part w (historyAt + k * recordSize) recordSize
-    record-words = chunks-at recordSize (getD w 2 0) (part w historyAt historySize) k b ∙ part-part w historyAt historySize (k * recordSize) recordSize (omega arith)
-
+  module _ (k : ℕ) (b : k < recordCount w) (few : k < recordsMost) where
     pub record-read : getD (networkIn w .history) k noRecord ≡ recordIn (part w (historyAt + k * recordSize) recordSize)
     unfolding networkIn
-    record-read = ap (getD (networkIn w .history) k) no-record ∙ List·getD-map recordIn (recordWords w) k [] ∙ ap recordIn record-words
+    record-read =
+        ap (getD (networkIn w .history) k) no-record
+        ∙ List·getD-map recordIn (recordWords w) k []
+        ∙ ap recordIn (chunks-at recordSize (recordCount w) (part w historyAt historySize) k b ∙ part-part w historyAt historySize (k * recordSize) recordSize (omega arith))
 
   -- ---- a record more: its words behind the others, and the count of records one higher
-  module _ (room : getD w 2 0 < recordsMost) (ys : List ℕ) (fits : length ys ≡ recordSize) where
+  module _ (room : recordCount w < recordsMost) (ys : List ℕ) (fits : length ys ≡ recordSize) where
+    abbrev kept-more : List ℕ
+    kept-more = put (part w historyAt historySize) (recordCount w * recordSize) recordSize ys
+
     abbrev pub longer : List ℕ
-    longer = set (put w (historyAt + getD w 2 0 * recordSize) recordSize ys) 2 (getD w 2 0 + 1)
+    longer = set (put w (historyAt + recordCount w * recordSize) recordSize ys) 2 (recordCount w + 1)
 
-    inside-record : historyAt + getD w 2 0 * recordSize + recordSize ≤ length w
-    inside-record = omega arith
-
-    put-size : length (put w (historyAt + getD w 2 0 * recordSize) recordSize ys) ≡ stateSize
-    put-size = put-length w (historyAt + getD w 2 0 * recordSize) recordSize ys inside-record fits ∙ size
-
-    record-parts : partsOf longer
-        ≡ record {
-          sites = getD w 0 0;
-          items = getD w 1 0;
-          made = getD w 2 0 + 1;
-          placed = part w itemsAt itemsSize;
-          housed = part w sitesAt sitesSize;
-          lined = part w linesAt linesSize;
-          kept = put (part w historyAt historySize) (getD w 2 0 * recordSize) recordSize ys;
-        }
+    record-parts : partsOf longer ≡ standing (recordCount w + 1) (part w sitesAt sitesSize) (part w linesAt linesSize) kept-more
     unfolding partsOf
     record-parts =
-        let m = getD w 2 0 in
+        let m = recordCount w in
         let at = historyAt + m * recordSize in
+        let inside : at + recordSize ≤ length w = omega arith in
         let x = put w at recordSize ys in
         let beyond : (a k : ℕ) → 2 < a → part (set x 2 (m + 1)) a k ≡ part x a k = λ a k h. ap (take k) (drop-set-lt a x 2 (m + 1) h) in
+        let rest
+        = parts-put at recordSize ys fits inside (omega arith) _ _ _
+        (put-below w at recordSize ys inside fits sitesAt sitesSize (omega arith))
+        (put-below w at recordSize ys inside fits linesAt linesSize (omega arith))
+        (put-in w historyAt historySize (m * recordSize) recordSize ys (omega arith) (omega arith) fits) in
         λ i.
         record {
-          sites = (getD-set-other x 2 0 (m + 1) 0 (λ z. omega arith) ∙ put-getD-below w at recordSize ys inside-record fits 0 (omega arith)) i;
-          items = (getD-set-other x 2 1 (m + 1) 0 (λ z. omega arith) ∙ put-getD-below w at recordSize ys inside-record fits 1 (omega arith)) i;
-          made = getD-set-same x 2 (m + 1) 0 (omega (arith, put-size)) i;
-          placed = (beyond itemsAt itemsSize (omega arith) ∙ put-below w at recordSize ys inside-record fits itemsAt itemsSize (omega arith)) i;
-          housed = (beyond sitesAt sitesSize (omega arith) ∙ put-below w at recordSize ys inside-record fits sitesAt sitesSize (omega arith)) i;
-          lined = (beyond linesAt linesSize (omega arith) ∙ put-below w at recordSize ys inside-record fits linesAt linesSize (omega arith)) i;
-          kept = (beyond historyAt historySize (omega arith) ∙ put-in w historyAt historySize (m * recordSize) recordSize ys (omega arith) (omega arith) fits) i;
+          sites = (getD-set-other x 2 0 (m + 1) 0 (λ z. omega arith) ∙ ap (λ (p : Parts). p .sites) rest) i;
+          items = (getD-set-other x 2 1 (m + 1) 0 (λ z. omega arith) ∙ ap (λ (p : Parts). p .items) rest) i;
+          made = getD-set-same x 2 (m + 1) 0 (omega (arith, put-length w at recordSize ys inside fits)) i;
+          placed = (beyond itemsAt itemsSize (omega arith) ∙ ap (λ (p : Parts). p .placed) rest) i;
+          housed = (beyond sitesAt sitesSize (omega arith) ∙ ap (λ (p : Parts). p .housed) rest) i;
+          lined = (beyond linesAt linesSize (omega arith) ∙ ap (λ (p : Parts). p .lined) rest) i;
+          kept = (beyond historyAt historySize (omega arith) ∙ ap (λ (p : Parts). p .kept) rest) i;
         }
 
-    records-put : chunks recordSize (getD w 2 0 + 1) (put (part w historyAt historySize) (getD w 2 0 * recordSize) recordSize ys) ≡ recordWords w ++ (ys ∷ [])
+    records-put : chunks recordSize (recordCount w + 1) kept-more ≡ recordWords w ++ (ys ∷ [])
     records-put =
-        let m = getD w 2 0 in
+        let m = recordCount w in
         let rs = part w historyAt historySize in
         let inside : m * recordSize + recordSize ≤ length rs = omega (arith, kept-size) in
-        ap (λ (k : ℕ). chunks recordSize k (put rs (m * recordSize) recordSize ys)) (add-one m)
-        ∙ chunks-last recordSize m (put rs (m * recordSize) recordSize ys)
+        ap (λ (k : ℕ). chunks recordSize k kept-more) (add-one m)
+        ∙ chunks-last recordSize m kept-more
         ∙ ap₂ (λ (x : List (List ℕ)) (y : List ℕ). x ++ (y ∷ [])) (chunks-below recordSize m rs (m * recordSize) recordSize ys (omega arith) inside fits) (put-here rs (m * recordSize) recordSize ys inside fits)
 
-    pub record-put : networkIn longer
-        ≡ record { sites = networkIn w .sites; items = networkIn w .items; lines = networkIn w .lines; history = networkIn w .history ++ (recordIn ys ∷ []) }
-    unfolding networkIn networkOf
+    pub record-put : networkIn longer ≡ withRecord (networkIn w) (recordIn ys)
+    unfolding networkIn
     record-put =
-        network-of longer
-        ∙ ap networkOf record-parts
+        network-stands longer _ _ _ _ record-parts
         ∙ ap (λ (rs : List Record). record { sites = networkIn w .sites; items = networkIn w .items; lines = networkIn w .lines; history = rs }) (ap (map recordIn) records-put ∙ map-append recordIn (recordWords w) (ys ∷ []))
 
     pub record-range : inRange w ≡ true → recordRange ys ≡ true → inRange longer ≡ true
     unfolding partsOf
     record-range e g =
         let r = range-parts w e in
-        range-whole longer
-        (subst Range (sym record-parts)
-        (record {
-          some-sites = r .some-sites;
-          few-sites = r .few-sites;
-          some-items = r .some-items;
-          few-items = r .few-items;
-          few-records = omega (arith, room);
-          site-ranges = r .site-ranges;
-          line-ranges = r .line-ranges;
-          record-ranges = ap (every recordRange) records-put ∙ every-snoc recordRange (recordWords w) ys (r .record-ranges) g;
-        }))
+        range-stands longer _ _ _ _ record-parts r (omega (arith, room)) (r .site-ranges) (r .line-ranges) (ap (every recordRange) records-put ∙ every-snoc recordRange (recordWords w) ys (r .record-ranges) g)

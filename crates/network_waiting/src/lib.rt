@@ -4,6 +4,7 @@ use limits::SITES;
 use network_layout::Report;
 use network_layout::WORDS;
 use site::operations;
+use site::operations::WRITE;
 ghost use mathlib.Core.Path.{_≡_};
 ghost use lib.ListN.{length, getD};
 ghost use Rattle.lists.specs.Lists.{any};
@@ -145,7 +146,7 @@ fn writes_item(ops: &[u32], n: usize, item: u32) -> bool
 fn is_write_of(ops: &[u32], k: usize, item: u32) -> bool
     ensures { λ r. ⌜ r ≡ writesItem item (opAt (now (ops .entry)) k) ⌝ }
 {
-    if operations::kind(ops, k) != 1 {
+    if operations::kind(ops, k) != WRITE {
         return false;
     }
     operations::item(ops, k) == item

@@ -1,6 +1,7 @@
 // A record of the history in words of a lent slice: written, read, and tested for shape.
 use limits::OPERATIONS_WIDE;
 use site::operations;
+use site::operations::WRITE;
 use timestamp::Timestamp;
 ghost use mathlib.Core.Path.{_≡_};
 ghost use mathlib.Core.Bool.{_&&_};
@@ -22,7 +23,7 @@ const COUNT: usize = SITE + 1;
 
 const STAMP: usize = COUNT + 1;
 
-const OPERATIONS: usize = STAMP + timestamp::WORDS;
+pub const OPERATIONS: usize = STAMP + timestamp::WORDS;
 
 pub const WORDS: usize = OPERATIONS + site::OPERATIONS;
 
@@ -126,7 +127,7 @@ fn operations_fit(ops: &[u32], n: usize, items: u32) -> bool
 fn operation_fits(ops: &[u32], i: usize, items: u32) -> bool
     ensures { λ r. ⌜ r ≡ opFits items (opAt (now (ops .entry)) i) ⌝ }
 {
-    if 1 < operations::kind(ops, i) {
+    if WRITE < operations::kind(ops, i) {
         return false;
     }
     operations::item(ops, i) < items

@@ -1,4 +1,4 @@
--- A site in 82 words, its timestamp and its table; and operations in three words each: kind, item, value.
+-- A site in words, its timestamp and its table; and operations in three words each: kind, item, value.
 use mathlib.Core.Path.{_≡_}
 use mathlib.Core.Bool.{Bool}
 use mathlib.Core.List.{List, [], _∷_, _++_, map}

@@ -10,6 +10,11 @@ ghost use Rattle.site.specs.Operations.{written, recorded, worked};
 ghost use Rattle.site.specs.InWords.{opWords, opAt, opOf, opsIn, opSize, tableIn, Put};
 ghost use Rattle.limits.specs.Limits.{opsMost};
 
+// The kinds.
+pub const READ: u32 = 0;
+
+pub const WRITE: u32 = 1;
+
 // Where an operation has its kind, its item and its value; its size, and that of the most operations.
 const KIND: usize = 0;
 
@@ -94,7 +99,7 @@ fn record_one(out: &mut [u32; OPERATIONS], table: &[u32], ops: &[u32], i: usize)
 fn kept_value(table: &[u32], ops: &[u32], i: usize) -> u32
     ensures { λ r. ⌜ toZ w32 r ≡ recorded (tableIn (now (table .entry))) (tableIn (now (table .entry))) (opAt (now (ops .entry)) i) .value ⌝ }
 {
-    if kind(ops, i) == 0 {
+    if kind(ops, i) == READ {
         return words::word(table, words::wide(item(ops, i)));
     }
     value(ops, i)
@@ -104,7 +109,7 @@ fn kept_value(table: &[u32], ops: &[u32], i: usize) -> u32
 fn write_one(table: &mut [u32], ops: &[u32], i: usize)
     ensures { λ r. ⌜ tableIn (now (table .exit)) ≡ written (tableIn (now (table .entry))) (opAt (now (ops .entry)) i) ⌝ }
 {
-    if kind(ops, i) == 1 {
+    if kind(ops, i) == WRITE {
         words::store(table, words::wide(item(ops, i)), value(ops, i));
     }
 }

@@ -1,4 +1,4 @@
--- A timestamp in 18 words: its epoch, how many tuples it has, and eight places of site and count.
+-- A timestamp in words: its epoch, how many tuples it has, and eight places of site and count.
 use mathlib.Core.Bool.{Bool}
 use mathlib.Core.List.{List, [], _∷_}
 use Prim.Native.Nat.{ℕ, zero, suc, _+_, _*_}

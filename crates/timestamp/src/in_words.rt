@@ -1,4 +1,4 @@
-// A timestamp in 18 words of a lent slice: its epoch, how many tuples it has, and eight places of site and count.
+// A timestamp in words of a lent slice: its epoch, how many tuples it has, and eight places of site and count.
 use crate::Count;
 use crate::Epoch;
 use crate::Timestamp;
