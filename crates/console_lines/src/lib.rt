@@ -9,7 +9,8 @@ ghost use lib.ListN.{length, take};
 ghost use lib.Dec.{ltb, leb};
 ghost use Rattle.decimal.specs.Decimal.{Printed};
 ghost use Rattle.network_layout.specs.InWords.{meaning};
-ghost use Rattle.console_lines.specs.Lines.{newline, clipMost, lineMost, clipped, ending, told};
+ghost use Rattle.console_lines.specs.Lines.{newline, lineMost, clipped, ending, told};
+ghost use Rattle.console_lines.specs.Asked.{HeldWithRoom, RoomFor};
 ghost use Rattle.console_lines.specs.Promises.{heldOf, Effect, Holding, Fed, Begun, Ended};
 
 // The first bytes of a line that has not ended, `count` of them: all 513 where `count` is more. That a line is too long is told by 513.
@@ -135,7 +136,7 @@ fn goes_on(end: usize, size: usize, at: usize, room: usize) -> bool
 
 // The line that is held is answered.
 fn answer(held: Held, state: &mut [u32; WORDS], out: &mut [u8], at: usize) -> usize
-    requires { ⌜ (held .count ≤ clipMost) × (at + lineMost ≤ length (now out)) ⌝ }
+    requires { ⌜ HeldWithRoom held (now out) at ⌝ }
     ensures { λ r. ⌜ Effect (told (meaning (now (state .entry))) (heldOf held) (newline ∷ [])) (now (state .exit)) (now (out .entry)) (now (out .exit)) at r ⌝ }
 {
     let mut space = [0u8; ANSWER];
@@ -162,7 +163,7 @@ fn collect(
 
 // Bytes from a place of the buffer on. It answers where they end.
 fn append(from: &[u8], n: usize, out: &mut [u8], at: usize) -> usize
-    requires { ⌜ (n ≤ length (now from)) × (at + n ≤ length (now out)) ⌝ }
+    requires { ⌜ RoomFor (now from) n (now out) at ⌝ }
     ensures { λ r. ⌜ Printed (now (out .entry)) (now (out .exit)) at r (take n (now (from .entry))) ⌝ }
 {
     let end = at + n;

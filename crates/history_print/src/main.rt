@@ -3,9 +3,9 @@ use history::Found;
 use libc::STDIN_FILENO;
 use libc::STDOUT_FILENO;
 use script::ANSWER;
-ghost use mathlib.Core.Path.{_≡_};
-ghost use Prim.Native.Nat.{_+_, _≤_, _<_};
+ghost use Prim.Native.Nat.{_≤_};
 ghost use lib.ListN.{length};
+ghost use Rattle.history_print.specs.Asked.{Filled, Room};
 
 // How far the lines have come: how many of their bytes are still to be written, and whether all before them were.
 pub struct Page {
@@ -100,7 +100,7 @@ fn records(part: &[u8], n: u32, sites: u32, items: u32) {
 
 // A record's line behind the others, which are written first where there is no room for one more.
 fn add(r: Found, lines: &mut [u8], filled: usize) -> Page
-    requires { ⌜ (filled ≤ 65536) × (length (now lines) ≡ 65536) ⌝ }
+    requires { ⌜ Filled (now lines) filled ⌝ }
     ensures { λ page. ⌜ page .filled ≤ 65536 ⌝ }
 {
     let mut text = [0u8; ANSWER];
@@ -132,7 +132,7 @@ fn line(r: Found, text: &mut [u8; ANSWER]) -> usize
 
 // A line and a newline.
 fn append(text: &[u8], lines: &mut [u8], filled: usize) -> usize
-    requires { ⌜ (filled + length (now text) < 65536) × (length (now lines) ≡ 65536) ⌝ }
+    requires { ⌜ Room (now text) (now lines) filled ⌝ }
     ensures { λ end. ⌜ end ≤ 65536 ⌝ }
 {
     let end = filled + text.len();

@@ -30,6 +30,19 @@ pub record WithOp (w : List ℕ) (k : ℕ) : Type 0 where
   pub ranged : inRange w ≡ true
   pub few-ops : k < opsMost
 
+-- operation i is in each of the lists of the fields
+pub record InLists (i kinds items values : ℕ) : Type 0 where
+  pub few-ops : i < opsMost
+  pub in-kinds : i < kinds
+  pub in-items : i < items
+  pub in-values : i < values
+
+-- at operation i, with so many values read before it, and so many places for them
+pub record Reading (count i places : ℕ) : Type 0 where
+  pub before : count ≤ i
+  pub few-ops : i < opsMost
+  pub room : opsMost ≤ places
+
 -- a commit of n operations in words, at a site that is there
 pub record CommitAt (w : List ℕ) (i n : ℕ) : Type 0 where
   pub net : AtNetwork w

@@ -1,13 +1,15 @@
 // A commit's operations: from the lent lists of their fields to words, and the values that its reads gave.
 ghost use mathlib.Core.Path.{_≡_};
 ghost use mathlib.Core.List.{[], _∷_, _++_};
-ghost use Prim.Native.Nat.{_+_, _≤_, _<_};
+ghost use Prim.Native.Nat.{_+_, _≤_};
 ghost use lib.IntN.{pos};
 ghost use lib.ListN.{length, take, drop, getD};
 ghost use Rattle.site.specs.Operations.{valuesRead};
 ghost use Rattle.site.specs.InWords.{opAt, opsIn};
 ghost use Rattle.limits.specs.Limits.{opsMost};
 ghost use Rattle.protocol.specs.Steps.{opsOf};
+ghost use Rattle.protocol.specs.Allowed.{ListsAllowed};
+ghost use Rattle.network_commit.specs.Done.{InLists, Reading};
 ghost use Rattle.network_layout.specs.Promises.{Filled};
 
 // The values that reads gave: the first `count` of eight places, in order; the rest are 0.
@@ -18,7 +20,7 @@ pub struct Given {
 
 // The words of the operations, three each: kind, item, value.
 pub fn op_words(kinds: &[u8], items: &[u32], values: &[i32]) -> [u32; site::OPERATIONS]
-    requires { ⌜ (length (now kinds) ≤ opsMost) × (length (now items) ≡ length (now kinds)) × (length (now values) ≡ length (now kinds)) ⌝ }
+    requires { ⌜ ListsAllowed (length (now kinds)) (length (now items)) (length (now values)) ⌝ }
     ensures { λ r. ⌜ opsIn (length (now (kinds .entry))) r ≡ opsOf (now (kinds .entry)) (now (items .entry)) (now (values .entry)) ⌝ }
 {
     let mut out = [0u32; site::OPERATIONS];
@@ -49,7 +51,7 @@ pub fn values_read(ops: &[u32], n: usize) -> Given
 
 // Operation i, from the lists of the fields, after the i before it.
 fn op_word(out: &mut [u32; site::OPERATIONS], kinds: &[u8], items: &[u32], values: &[i32], i: usize)
-    requires { ⌜ (i < opsMost) × (i < length (now kinds)) × (i < length (now items)) × (i < length (now values)) ⌝ }
+    requires { ⌜ InLists i (length (now kinds)) (length (now items)) (length (now values)) ⌝ }
     ensures { λ r. ⌜ opsIn (i + 1) (now (out .exit)) ≡ opsIn i (now (out .entry)) ++ opsOf (getD (now (kinds .entry)) i 0 ∷ []) (getD (now (items .entry)) i 0 ∷ []) (getD (now (values .entry)) i (pos 0) ∷ []) ⌝ }
 {
     let kind = wide8(kinds[i]);
@@ -61,7 +63,7 @@ fn op_word(out: &mut [u32; site::OPERATIONS], kinds: &[u8], items: &[u32], value
 
 // The value of operation i, where it is a read, after the `count` values before it; answers how many there are then.
 fn value_read(values: &mut [i32], count: usize, ops: &[u32], i: usize) -> usize
-    requires { ⌜ (count ≤ i) × (i < opsMost) × (opsMost ≤ length (now values)) ⌝ }
+    requires { ⌜ Reading count i (length (now values)) ⌝ }
     ensures { λ r. ⌜ (r ≤ i + 1) × (take r (now (values .exit)) ≡ take count (now (values .entry)) ++ valuesRead (opAt (now (ops .entry)) i ∷ [])) × (count ≤ r) × (drop r (now (values .exit)) ≡ drop r (now (values .entry))) ⌝ }
 {
     let at = 3 * i;

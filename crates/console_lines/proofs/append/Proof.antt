@@ -13,7 +13,7 @@ add-end : tie.Need-add-end
 add-end c = search needs
 
 slice-aggregate-copy : tie.Need-slice-aggregate-copy
-slice-aggregate-copy c = let S = c .before .before .before in sym (length-take-le (S .args .n) (S .args .from .now) (S .pre .0))
+slice-aggregate-copy c = let S = c .before .before .before in sym (length-take-le (S .args .n) (S .args .from .now) (S .pre .there))
 
 sub-copy : tie.Need-sub-copy
 sub-copy c = search needs
@@ -33,7 +33,7 @@ same-length c = search needs
 returns : tie.Need-returns
 returns c =
     let S = c .before .before .before .before .before .before .before in
-    laid-there (S .args .out .now) (S .args .from .now) (c .before .before .copy .last .1 .0) (S .args .at) (S .args .n) (S .pre .0) (S .pre .1) (c .before .before .copy .ensures .1)
+    laid-there (S .args .out .now) (S .args .from .now) (c .before .before .copy .last .1 .0) (S .args .at) (S .args .n) (S .pre .there) (S .pre .room) (c .before .before .copy .ensures .1)
 
 pub append-spec : {M : Type 1} → statement M
 append-spec =

@@ -42,7 +42,7 @@ answer-requires c κs =
     let G = c .before .before .before .goes-on in
     let size = length (A .out .now) in
     let tests = and-true (ltb (found .result) (length (A .block .now))) (leb (A .at + lineMost) size) (sym (G .ensures) ∙ not-false (G .result) (c .before .before .if1 .left)) in
-    (omega (arith, H .ensures .count-is, length-take clipMost (heldOf (A .held) ++ take (found .result) (A .block .now))), leb-true (A .at + lineMost) size (tests .1))
+    record { whole = omega (arith, H .ensures .count-is, length-take clipMost (heldOf (A .held) ++ take (found .result) (A .block .now))); room = leb-true (A .at + lineMost) size (tests .1) }
 
 add-t12 : tie.Need-add-t12
 add-t12 c =

@@ -24,7 +24,7 @@ slice-aggregate-append : tie.Need-slice-aggregate-append
 slice-aggregate-append c = search needs
 
 append-requires : tie.Need-append-requires
-append-requires c κs = let S = c .before .before .before .before .before in omega (arith, full S, c .before .before .least2 .ensures, c .before .before .before .least .ensures)
+append-requires c κs = let S = c .before .before .before .before .before in let size = full S in record { there = omega (arith, c .before .before .least2 .ensures); room = omega (arith, size, c .before .before .least2 .ensures, c .before .before .before .least .ensures) }
 
 returns : tie.Need-returns
 returns c =

@@ -14,7 +14,7 @@ slice-reshare-prefix-written : tie.Need-slice-reshare-prefix-written
 slice-reshare-prefix-written c = search needs
 
 slice-aggregate-written : tie.Need-slice-aggregate-written
-slice-aggregate-written c = let A = c .before .before .before .before .before .args in sym (length-take-le (A .filled) (A .lines .now) (omega (arith, c .before .before .before .before .before .pre)))
+slice-aggregate-written c = let A = c .before .before .before .before .before .args in sym (length-take-le (A .filled) (A .lines .now) (omega (arith, c .before .before .before .before .before .pre .within, c .before .before .before .before .before .pre .sized)))
 
 written-requires : tie.Need-written-requires
 written-requires c κs = search needs
@@ -26,7 +26,7 @@ slice-aggregate-append : tie.Need-slice-aggregate-append
 slice-aggregate-append c = sym (length-take-le (c .before .before .before .before .line .result) (c .before .before .before .before .line .last .1 .0) (c .before .before .before .before .line .ensures .1))
 
 append-requires : tie.Need-append-requires
-append-requires c κs = (omega (arith, length-take (c .before .before .before .before .before .line .result) (c .before .before .before .before .before .line .last .1 .0), c .before .before .before .before .before .line .ensures .0), c .before .before .before .before .before .before .before .before .pre .1)
+append-requires c κs = record { fits = omega (arith, length-take (c .before .before .before .before .before .line .result) (c .before .before .before .before .before .line .last .1 .0), c .before .before .before .before .before .line .ensures .0); sized = c .before .before .before .before .before .before .before .before .pre .sized }
 
 same-length : tie.Need-same-length
 same-length c = search needs
@@ -41,7 +41,7 @@ slice-aggregate-append-2 : tie.Need-slice-aggregate-append-2
 slice-aggregate-append-2 c = sym (length-take-le (c .before .before .line .result) (c .before .before .line .last .1 .0) (c .before .before .line .ensures .1))
 
 append-requires-2 : tie.Need-append-requires-2
-append-requires-2 c κs = (omega (arith, length-take (c .before .before .before .line .result) (c .before .before .before .line .last .1 .0), c .before .before .before .line .ensures .0, c .before .before .if1 .left), c .before .before .before .before .before .before .pre .1)
+append-requires-2 c κs = record { fits = omega (arith, length-take (c .before .before .before .line .result) (c .before .before .before .line .last .1 .0), c .before .before .before .line .ensures .0, c .before .before .if1 .left); sized = c .before .before .before .before .before .before .pre .sized }
 
 same-length-2 : tie.Need-same-length-2
 same-length-2 c = search needs

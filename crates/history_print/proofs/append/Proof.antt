@@ -21,7 +21,7 @@ part-copy-start : tie.Need-part-copy-start
 part-copy-start c = search needs
 
 part-copy-end : tie.Need-part-copy-end
-part-copy-end c = let A = c .before .before .args in omega (arith, c .before .before .pre, length-set (A .lines .now) (A .filled + length (A .text .now)) 10)
+part-copy-end c = let A = c .before .before .args in omega (arith, c .before .before .pre .fits, c .before .before .pre .sized, length-set (A .lines .now) (A .filled + length (A .text .now)) 10)
 
 copy-requires : tie.Need-copy-requires
 copy-requires c κs = search needs
@@ -35,7 +35,7 @@ same-length c =
     let n = length (A .text .now) in
     let w = set (A .lines .now) (A .filled + n) 10 in
     let same : length w ≡ length (A .lines .now) = length-set (A .lines .now) (A .filled + n) 10 in
-    let room : A .filled + n ≤ length w = omega (arith, same, c .before .before .before .before .before .before .pre) in
+    let room : A .filled + n ≤ length w = omega (arith, same, c .before .before .before .before .before .before .pre .fits, c .before .before .before .before .before .before .pre .sized) in
     lent-length w (A .filled) n (c .before .before .copy .last .1 .0) room (lent-size w (A .filled) n (c .before .before .copy .last .1 .0) room (c .before .before .copy .kept .1 .0)) ∙ same
 
 returns : tie.Need-returns

@@ -85,7 +85,7 @@ returns-2 c =
     )
 
 op-words-requires : tie.Need-op-words-requires
-op-words-requires c κs = let l = lists c in (l .few, l .each-item, l .each-value)
+op-words-requires c κs = lists c
 
 slice-aggregate-commit-words : tie.Need-slice-aggregate-commit-words
 slice-aggregate-commit-words c = search needs

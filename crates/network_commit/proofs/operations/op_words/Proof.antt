@@ -35,7 +35,7 @@ loop-again c =
     let l = c .before .before .before .loop in
     let s = c .before .before .before .before .before .before in
     let A = s .args in
-    (omega arith, ops-next (A .kinds .now) (A .items .now) (A .values .now) (l .out) (l .i) (l .inv .1) (c .op-word .last .0) (s .pre .1) (s .pre .2) (omega arith) (c .op-word .ensures))
+    (omega arith, ops-next (A .kinds .now) (A .items .now) (A .values .now) (l .out) (l .i) (l .inv .1) (c .op-word .last .0) (s .pre .each-item) (s .pre .each-value) (omega arith) (c .op-word .ensures))
 
 returns : tie.Need-returns Inv-loop μ-loop
 returns c =
