@@ -38,8 +38,8 @@ pub fn holdings(state: &[u32; WORDS]) -> Totals
     ensures { λ r. ⌜ (r .sites ≡ length (networkIn (now (state .entry)) .sites)) × (r .items ≡ length (networkIn (now (state .entry)) .items)) × (r .records ≡ length (networkIn (now (state .entry)) .history)) ⌝ }
 {
     Totals {
-        sites: network_access::site_count(state),
-        items: network_access::item_count(state),
+        sites: network_placement::site_count(state),
+        items: network_placement::item_count(state),
         records: network_access::record_count(state),
     }
 }

@@ -1,5 +1,5 @@
 -- A site, a line or a record lent as a part of the state: what is read of it, and what a step on it does to the network.
-use mathlib.Core.Path.{_≡_, sym, ap, ap₂, _∙_}
+use mathlib.Core.Path.{_≡_, sym, ap, _∙_}
 use mathlib.Core.Bool.{true}
 use mathlib.Core.List.{List}
 use Prim.Native.Nat.{ℕ, _+_, _-_, _*_, _≤_, _<_, min}
@@ -11,28 +11,18 @@ use Rattle.words.proofs.Walks.{overlaid-same}
 use Rattle.timestamp.specs.Timestamp.{Stamp}
 use Rattle.site.specs.Site.{Site}
 use Rattle.site.specs.InWords.{siteIn, siteRange, siteSize, opsIn, opsSize}
-use Rattle.placement.specs.Placement.{noItem}
-use Rattle.placement.specs.InWords.{itemAt, itemsIn}
-use Rattle.limits.specs.Limits.{opsMost, itemsMost, sitesMost}
+use Rattle.limits.specs.Limits.{opsMost, sitesMost}
 use Rattle.lines.specs.Lines.{Line, noLine}
 use Rattle.lines.specs.InWords.{lineIn, lineRange, lineSize}
 use Rattle.records.specs.Records.{Record}
 use Rattle.records.specs.InWords.{recordIn, recordSize, opsAt, opsWords, Written}
 use Rattle.records.proofs.Laws.{ops-whole}
 use Rattle.protocol.specs.Network.{siteAt, withSite, withLine, withRecord, noRecord}
-use Rattle.network_layout.specs.Layout.{siteCount, itemCount, recordCount, itemsAt, itemsSize, sitesAt, linesAt, historyAt}
+use Rattle.network_layout.specs.Layout.{siteCount, recordCount, sitesAt, linesAt, historyAt}
 use Rattle.network_layout.specs.InWords.{networkIn, inRange, SiteStep, LineStep, RecordStep}
-use Rattle.network_layout.specs.At.{AtState, AtSite, AtLine, AtRoom, HasLine, HasRecord}
+use Rattle.network_layout.specs.At.{AtSite, AtLine, AtRoom, HasLine, HasRecord}
 use Rattle.network_layout.proofs.Assembled.{partsOf, range-parts, line-read, line-in-range, line-put, line-range, site-read, site-in-range, site-put, site-range, record-read, longer, record-put, record-range}
-use Rattle.network_layout.proofs.Performs.{items-asked, item-read}
 use Rattle.network_access.specs.Lent.{Lent}
-
--- ---- the placement's words and the number of items, as its functions are asked
-pub items-lent : (w : List ℕ) → AtState w → (xs : List ℕ) → xs ≡ part w itemsAt itemsSize → (m n : ℕ) → m ≡ itemCount w → n ≡ m → itemsIn (min n itemsMost) xs ≡ networkIn w .items
-items-lent w at xs e m n is same = ap (itemsIn (min n itemsMost)) e ∙ items-asked w (at .ranged) n (same ∙ is)
-
-pub item-lent : (w xs : List ℕ) → xs ≡ part w itemsAt itemsSize → (n k : ℕ) → n ≡ k → k < itemCount w → itemAt xs n ≡ getD (networkIn w .items) k noItem
-item-lent w xs e n k is h = ap₂ itemAt e is ∙ item-read w k h
 
 -- ---- where the words of one thing start, and those words as they are lent
 abbrev pub lineStart : ℕ → ℕ

@@ -2,14 +2,11 @@
 use limits::SITES_WIDE;
 use lines::Message;
 use network_layout::HISTORY;
-use network_layout::ITEM_COUNT;
-use network_layout::ITEMS;
 use network_layout::LINE;
 use network_layout::LINES;
 use network_layout::RECORD;
 use network_layout::RECORD_COUNT;
 use network_layout::SITE;
-use network_layout::SITE_COUNT;
 use network_layout::SITES;
 use site::OPERATIONS;
 use timestamp::Count;
@@ -24,98 +21,17 @@ ghost use Rattle.timestamp.specs.Timestamp.{stampOf};
 ghost use Rattle.site.specs.Operations.{worked};
 ghost use Rattle.site.specs.Site.{committed, dummied, atEpoch, received};
 ghost use Rattle.site.specs.InWords.{siteIn, siteSize, opsIn};
-ghost use Rattle.limits.specs.Limits.{opsMost, sitesMost, heldMost};
-ghost use Rattle.placement.specs.Masks.{maskOf};
-ghost use Rattle.placement.specs.Placement.{isLine, hasParents, owns, copies};
+ghost use Rattle.limits.specs.Limits.{opsMost, heldMost};
 ghost use Rattle.lines.specs.Lines.{commit, noLine, sentOrSame, deliveredOrSame, takenOrSame};
 ghost use Rattle.lines.specs.InWords.{messageOf, lineIn, lineSize};
 ghost use Rattle.records.specs.InWords.{recordIn, recordSize};
-ghost use Rattle.network_layout.specs.Layout.{stateSize, siteCount, itemCount, recordCount, itemsAt, itemsSize};
-ghost use Rattle.words.specs.Words.{part};
+ghost use Rattle.network_layout.specs.Layout.{stateSize, recordCount};
 ghost use Rattle.protocol.specs.Network.{lineNumber, siteAt, noRecord, noStamp};
 ghost use Rattle.protocol.specs.Steps.{countAtMost};
 ghost use Rattle.network_layout.specs.InWords.{networkIn, SiteStep, LineStep, RecordStep};
-ghost use Rattle.network_layout.specs.At.{AtState, AtSite, AtLine, AtRoom, HasItem, HasLine, HasRecord};
+ghost use Rattle.network_layout.specs.At.{AtSite, AtLine, AtRoom, HasLine, HasRecord};
 ghost use Rattle.network_layout.specs.Promises.{Blank};
 ghost use Rattle.network_access.specs.Lent.{Lent};
-
-// ---- how many there are
-pub fn site_count(state: &[u32]) -> u32
-    requires { ⌜ length (now state) ≡ stateSize ⌝ }
-    ensures { λ r. ⌜ r ≡ siteCount (now (state .entry)) ⌝ }
-{
-    state[SITE_COUNT]
-}
-
-pub fn item_count(state: &[u32]) -> u32
-    requires { ⌜ length (now state) ≡ stateSize ⌝ }
-    ensures { λ r. ⌜ r ≡ itemCount (now (state .entry)) ⌝ }
-{
-    state[ITEM_COUNT]
-}
-
-pub fn record_count(state: &[u32]) -> u32
-    requires { ⌜ length (now state) ≡ stateSize ⌝ }
-    ensures { λ r. ⌜ r ≡ recordCount (now (state .entry)) ⌝ }
-{
-    state[RECORD_COUNT]
-}
-
-// ---- the placement
-// Its words, two for each item.
-pub fn placed(state: &[u32]) -> &[u32]
-    requires { ⌜ length (now state) ≡ stateSize ⌝ }
-    ensures { λ r. ⌜ now r ≡ part (now (state .entry)) itemsAt itemsSize ⌝ }
-{
-    &state[ITEMS..SITES]
-}
-
-pub fn is_line(state: &[u32], p: u32, c: u32) -> bool
-    requires { ⌜ AtState (now state) ⌝ }
-    ensures { λ r. ⌜ r ≡ isLine (networkIn (now (state .entry)) .items) p c ⌝ }
-{
-    placement::is_line(placed(state), words::wide(item_count(state)), p, c)
-}
-
-pub fn has_parents(state: &[u32], c: u32) -> bool
-    requires { ⌜ AtState (now state) ⌝ }
-    ensures { λ r. ⌜ r ≡ hasParents (networkIn (now (state .entry)) .items) c ⌝ }
-{
-    placement::has_parents(placed(state), words::wide(item_count(state)), c)
-}
-
-pub fn children(state: &[u32], p: u32) -> u32
-    requires { ⌜ AtState (now state) ⌝ }
-    ensures { λ r. ⌜ r ≡ maskOf (isLine (networkIn (now (state .entry)) .items) p) sitesMost ⌝ }
-{
-    placement::children(placed(state), words::wide(item_count(state)), p)
-}
-
-pub fn parents(state: &[u32], c: u32) -> u32
-    requires { ⌜ AtState (now state) ⌝ }
-    ensures { λ r. ⌜ r ≡ maskOf (λ p. isLine (networkIn (now (state .entry)) .items) p c) sitesMost ⌝ }
-{
-    placement::parents(placed(state), words::wide(item_count(state)), c)
-}
-
-// Whether an item has its primary at site i.
-pub fn is_owned(state: &[u32], item: u32, i: u32) -> bool
-    requires { ⌜ HasItem (now state) item ⌝ }
-    ensures { λ r. ⌜ r ≡ owns (networkIn (now (state .entry)) .items) i item ⌝ }
-{
-    placement::primary(placed(state), words::wide(item)) == i
-}
-
-// Whether an item has a copy at site i; one that is not there has none.
-pub fn is_copied(state: &[u32], item: u32, i: u32) -> bool
-    requires { ⌜ length (now state) ≡ stateSize ⌝ }
-    ensures { λ r. ⌜ r ≡ copies (networkIn (now (state .entry)) .items) i item ⌝ }
-{
-    if item_count(state) <= item {
-        return placement::bit(0, i);
-    }
-    placement::bit(placement::mask(placed(state), words::wide(item)), i)
-}
 
 // ---- lines
 // The number of the line from site p to site c.
@@ -249,6 +165,14 @@ pub fn site_commit(state: &mut [u32], i: usize, ops: &[u32], n: usize) -> [u32; 
 }
 
 // ---- records
+// How many there are.
+pub fn record_count(state: &[u32]) -> u32
+    requires { ⌜ length (now state) ≡ stateSize ⌝ }
+    ensures { λ r. ⌜ r ≡ recordCount (now (state .entry)) ⌝ }
+{
+    state[RECORD_COUNT]
+}
+
 // The words of record k.
 pub fn record_at(state: &[u32], k: usize) -> &[u32]
     requires { ⌜ HasRecord (now state) k ⌝ }

@@ -24,10 +24,10 @@ pub fn schedule_number(state: &[u32], j: u32) -> u32
     requires { ⌜ AtNetwork (now state) ⌝ }
     ensures { λ r. ⌜ r ≡ scheduleNumber (networkIn (now (state .entry))) j ⌝ }
 {
-    if !network_shape::is_site(state, j) {
+    if !network_placement::is_site(state, j) {
         return 7;
     }
-    if !network_access::has_parents(state, j) {
+    if !network_placement::has_parents(state, j) {
         return 19;
     }
     if lacks_arrived(state, j) {
@@ -41,7 +41,7 @@ fn lacks_arrived(state: &[u32], j: u32) -> bool
     requires { ⌜ AtChild (now state) j ⌝ }
     ensures { λ r. ⌜ r ≡ someBelow (lacksArrived (networkIn (now (state .entry))) j) sitesMost ⌝ }
 {
-    let mask = network_access::parents(state, j);
+    let mask = network_placement::parents(state, j);
     let mut p = 0;
     while p < limits::SITES {
         if lacks_from(state, mask, p, j) {
@@ -68,7 +68,7 @@ pub fn chosen(state: &[u32], j: u32) -> Head
     requires { ⌜ Choosing (now state) j ⌝ }
     ensures { λ r. ⌜ Best (networkIn (now (state .entry))) j sitesMost (r .parent) (stampOf (r .stamp)) ⌝ }
 {
-    let mask = network_access::parents(state, j);
+    let mask = network_placement::parents(state, j);
     let mut best = Head {
         parent: limits::SITES,
         stamp: network_access::no_stamp(),

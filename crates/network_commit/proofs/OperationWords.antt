@@ -2,7 +2,7 @@
 use mathlib.Core.Path.{_≡_, refl, sym, ap, _∙_}
 use mathlib.Core.Bool.{Bool, true, false, cond}
 use mathlib.Core.List.{List, [], _∷_, _++_, append-nil}
-use Prim.Native.Nat.{ℕ, zero, suc, _+_, _*_, _≤_, _<_}
+use Prim.Native.Nat.{ℕ, zero, suc, _+_, _≤_, _<_}
 use native.Mathlib.Omega.{arith}
 use native.Mathlib.Numerals.{add-one}
 use native.Mathlib.Nat.{not-suc-le-zero}
@@ -13,12 +13,10 @@ use borrow.Author.Tests.{eq-eqb, ne-eqb}
 use mir.Val.{toZ, ofZ, SFits}
 use mir.ValLaws.{toZ-ofZ}
 use mir.Syntax.{w32}
-use Rattle.words.specs.Words.{laid}
 use Rattle.words.proofs.Signed.{again}
 use Rattle.site.specs.Operations.{Op, reads, valuesRead}
-use Rattle.site.specs.InWords.{opAt, opsIn, opsSize}
-use Rattle.limits.specs.Limits.{opsMost}
-use Rattle.site.proofs.Laws.{op-word, laid-op, ops-last}
+use Rattle.site.specs.InWords.{opAt, opsIn, opOf}
+use Rattle.site.proofs.Laws.{ops-last}
 use Rattle.protocol.specs.Steps.{opsOf}
 
 -- ---- operations from the lists of their fields
@@ -52,12 +50,11 @@ module _ (ks is : List ℕ) (vs : List ℤ) (out : List ℕ) (i : ℕ) (e : opsI
   pub ops-all : i ≡ length ks → opsIn (length ks) out ≡ opsOf ks is vs
   ops-all f = ap (λ (n : ℕ). opsIn n out) (sym f) ∙ e ∙ take-all i (opsOf ks is vs) (omega (arith, ops-count ks is vs))
 
--- the words of one operation, laid after those of the i before it
-pub fields-laid : (out out′ : List ℕ) (i k item : ℕ) (v : ℤ) (kind w : ℕ) → length out ≡ opsSize → i < opsMost → out′ ≡ laid out (3 * i) (kind ∷ (item ∷ (w ∷ [])))
-    → kind ≡ k → w ≡ ofZ w32 (again v) → SFits w32 v → opsIn (i + 1) out′ ≡ opsIn i out ++ opsOf (k ∷ []) (item ∷ []) (v ∷ [])
-fields-laid out out′ i k item v kind w size h e f g s =
+-- an operation whose value is given as a signed number
+pub op-given : (k item : ℕ) (v : ℤ) (kind w : ℕ) → kind ≡ k → w ≡ ofZ w32 (again v) → SFits w32 v → opOf kind item w ≡ record { kind = k; item = item; value = v }
+op-given k item v kind w f g s =
     let value : toZ w32 w ≡ v = ap (toZ w32) g ∙ ap again (toZ-ofZ w32 v s) ∙ toZ-ofZ w32 v s in
-    laid-op out out′ i kind item w (record { kind = k; item = item; value = v }) size h e (λ t. record { kind = f t; item = item; value = value t })
+    λ t. record { kind = f t; item = item; value = value t }
 
 -- ---- the values that reads gave
 more : (b : Bool) (v : ℤ) (xs ys zs : List ℤ) → xs ≡ ys ++ zs → cond b (v ∷ xs) xs ≡ cond b (v ∷ ys) ys ++ zs
@@ -74,20 +71,17 @@ pub read-next : (ops : List ℕ) (i count : ℕ) (vs : List ℤ) → take count 
 read-next ops i count vs e count′ vs′ f =
     f ∙ ap (λ (l : List ℤ). l ++ valuesRead (opAt ops i ∷ [])) e ∙ sym (ap valuesRead (ops-last i ops) ∙ reads-last (opsIn i ops) (opAt ops i))
 
-module _ (ops : List ℕ) (i kind : ℕ) (k : kind ≡ getD ops (3 * i) 0) (count : ℕ) (vs : List ℤ) where
-  same-kind : kind ≡ opAt ops i .kind
-  same-kind = k ∙ op-word ops i (3 * i) 0 (omega arith) (omega arith)
-
+module _ (o : Op) (kind : ℕ) (k : kind ≡ o .kind) (count : ℕ) (vs : List ℤ) where
   -- what is not a read gives no value
-  pub read-none : (kind ≡ 0 → ⊥) → take count vs ≡ take count vs ++ valuesRead (opAt ops i ∷ [])
-  read-none z = sym (rw (ne-eqb (opAt ops i .kind) 0 (λ f. z (same-kind ∙ f))) (append-nil (take count vs)))
+  pub read-none : (kind ≡ 0 → ⊥) → take count vs ≡ take count vs ++ valuesRead (o ∷ [])
+  read-none z = sym (rw (ne-eqb (o .kind) 0 (λ f. z (k ∙ f))) (append-nil (take count vs)))
 
   -- a read gives its own
-  pub read-one : (w : ℕ) (z : ℤ) → kind ≡ 0 → count < length vs → w ≡ getD ops (3 * i + 2) 0 → z ≡ toZ w32 w → SFits w32 z
-      → take (count + 1) (set vs count (again z)) ≡ take count vs ++ valuesRead (opAt ops i ∷ [])
+  pub read-one : (w : ℕ) (z : ℤ) → kind ≡ 0 → count < length vs → toZ w32 w ≡ o .value → z ≡ toZ w32 w → SFits w32 z
+      → take (count + 1) (set vs count (again z)) ≡ take count vs ++ valuesRead (o ∷ [])
   read-one w z n h e f s =
-      let value : again z ≡ opAt ops i .value = toZ-ofZ w32 z s ∙ f ∙ ap (toZ w32) (e ∙ op-word ops i (3 * i + 2) 2 refl (omega arith)) in
+      let value : again z ≡ o .value = toZ-ofZ w32 z s ∙ f ∙ e in
       ap (λ (m : ℕ). take m (set vs count (again z))) (add-one count)
       ∙ take-suc-set vs count (again z) h
       ∙ ap (λ (x : ℤ). take count vs ++ (x ∷ [])) value
-      ∙ sym (rw (eq-eqb (opAt ops i .kind) 0 (sym same-kind ∙ n)))
+      ∙ sym (rw (eq-eqb (o .kind) 0 (sym k ∙ n)))

@@ -18,18 +18,6 @@ use Rattle.network_layout.specs.Layout.{stateSize}
 use Rattle.network_layout.specs.InWords.{networkIn, inRange}
 use Rattle.network_layout.specs.At.{AtNetwork}
 
--- n operations in words, on a state in range
-pub record WithOps (w : List ℕ) (n : ℕ) : Type 0 where
-  pub sized : length w ≡ stateSize
-  pub ranged : inRange w ≡ true
-  pub few-ops : n ≤ opsMost
-
--- one of them
-pub record WithOp (w : List ℕ) (k : ℕ) : Type 0 where
-  pub sized : length w ≡ stateSize
-  pub ranged : inRange w ≡ true
-  pub few-ops : k < opsMost
-
 -- operation i is in each of the lists of the fields
 pub record InLists (i kinds items values : ℕ) : Type 0 where
   pub few-ops : i < opsMost

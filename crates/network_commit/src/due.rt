@@ -1,20 +1,19 @@
 // What a commit's operations ask of the placement: whether each may be done, and which sites are due a message.
+use site::operations;
 ghost use mathlib.Core.Path.{_≡_};
-ghost use mathlib.Core.Bool.{_&&_};
 ghost use mathlib.Core.List.{map};
-ghost use Rattle.site.specs.Operations.{writes};
+ghost use lib.ListN.{length};
 ghost use Rattle.site.specs.InWords.{opAt, opsIn};
 ghost use Rattle.limits.specs.Limits.{sitesMost};
 ghost use Rattle.placement.specs.Masks.{maskOf};
 ghost use Rattle.lists.specs.Numbers.{firstNumber};
-ghost use Rattle.placement.specs.Placement.{copies};
 ghost use Rattle.protocol.specs.Steps.{opNumber, due as dueOf};
+ghost use Rattle.network_layout.specs.Layout.{stateSize};
 ghost use Rattle.network_layout.specs.InWords.{networkIn};
-ghost use Rattle.network_commit.specs.Done.{WithOps, WithOp};
 
 // The number for which the first faulty of n operations is refused at a site, or 0.
 pub fn ops_number(state: &[u32], site: u32, ops: &[u32], n: usize) -> u32
-    requires { ⌜ WithOps (now state) n ⌝ }
+    requires { ⌜ length (now state) ≡ stateSize ⌝ }
     ensures { λ r. ⌜ r ≡ firstNumber (map (opNumber (networkIn (now (state .entry)) .items) site) (opsIn n (now (ops .entry)))) ⌝ }
 {
     let mut k = 0;
@@ -30,7 +29,7 @@ pub fn ops_number(state: &[u32], site: u32, ops: &[u32], n: usize) -> u32
 
 // The mask of the sites that have a copy of an item that one of the n operations writes.
 pub fn due_mask(state: &[u32], ops: &[u32], n: usize) -> u32
-    requires { ⌜ WithOps (now state) n ⌝ }
+    requires { ⌜ length (now state) ≡ stateSize ⌝ }
     ensures { λ r. ⌜ r ≡ maskOf (dueOf (networkIn (now (state .entry)) .items) (opsIn n (now (ops .entry)))) sitesMost ⌝ }
 {
     let mut m = 0;
@@ -46,12 +45,12 @@ pub fn due_mask(state: &[u32], ops: &[u32], n: usize) -> u32
 
 // Whether site c has a copy of an item that one of the n operations writes.
 fn due(state: &[u32], ops: &[u32], n: usize, c: u32) -> bool
-    requires { ⌜ WithOps (now state) n ⌝ }
+    requires { ⌜ length (now state) ≡ stateSize ⌝ }
     ensures { λ r. ⌜ r ≡ dueOf (networkIn (now (state .entry)) .items) (opsIn n (now (ops .entry))) c ⌝ }
 {
     let mut k = 0;
     while k < n {
-        if writes_copy(state, ops, k, c) {
+        if network_placement::is_wanted(state, ops, k, c) {
             return true;
         }
         k += 1;
@@ -59,37 +58,26 @@ fn due(state: &[u32], ops: &[u32], n: usize, c: u32) -> bool
     false
 }
 
-// Whether operation k writes an item of which site c has a copy.
-fn writes_copy(state: &[u32], ops: &[u32], k: usize, c: u32) -> bool
-    requires { ⌜ WithOp (now state) k ⌝ }
-    ensures { λ r. ⌜ r ≡ (writes (opAt (now (ops .entry)) k) && copies (networkIn (now (state .entry)) .items) c (opAt (now (ops .entry)) k .item)) ⌝ }
-{
-    if words::word(ops, 3 * k) != 1 {
-        return false;
-    }
-    network_access::is_copied(state, words::word(ops, 3 * k + 1), c)
-}
-
 // The number for which operation k is refused at a site, or 0.
 fn op_number(state: &[u32], site: u32, ops: &[u32], k: usize) -> u32
-    requires { ⌜ WithOp (now state) k ⌝ }
+    requires { ⌜ length (now state) ≡ stateSize ⌝ }
     ensures { λ r. ⌜ r ≡ opNumber (networkIn (now (state .entry)) .items) site (opAt (now (ops .entry)) k) ⌝ }
 {
-    let kind = words::word(ops, 3 * k);
-    let item = words::word(ops, 3 * k + 1);
-    if 1 < kind {
+    let kind = operations::kind(ops, k);
+    let item = operations::item(ops, k);
+    if operations::WRITE < kind {
         return 9;
     }
-    if state[1] <= item {
+    if network_placement::item_count(state) <= item {
         return 9;
     }
-    if network_access::is_owned(state, item, site) {
+    if network_placement::is_owned(state, item, site) {
         return 0;
     }
-    if kind == 1 {
+    if kind == operations::WRITE {
         return 11;
     }
-    if network_access::is_copied(state, item, site) {
+    if network_placement::is_copied(state, item, site) {
         return 0;
     }
     10

@@ -71,7 +71,7 @@ pub fn commit_on(
     ensures { λ r. ⌜ ((r .number ≡ 0 → ⊥) → Blank (r .stamp) × (r .count ≡ 0)) ⌝ }
     ensures { λ r. ⌜ Filled (pos 0) opsMost (r .count) (r .values) ⌝ }
 {
-    if !network_shape::is_site(state, site) {
+    if !network_placement::is_site(state, site) {
         return refused(7);
     }
     if wrong_lists(kinds.len(), items.len(), values.len()) {

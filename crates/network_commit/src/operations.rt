@@ -1,4 +1,5 @@
 // A commit's operations: from the lent lists of their fields to words, and the values that its reads gave.
+use site::operations;
 ghost use mathlib.Core.Path.{_≡_};
 ghost use mathlib.Core.List.{[], _∷_, _++_};
 ghost use Prim.Native.Nat.{_+_, _≤_};
@@ -57,8 +58,7 @@ fn op_word(out: &mut [u32; site::OPERATIONS], kinds: &[u8], items: &[u32], value
     let kind = wide8(kinds[i]);
     let item = items[i];
     let v = values[i];
-    let word = words::bits(v);
-    words::lay(out, 3 * i, &[kind, item, word]);
+    operations::put(out, i, kind, item, words::bits(v));
 }
 
 // The value of operation i, where it is a read, after the `count` values before it; answers how many there are then.
@@ -66,11 +66,10 @@ fn value_read(values: &mut [i32], count: usize, ops: &[u32], i: usize) -> usize
     requires { ⌜ Reading count i (length (now values)) ⌝ }
     ensures { λ r. ⌜ (r ≤ i + 1) × (take r (now (values .exit)) ≡ take count (now (values .entry)) ++ valuesRead (opAt (now (ops .entry)) i ∷ [])) × (count ≤ r) × (drop r (now (values .exit)) ≡ drop r (now (values .entry))) ⌝ }
 {
-    let at = 3 * i;
-    if words::word(ops, at) != 0 {
+    if operations::kind(ops, i) != operations::READ {
         return count;
     }
-    values[count] = words::value(words::word(ops, at + 2));
+    values[count] = words::value(operations::value(ops, i));
     count + 1
 }
 

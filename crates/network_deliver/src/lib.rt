@@ -47,13 +47,13 @@ fn deliver_number(state: &[u32], parent: u32, child: u32) -> u32
     requires { ⌜ AtNetwork (now state) ⌝ }
     ensures { λ r. ⌜ r ≡ deliverNumber (networkIn (now (state .entry))) parent child ⌝ }
 {
-    if !network_shape::is_site(state, parent) {
+    if !network_placement::is_site(state, parent) {
         return 7;
     }
-    if !network_shape::is_site(state, child) {
+    if !network_placement::is_site(state, child) {
         return 7;
     }
-    if !network_access::is_line(state, parent, child) {
+    if !network_placement::is_line(state, parent, child) {
         return 17;
     }
     if none_on_way(state, parent, child) {

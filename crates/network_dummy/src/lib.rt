@@ -67,10 +67,10 @@ fn dummy_number(state: &[u32], site: u32) -> u32
     requires { ⌜ AtNetwork (now state) ⌝ }
     ensures { λ r. ⌜ r ≡ dummyNumber (networkIn (now (state .entry))) site ⌝ }
 {
-    if !network_shape::is_site(state, site) {
+    if !network_placement::is_site(state, site) {
         return 7;
     }
-    let mask = network_access::children(state, site);
+    let mask = network_placement::children(state, site);
     if network_sending::some_line_full(state, site, mask) {
         return 13;
     }
@@ -85,7 +85,7 @@ fn dummy_done(state: &mut [u32], site: u32) -> Timestamp
     requires { ⌜ DummyReady (now state) site ⌝ }
     ensures { λ r. ⌜ DummyDone (now (state .entry)) (now (state .exit)) site (stampOf r) ⌝ }
 {
-    let mask = network_access::children(state, site);
+    let mask = network_placement::children(state, site);
     let t = raise(state, site);
     let m = Message {
         name: limits::RECORDS,

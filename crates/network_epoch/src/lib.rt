@@ -46,10 +46,10 @@ fn epoch_number(state: &[u32], site: u32, to: u32) -> u32
     requires { ⌜ AtNetwork (now state) ⌝ }
     ensures { λ r. ⌜ r ≡ epochNumber (networkIn (now (state .entry))) site to ⌝ }
 {
-    if !network_shape::is_site(state, site) {
+    if !network_placement::is_site(state, site) {
         return 7;
     }
-    if network_access::has_parents(state, site) {
+    if network_placement::has_parents(state, site) {
         return 15;
     }
     let t = network_access::site_stamp(state, words::wide(site));

@@ -1,25 +1,15 @@
--- What a commit's operations ask of the placement: the number of one operation, cause by cause, and an operation's fields in words.
-use mathlib.Core.Path.{_≡_, refl, _∙_}
+-- What a commit's operations ask of the placement: the number of one operation, cause by cause.
+use mathlib.Core.Path.{_≡_, refl}
 use mathlib.Core.Bool.{Bool, true, false, not, _&&_, _||_}
 use mathlib.Core.List.{List, [], _∷_}
-use Prim.Native.Nat.{ℕ, _+_, _*_, _≤_, _<_}
+use Prim.Native.Nat.{ℕ, _≤_, _<_}
 use native.Mathlib.Omega.{arith}
-use lib.ListN.{length, getD}
+use lib.ListN.{length}
 use borrow.Author.Tests.{lt-ltb, le-ltb, le-leb, lt-leb, eq-eqb, ne-eqb}
 use Rattle.site.specs.Operations.{Op, reads, writes}
-use Rattle.site.specs.InWords.{opAt}
-use Rattle.site.proofs.Laws.{op-word}
 use Rattle.placement.specs.Placement.{Item, owns, copies}
 use Rattle.lists.specs.Numbers.{firstNumber, numberIf}
 use Rattle.protocol.specs.Steps.{opNumber}
-
--- ---- the fields of operation k
-module _ (ops : List ℕ) (k : ℕ) where
-  pub kind-is : (x : ℕ) → x ≡ getD ops (3 * k) 0 → x ≡ opAt ops k .kind
-  kind-is x e = e ∙ op-word ops k (3 * k) 0 (omega arith) (omega arith)
-
-  pub item-is : (x : ℕ) → x ≡ getD ops (3 * k + 1) 0 → x ≡ opAt ops k .item
-  item-is x e = e ∙ op-word ops k (3 * k + 1) 1 refl (omega arith)
 
 -- ---- the number of an operation, by the outcomes of its tests
 abbrev byTests : Bool → Bool → Bool → Bool → Bool → Bool → ℕ

@@ -1,27 +1,23 @@
 -- Schedule: the writes of its message, and the network after it.
 use mathlib.Core.Path.{_≡_, refl, sym, ap, ap₂, _∙_}
-use mathlib.Core.Bool.{Bool, true, false, _&&_}
+use mathlib.Core.Bool.{Bool, true, false}
 use mathlib.Core.List.{List, [], _∷_, _++_, append-nil}
-use Prim.Native.Nat.{ℕ, _+_, _*_, _≤_, min}
+use Prim.Native.Nat.{ℕ, _+_, _≤_, min}
 use native.Mathlib.Omega.{arith}
 use lib.ListN.{length, getD}
-use mir.Val.{toZ}
-use mir.Syntax.{w32}
-use borrow.Author.Tests.{eq-eqb, ne-eqb}
 use Rattle.words.specs.Words.{chunks}
 use Rattle.lists.specs.Lists.{keep}
 use Rattle.lists.proofs.Chains.{keep-more}
 use Rattle.timestamp.specs.Timestamp.{Stamp, stampOf}
 use Rattle.site.specs.Operations.{Op}
 use Rattle.site.specs.Site.{received}
-use Rattle.site.specs.InWords.{opAt, opsIn, opOf}
+use Rattle.site.specs.InWords.{opAt, opsIn}
 use Rattle.limits.specs.Limits.{opsMost, sitesMost}
-use Rattle.site.proofs.Laws.{op-word, ops-last}
-use Rattle.placement.specs.Placement.{Item, copies}
+use Rattle.site.proofs.Laws.{ops-last}
 use Rattle.lines.specs.Lines.{Message, commit, dummy, noLine, takenOrSame}
 use Rattle.lines.proofs.Boxes.{take-some}
 use Rattle.protocol.specs.Network.{Network, noStamp, noRecord, siteAt, lineAt, lineNumber, withSite, withLine}
-use Rattle.protocol.specs.Steps.{scheduleNumber, head, headStamp, chosen, writesFor, scheduleNetwork}
+use Rattle.protocol.specs.Steps.{scheduleNumber, head, headStamp, chosen, wantedAt, writesFor, scheduleNetwork}
 use Rattle.protocol.specs.Calls.{schedule, accepted, perform}
 use Rattle.network_layout.specs.InWords.{networkIn, shaped, SiteStep, LineStep}
 use Rattle.network_layout.specs.At.{AtNetwork}
@@ -31,7 +27,7 @@ use Rattle.network_choice.specs.Choice.{Best, Choosing}
 use Rattle.network_choice.proofs.ChoiceLaws.{well, parent-few, best-line}
 use Rattle.network_layout.specs.declared.Scheduled.{Scheduled}
 use Rattle.network_schedule.specs.Answers.{Refused}
-use Rattle.network_schedule.specs.Wanted.{wantedAt, Laid}
+use Rattle.network_schedule.specs.Wanted.{Laid}
 use Rattle.protocol.proofs.Chosen.{chosen-held, keeps-schedule}
 
 -- ---- the operations that pass a test, one after another
@@ -45,28 +41,6 @@ module _ (p : Op → Bool) (ops out : List ℕ) (i count : ℕ) (so-far : Laid i
   pub laid-more : p (opAt ops i) ≡ true → (out′ : List ℕ) → opsIn (count + 1) out′ ≡ opsIn count out ++ (opAt ops i ∷ []) → Laid (i + 1) (count + 1) out′ (keep p (opsIn (i + 1) ops))
   laid-more e out′ f =
       record { few = omega (arith, so-far .few); are = f ∙ ap (λ (os : List Op). os ++ (opAt ops i ∷ [])) (so-far .are) ∙ sym (one-more ∙ rw e) }
-
--- ---- operation i, word by word
-module _ (ops : List ℕ) (i : ℕ) where
-  kind-word : getD ops (3 * i) 0 ≡ opAt ops i .kind
-  kind-word = op-word ops i (3 * i) 0 (omega arith) (omega arith)
-
-  item-word : getD ops (3 * i + 1) 0 ≡ opAt ops i .item
-  item-word = op-word ops i (3 * i + 1) 1 refl (omega arith)
-
-  pub op-words : (kind item v : ℕ) → kind ≡ getD ops (3 * i) 0 → item ≡ getD ops (3 * i + 1) 0 → v ≡ getD ops (3 * i + 2) 0 → opOf kind item v ≡ opAt ops i
-  op-words kind item v ke ie ve =
-      let value-is = ap (toZ w32) (ve ∙ op-word ops i (3 * i + 2) 2 refl (omega arith)) in
-      λ t. record { kind = (ke ∙ kind-word) t; item = (ie ∙ item-word) t; value = value-is t }
-
-  -- whether it is wanted: its kind, and then the copy
-  module _ (xs : List Item) (j kind : ℕ) (ke : kind ≡ getD ops (3 * i) 0) where
-    pub other-kind : (kind ≡ 1 → ⊥) → false ≡ wantedAt xs j (opAt ops i)
-    other-kind h = sym (ap (λ (b : Bool). b && copies xs j (opAt ops i .item)) (ne-eqb (opAt ops i .kind) 1 (λ e. h (ke ∙ kind-word ∙ e))))
-
-    pub write-kind : kind ≡ 1 → (item : ℕ) → item ≡ getD ops (3 * i + 1) 0 → copies xs j item ≡ wantedAt xs j (opAt ops i)
-    write-kind h item ie =
-        ap (copies xs j) (ie ∙ item-word) ∙ sym (ap (λ (b : Bool). b && copies xs j (opAt ops i .item)) (eq-eqb (opAt ops i .kind) 1 (sym (ke ∙ kind-word) ∙ h)))
 
 -- ---- the message's writes
 pub laid-record : (p : Op → Bool) (os : List Op) (n : ℕ) (ops : List ℕ) → (n ≡ length os) × (n ≤ opsMost) → opsIn (length os) ops ≡ os → (count : ℕ) (out : List ℕ) → Laid n count out (keep p (opsIn n ops)) → Laid opsMost count out (keep p os)

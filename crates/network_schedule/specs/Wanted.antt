@@ -1,20 +1,16 @@
 -- The writes of a message that a site wants, in words, and what the functions that gather them ask.
 use mathlib.Core.Path.{_≡_}
-use mathlib.Core.Bool.{Bool, _&&_}
 use mathlib.Core.List.{List}
 use Prim.Native.Nat.{ℕ, _≤_, _<_}
 use lib.ListN.{length}
 use Rattle.lists.specs.Lists.{keep}
 use Rattle.limits.specs.Limits.{opsMost}
-use Rattle.site.specs.Operations.{Op, writes}
+use Rattle.site.specs.Operations.{Op}
 use Rattle.site.specs.InWords.{opsIn}
-use Rattle.placement.specs.Placement.{Item, copies}
+use Rattle.protocol.specs.Steps.{wantedAt}
+use Rattle.network_layout.specs.Layout.{stateSize}
 use Rattle.network_layout.specs.InWords.{networkIn}
-use Rattle.network_layout.specs.At.{AtState, AtNetwork}
-
--- a write to an item that has a copy at j
-abbrev pub wantedAt : List Item → ℕ → Op → Bool
-wantedAt xs j o = writes o && copies xs j (o .item)
+use Rattle.network_layout.specs.At.{AtNetwork}
 
 -- these operations, at most so many, in words
 pub record Laid (most count : ℕ) (out : List ℕ) (os : List Op) : Type 0 where
@@ -28,16 +24,11 @@ pub record Recorded (w : List ℕ) (k : ℕ) : Type 0 where
   pub there : k < length (networkIn w .history)
 
 pub record Wanting (w : List ℕ) (n : ℕ) : Type 0 where
-  pub at : AtState w
+  pub sized : length w ≡ stateSize
   pub few : n ≤ opsMost
 
 -- the operations before number i are gathered
 pub record Gathering (w out : List ℕ) (count : ℕ) (ops : List ℕ) (i j : ℕ) : Type 0 where
-  pub at : AtState w
+  pub sized : length w ≡ stateSize
   pub few : i < opsMost
   pub so-far : Laid i count out (keep (wantedAt (networkIn w .items) j) (opsIn i ops))
-
--- one operation behind others
-pub record Copying (count i : ℕ) : Type 0 where
-  pub room : count < opsMost
-  pub few : i < opsMost

@@ -1,10 +1,11 @@
 // Schedule: the chosen message is done at the site and taken off its line.
 use network_layout::Scheduled;
 use network_layout::WORDS;
+use site::operations;
 use timestamp::Timestamp;
 ghost use mathlib.Core.Path.{_≡_};
 ghost use mathlib.Core.List.{[], _∷_, _++_};
-ghost use Prim.Native.Nat.{_+_};
+ghost use Prim.Native.Nat.{_+_, _<_};
 ghost use lib.ListN.{length, getD};
 ghost use Rattle.lists.specs.Lists.{keep};
 ghost use Rattle.limits.specs.Limits.{opsMost};
@@ -12,7 +13,7 @@ ghost use Rattle.timestamp.specs.Timestamp.{stampOf};
 ghost use Rattle.site.specs.Site.{received};
 ghost use Rattle.site.specs.InWords.{opAt, opsIn};
 ghost use Rattle.protocol.specs.Network.{noRecord};
-ghost use Rattle.protocol.specs.Steps.{head, writesFor};
+ghost use Rattle.protocol.specs.Steps.{head, wantedAt, writesFor};
 ghost use Rattle.protocol.specs.Calls.{schedule as scheduleCall};
 ghost use Rattle.network_layout.specs.Layout.{stateSize};
 ghost use Rattle.network_layout.specs.InWords.{networkIn, SiteStep};
@@ -20,7 +21,7 @@ ghost use Rattle.network_layout.specs.At.{AtNetwork};
 ghost use Rattle.network_layout.specs.Promises.{Performed, Blank};
 ghost use Rattle.network_choice.specs.Choice.{Choosing, ChoosingFrom};
 ghost use Rattle.network_schedule.specs.Answers.{Refused, Accepted};
-ghost use Rattle.network_schedule.specs.Wanted.{wantedAt, Laid, Recorded, Wanting, Gathering, Copying};
+ghost use Rattle.network_schedule.specs.Wanted.{Laid, Recorded, Wanting, Gathering};
 
 // Operations in words, three each: the first `count` of eight.
 struct Writes {
@@ -151,33 +152,23 @@ fn wanted_one(
     requires { ⌜ Gathering (now state) (now out) count (now ops) i j ⌝ }
     ensures { λ r. ⌜ Laid (i + 1) r (now (out .exit)) (keep (wantedAt (networkIn (now (state .entry)) .items) j) (opsIn (i + 1) (now (ops .entry)))) ⌝ }
 {
-    if !is_wanted(state, ops, i, j) {
+    if !network_placement::is_wanted(state, ops, i, j) {
         return count;
     }
     copy_one(out, count, ops, i);
     count + 1
 }
 
-// Whether operation i writes an item that has a copy at site j.
-fn is_wanted(state: &[u32], ops: &[u32], i: usize, j: u32) -> bool
-    requires { ⌜ Wanting (now state) i ⌝ }
-    ensures { λ r. ⌜ r ≡ wantedAt (networkIn (now (state .entry)) .items) j (opAt (now (ops .entry)) i) ⌝ }
-{
-    let at = 3 * i;
-    if words::word(ops, at) != 1 {
-        return false;
-    }
-    network_access::is_copied(state, words::word(ops, at + 1), j)
-}
-
 // Operation i behind the first `count`.
 fn copy_one(out: &mut [u32; site::OPERATIONS], count: usize, ops: &[u32], i: usize)
-    requires { ⌜ Copying count i ⌝ }
+    requires { ⌜ count < opsMost ⌝ }
     ensures { λ r. ⌜ opsIn (count + 1) (now (out .exit)) ≡ opsIn count (now (out .entry)) ++ (opAt (now (ops .entry)) i ∷ []) ⌝ }
 {
-    let at = 3 * i;
-    let kind = words::word(ops, at);
-    let item = words::word(ops, at + 1);
-    let value = words::word(ops, at + 2);
-    words::lay(out, 3 * count, &[kind, item, value]);
+    operations::put(
+        out,
+        count,
+        operations::kind(ops, i),
+        operations::item(ops, i),
+        operations::value(ops, i),
+    );
 }

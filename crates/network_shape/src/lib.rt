@@ -18,7 +18,6 @@ use network_layout::SITE_COUNT;
 use network_layout::SITES;
 use network_layout::WORDS;
 ghost use mathlib.Core.Path.{_≡_};
-ghost use mathlib.Core.Bool.{not};
 ghost use Prim.Native.Nat.{_+_, _*_, _≤_};
 ghost use lib.ListN.{length};
 ghost use Rattle.words.specs.Words.{part, chunks};
@@ -33,7 +32,7 @@ ghost use Rattle.records.specs.InWords.{recordSize};
 ghost use Rattle.protocol.specs.Network.{linesMost};
 ghost use Rattle.protocol.specs.Steps.{noSuchSite};
 ghost use Rattle.network_layout.specs.Layout.{stateSize};
-ghost use Rattle.network_layout.specs.InWords.{networkIn, shaped as shapedWords, numberIn};
+ghost use Rattle.network_layout.specs.InWords.{shaped as shapedWords, numberIn};
 ghost use Rattle.network_shape.specs.Tested.{countsFit, historyIn, recordTest, commitTest, messageTest, lineTest, groupShaped, historyShaped, linesShaped, Counted, Places, MessageAsked, MessagesAsked, LineAsked, LinesAsked};
 
 // 6 where the words are not those of a network, 7 where it has no such site, else 0.
@@ -44,18 +43,10 @@ pub fn site_number(state: &[u32], site: u32) -> u32
     if !shaped(state) {
         return 6;
     }
-    if is_site(state, site) {
+    if network_placement::is_site(state, site) {
         return 0;
     }
     7
-}
-
-// Whether there is a site of that number.
-pub fn is_site(state: &[u32], i: u32) -> bool
-    requires { ⌜ length (now state) ≡ stateSize ⌝ }
-    ensures { λ r. ⌜ r ≡ not (noSuchSite (networkIn (now (state .entry))) i) ⌝ }
-{
-    i < state[SITE_COUNT]
 }
 
 pub fn shaped(state: &[u32]) -> bool

@@ -47,7 +47,7 @@ fn collect(state: &[u32], site: u32) -> Report
     ensures { λ r. ⌜ AllCollected (networkIn (now (state .entry))) site (r .number) (r .count) (r .items) ⌝ }
 {
     let mut items = [0u32; ITEMS_WIDE];
-    let placed = network_access::item_count(state);
+    let placed = network_placement::item_count(state);
     let mut count = 0usize;
     let mut k = 0u32;
     while k < placed {
@@ -78,7 +78,7 @@ fn is_waiting(state: &[u32], site: u32, item: u32) -> bool
     requires { ⌜ AtSite (now state) site ⌝ }
     ensures { λ r. ⌜ r ≡ isWaiting (networkIn (now (state .entry))) site item ⌝ }
 {
-    if !network_access::is_copied(state, item, site) {
+    if !network_placement::is_copied(state, item, site) {
         return false;
     }
     let mut p = 0u32;

@@ -82,9 +82,13 @@ opNumber xs i o =
     ∷ numberIf (writes o && not (owns xs i (o .item))) 11
     ∷ [])
 
+-- an operation that writes an item of which site c has a copy
+abbrev pub wantedAt : List Item → ℕ → Op → Bool
+wantedAt xs c o = writes o && copies xs c (o .item)
+
 -- site c has a copy of an item that is written
 abbrev pub due : List Item → List Op → ℕ → Bool
-due xs os c = any (λ (o : Op). writes o && copies xs c (o .item)) os
+due xs os c = any (wantedAt xs c) os
 
 -- the causes that come after the lists' lengths
 abbrev pub commitCauses : Network → ℕ → List Op → List ℕ
@@ -189,7 +193,7 @@ chosen n j = earliest n j sitesMost
 
 -- a message's writes to the items that have a copy at j
 abbrev pub writesFor : Network → ℕ → Message → List Op
-writesFor n j m = keep (λ (o : Op). writes o && copies (n .items) j (o .item)) (messageOps (n .history) m)
+writesFor n j m = keep (wantedAt (n .items) j) (messageOps (n .history) m)
 
 unfoldable pub scheduleNetwork : Network → ℕ → Network
 scheduleNetwork n j =

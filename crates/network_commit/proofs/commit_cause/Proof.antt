@@ -11,7 +11,7 @@ use Rattle.protocol.specs.Steps.{due, countAtMost, someLineFull, opNumber}
 use Rattle.network_layout.specs.InWords.{networkIn}
 use Rattle.network_layout.specs.At.{AtSite}
 use Rattle.network_layout.proofs.Performs.{records-count}
-use Rattle.network_layout.proofs.OnNetwork.{ranged-on, at-site}
+use Rattle.network_layout.proofs.OnNetwork.{at-site}
 use Rattle.network_sending.proofs.SendLaws.{full-by-mask}
 use Rattle.network_commit.proofs.CommitLaws.{commit-op, commit-booked, commit-full, commit-largest, commit-free}
 use borrow.Author.Needs.{needs}
@@ -42,10 +42,7 @@ largest : (c : tie.After-count-at-most) → c .count-at-most .result ≡ countAt
 largest c = c .count-at-most .ensures ∙ ap (countAtMost (networkIn (c .before .before .before .before .before .before .before .before .before .before .args .state .now))) (c .before .wide .ensures)
 
 ops-number-requires : tie.Need-ops-number-requires
-ops-number-requires c κs =
-    let start = c .before .before in
-    let asks = start .pre .at in
-    record { sized = asks .net .sized; ranged = ranged-on (start .args .state .now) (asks .net); few-ops = asks .few-ops }
+ops-number-requires c κs = search needs
 
 returns : tie.Need-returns
 returns c =

@@ -5,17 +5,13 @@ use lib.ListN.{length, take}
 use borrow.Author.Tests.{lt-leb}
 use Rattle.site.specs.InWords.{opsIn}
 use Rattle.network_layout.specs.InWords.{networkIn}
-use Rattle.network_layout.proofs.OnNetwork.{ranged-on}
 use Rattle.protocol.proofs.Allowed.{causes-allowed}
 use borrow.Author.Needs.{needs}
 use Rattle.network_commit.proofs.commit_words.Statement.{statement}
 use Rattle.network_commit.proofs.commit_words.Tie as tie
 
 due-mask-requires : tie.Need-due-mask-requires
-due-mask-requires c κs =
-    let start = c .before .before .before in
-    let asked = start .pre in
-    record { sized = asked .net .sized; ranged = ranged-on (start .args .state .now) (asked .net); few-ops = asked .few-ops }
+due-mask-requires c κs = search needs
 
 commit-cause-requires : tie.Need-commit-cause-requires
 commit-cause-requires c κs = search needs

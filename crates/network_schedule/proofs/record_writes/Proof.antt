@@ -4,8 +4,8 @@ use lib.ListN.{getD}
 use Rattle.protocol.specs.Network.{noRecord}
 use Rattle.network_layout.specs.InWords.{networkIn}
 use Rattle.network_layout.specs.At.{HasRecord}
-use Rattle.network_layout.proofs.OnNetwork.{at-state, at-record}
-use Rattle.network_schedule.specs.Wanted.{wantedAt}
+use Rattle.network_layout.proofs.OnNetwork.{at-record}
+use Rattle.protocol.specs.Steps.{wantedAt}
 use Rattle.network_schedule.proofs.ScheduleLaws.{laid-record}
 use borrow.Author.Needs.{needs}
 use Rattle.network_schedule.proofs.record_writes.Statement.{statement}
@@ -29,10 +29,7 @@ slice-aggregate-wanted : tie.Need-slice-aggregate-wanted
 slice-aggregate-wanted c = search needs
 
 wanted-requires : tie.Need-wanted-requires
-wanted-requires c κs =
-    let counted = c .before .before in
-    let start = counted .before .before in
-    record { at = at-state (start .args .state .now) (start .pre .net); few = counted .operation-count .ensures .1 }
+wanted-requires c κs = search needs
 
 returns : tie.Need-returns
 returns c =

@@ -6,7 +6,8 @@ use Rattle.words.specs.Words.{chunks}
 use Rattle.lists.specs.Lists.{keep}
 use Rattle.site.specs.InWords.{opsIn}
 use Rattle.network_layout.specs.InWords.{networkIn}
-use Rattle.network_schedule.specs.Wanted.{wantedAt, Laid}
+use Rattle.protocol.specs.Steps.{wantedAt}
+use Rattle.network_schedule.specs.Wanted.{Laid}
 use borrow.Author.Needs.{needs}
 use Rattle.network_schedule.proofs.wanted.Statement.{statement}
 use Rattle.network_schedule.proofs.wanted.Tie as tie
@@ -25,7 +26,7 @@ wanted-one-requires : tie.Need-wanted-one-requires Inv-loop μ-loop
 wanted-one-requires c κs =
     let turn = c .before .before in
     let start = turn .before .before .before in
-    record { at = start .pre .at; few = omega (arith, start .pre .few); so-far = turn .loop .inv .1 }
+    record { sized = start .pre .sized; few = omega (arith, start .pre .few); so-far = turn .loop .inv .1 }
 
 add-i : tie.Need-add-i Inv-loop μ-loop
 add-i c = search needs

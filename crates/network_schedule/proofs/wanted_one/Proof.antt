@@ -2,7 +2,7 @@
 use mathlib.Core.Path.{sym, _∙_}
 use borrow.Author.Tests.{not-true, not-false}
 use Rattle.network_layout.specs.InWords.{networkIn}
-use Rattle.network_schedule.specs.Wanted.{wantedAt}
+use Rattle.protocol.specs.Steps.{wantedAt}
 use Rattle.network_schedule.proofs.ScheduleLaws.{laid-same, laid-more}
 use borrow.Author.Needs.{needs}
 use Rattle.network_schedule.proofs.wanted_one.Statement.{statement}

@@ -1,14 +1,12 @@
 -- `due` leaves at the first operation that writes a copy of the site.
 use mathlib.Core.Path.{_≡_, refl, sym, ap, _∙_}
-use mathlib.Core.Bool.{Bool, _&&_}
-use mathlib.Core.List.{List, []}
-use Prim.Native.Nat.{ℕ, _≤_, _-_}
+use mathlib.Core.List.{[]}
+use Prim.Native.Nat.{_≤_, _-_}
 use native.Mathlib.Omega.{arith}
 use lib.ListN.{drop}
-use Rattle.site.specs.Operations.{Op, writes}
 use Rattle.site.specs.InWords.{opIn, opsIn}
 use Rattle.site.proofs.Laws.{ops-length, ops-at}
-use Rattle.placement.specs.Placement.{Item, copies}
+use Rattle.protocol.specs.Steps.{wantedAt}
 use Rattle.lists.specs.Lists.{any}
 use Rattle.lists.proofs.Some.{some-true, some-next, some-done}
 use Rattle.network_layout.specs.InWords.{networkIn}
@@ -16,12 +14,8 @@ use borrow.Author.Needs.{needs}
 use Rattle.network_commit.proofs.due.due.Statement.{statement}
 use Rattle.network_commit.proofs.due.due.Tie as tie
 
--- an operation that writes an item with a copy at site c
-abbrev copied : List Item → ℕ → Op → Bool
-copied xs c o = writes o && copies xs c (o .item)
-
 abbrev Inv-loop : tie.InvT-loop
-Inv-loop state ops n c k₀ k = (k ≤ n) × (any (copied (networkIn state .items) c) (opsIn n ops) ≡ any (copied (networkIn state .items) c) (drop k (opsIn n ops)))
+Inv-loop state ops n c k₀ k = (k ≤ n) × (any (wantedAt (networkIn state .items) c) (opsIn n ops) ≡ any (wantedAt (networkIn state .items) c) (drop k (opsIn n ops)))
 
 abbrev μ-loop : tie.MeasureT-loop
 μ-loop state ops n c k₀ k = n - k
@@ -29,14 +23,14 @@ abbrev μ-loop : tie.MeasureT-loop
 loop-holds : tie.Need-loop-holds Inv-loop μ-loop
 loop-holds c = (omega arith, refl)
 
-writes-copy-requires : tie.Need-writes-copy-requires Inv-loop μ-loop
-writes-copy-requires c κs = let pre = c .before .before .before .before .pre in record { sized = pre .sized; ranged = pre .ranged; few-ops = omega (arith, c .loop-test .taken, pre .few-ops) }
+is-wanted-requires : tie.Need-is-wanted-requires Inv-loop μ-loop
+is-wanted-requires c κs = search needs
 
 returns : tie.Need-returns Inv-loop μ-loop
 returns c =
     let A = c .before .before .before .before .before .before .args in
-    let f = copied (networkIn (A .state .now) .items) (A .c) in
-    sym (some-true f (opsIn (A .n) (A .ops .now)) (c .before .before .before .loop .k) (opIn []) (c .before .before .before .loop .inv .1) (omega (arith, ops-length (A .n) (A .ops .now), c .before .before .loop-test .taken)) (ap f (ops-at (A .n) (A .ops .now) (c .before .before .before .loop .k) (c .before .before .loop-test .taken)) ∙ sym (c .before .writes-copy .ensures) ∙ c .if1 .taken))
+    let f = wantedAt (networkIn (A .state .now) .items) (A .c) in
+    sym (some-true f (opsIn (A .n) (A .ops .now)) (c .before .before .before .loop .k) (opIn []) (c .before .before .before .loop .inv .1) (omega (arith, ops-length (A .n) (A .ops .now), c .before .before .loop-test .taken)) (ap f (ops-at (A .n) (A .ops .now) (c .before .before .before .loop .k) (c .before .before .loop-test .taken)) ∙ sym (c .before .is-wanted .ensures) ∙ c .if1 .taken))
 
 add-k : tie.Need-add-k Inv-loop μ-loop
 add-k c = search needs
@@ -47,13 +41,13 @@ loop-less c = search needs
 loop-again : tie.Need-loop-again Inv-loop μ-loop
 loop-again c =
     let A = c .before .before .before .before .before .before .args in
-    let f = copied (networkIn (A .state .now) .items) (A .c) in
-    (omega arith, some-next f (opsIn (A .n) (A .ops .now)) (c .before .before .before .loop .k) (opIn []) (c .before .before .before .loop .inv .1) (omega (arith, ops-length (A .n) (A .ops .now), c .before .before .loop-test .taken)) (ap f (ops-at (A .n) (A .ops .now) (c .before .before .before .loop .k) (c .before .before .loop-test .taken)) ∙ sym (c .before .writes-copy .ensures) ∙ c .if1 .left))
+    let f = wantedAt (networkIn (A .state .now) .items) (A .c) in
+    (omega arith, some-next f (opsIn (A .n) (A .ops .now)) (c .before .before .before .loop .k) (opIn []) (c .before .before .before .loop .inv .1) (omega (arith, ops-length (A .n) (A .ops .now), c .before .before .loop-test .taken)) (ap f (ops-at (A .n) (A .ops .now) (c .before .before .before .loop .k) (c .before .before .loop-test .taken)) ∙ sym (c .before .is-wanted .ensures) ∙ c .if1 .left))
 
 returns-2 : tie.Need-returns-2 Inv-loop μ-loop
 returns-2 c =
     let A = c .before .before .before .before .args in
-    sym (some-done (copied (networkIn (A .state .now) .items) (A .c)) (opsIn (A .n) (A .ops .now)) (c .before .loop .k) (opIn []) (c .before .loop .inv .1) (omega (arith, ops-length (A .n) (A .ops .now), c .loop-test .left)))
+    sym (some-done (wantedAt (networkIn (A .state .now) .items) (A .c)) (opsIn (A .n) (A .ops .now)) (c .before .loop .k) (opIn []) (c .before .loop .inv .1) (omega (arith, ops-length (A .n) (A .ops .now), c .loop-test .left)))
 
 pub due-spec : {M : Type 1} → statement M
 due-spec =
@@ -62,7 +56,7 @@ due-spec =
     Inv-loop
     μ-loop
     loop-holds
-    writes-copy-requires
+    is-wanted-requires
     returns
     add-k
     loop-less

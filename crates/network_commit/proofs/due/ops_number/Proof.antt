@@ -24,7 +24,7 @@ loop-holds : tie.Need-loop-holds Inv-loop μ-loop
 loop-holds c = (omega arith, refl)
 
 op-number-requires : tie.Need-op-number-requires Inv-loop μ-loop
-op-number-requires c κs = let pre = c .before .before .before .before .pre in record { sized = pre .sized; ranged = pre .ranged; few-ops = omega (arith, c .loop-test .taken, pre .few-ops) }
+op-number-requires c κs = search needs
 
 returns : tie.Need-returns Inv-loop μ-loop
 returns c =

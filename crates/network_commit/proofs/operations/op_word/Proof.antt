@@ -1,8 +1,12 @@
 -- `op_word` lays one operation after those before it, its fields from the three lists.
+use mathlib.Core.Path.{ap, _∙_}
+use mathlib.Core.List.{[], _∷_, _++_}
 use native.Mathlib.Omega.{arith}
 use lib.IntN.{pos}
 use lib.ListN.{getD}
-use Rattle.network_commit.proofs.OperationWords.{fields-laid}
+use Rattle.site.specs.Operations.{Op}
+use Rattle.site.specs.InWords.{opsIn}
+use Rattle.network_commit.proofs.OperationWords.{op-given}
 use borrow.Author.Needs.{needs}
 use Rattle.network_commit.proofs.operations.op_word.Statement.{statement}
 use Rattle.network_commit.proofs.operations.op_word.Tie as tie
@@ -28,22 +32,18 @@ shared-slice-copy-out-v c = search needs
 bits-requires : tie.Need-bits-requires
 bits-requires c κs = search needs
 
-mul-lay : tie.Need-mul-lay
-mul-lay c = search needs
-
-slice-aggregate-lay : tie.Need-slice-aggregate-lay
-slice-aggregate-lay c = search needs
-
-lay-requires : tie.Need-lay-requires
-lay-requires c κs = search needs
+put-requires : tie.Need-put-requires
+put-requires c κs = search needs
 
 returns : tie.Need-returns
 returns c =
-    let b = c .before .before .before in
-    let w = b .before .before .before in
+    let b = c .before in
+    let v = b .before .before in
+    let w = v .before .before in
     let A = w .before .before .before .before .args in
-    fields-laid (A .out .now) (c .lay .last .0) (A .i) (getD (A .kinds .now) (A .i) 0) (getD (A .items .now) (A .i) 0) (getD (A .values .now) (A .i) (pos 0))
-    (w .wide8 .result) (b .bits .result) (omega arith) (omega arith) (c .lay .ensures) (w .wide8 .ensures) (b .bits .ensures) (record { sfits = b .before .v .given })
+    c .put .ensures .laid (omega arith)
+    ∙ ap (λ (o : Op). opsIn (A .i) (A .out .now) ++ (o ∷ []))
+    (op-given (getD (A .kinds .now) (A .i) 0) (getD (A .items .now) (A .i) 0) (getD (A .values .now) (A .i) (pos 0)) (w .wide8 .result) (b .bits .result) (w .wide8 .ensures) (b .bits .ensures) (record { sfits = v .v .given }))
 
 pub op-word-spec : {M : Type 1} → statement M
 op-word-spec =
@@ -56,7 +56,5 @@ op-word-spec =
     mul-v
     shared-slice-copy-out-v
     bits-requires
-    mul-lay
-    slice-aggregate-lay
-    lay-requires
+    put-requires
     returns)

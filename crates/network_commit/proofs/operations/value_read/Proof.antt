@@ -3,33 +3,29 @@ use mathlib.Core.Path.{refl}
 use Prim.Native.Nat.{_+_}
 use native.Mathlib.Omega.{arith}
 use lib.Seq.{drop-set-lt}
+use Rattle.site.specs.InWords.{opAt}
 use Rattle.network_commit.proofs.OperationWords.{read-none, read-one}
 use borrow.Author.Needs.{needs}
 use Rattle.network_commit.proofs.operations.value_read.Statement.{statement}
 use Rattle.network_commit.proofs.operations.value_read.Tie as tie
 
-mul-at : tie.Need-mul-at
-mul-at c = search needs
-
-word-requires : tie.Need-word-requires
-word-requires c κs = search needs
+kind-requires : tie.Need-kind-requires
+kind-requires c κs = search needs
 
 returns : tie.Need-returns
 returns c =
-    let A = c .before .before .before .args in
-    (omega arith, read-none (A .ops .now) (A .i) (c .before .word .result) (c .before .word .ensures) (A .count) (A .values .now) (c .if1 .taken), omega arith, refl)
-
-add-word : tie.Need-add-word
-add-word c = search needs
-
-word-requires-2 : tie.Need-word-requires-2
-word-requires-2 c κs = search needs
+    let k = c .before in
+    let A = k .before .before .args in
+    (omega arith, read-none (opAt (A .ops .now) (A .i)) (k .kind .result) (k .kind .ensures) (A .count) (A .values .now) (c .if1 .taken), omega arith, refl)
 
 value-requires : tie.Need-value-requires
 value-requires c κs = search needs
 
-mul-t10 : tie.Need-mul-t10
-mul-t10 c = search needs
+value-requires-2 : tie.Need-value-requires-2
+value-requires-2 c κs = search needs
+
+mul-t8 : tie.Need-mul-t8
+mul-t8 c = search needs
 
 slice-set-from-values : tie.Need-slice-set-from-values
 slice-set-from-values c = search needs
@@ -42,11 +38,12 @@ same-length c = search needs
 
 returns-2 : tie.Need-returns-2
 returns-2 c =
-    let k = c .before .before .before in
+    let v = c .before in
+    let k = v .before .before in
     let A = k .before .before .args in (
       omega arith,
-      read-one (A .ops .now) (A .i) (k .word .result) (k .word .ensures) (A .count) (A .values .now) (c .before .word2 .result) (c .value .result)
-          (c .before .before .if1 .left) (omega arith) (c .before .word2 .ensures) (c .value .ensures) (record { sfits = c .value .ok }),
+      read-one (opAt (A .ops .now) (A .i)) (k .kind .result) (k .kind .ensures) (A .count) (A .values .now) (v .value .result) (c .value2 .result)
+          (v .before .if1 .left) (omega arith) (v .value .ensures) (c .value2 .ensures) (record { sfits = c .value2 .ok }),
       omega arith,
       drop-set-lt (A .count + 1) (A .values .now) (A .count) _ (omega arith),
     )
@@ -55,13 +52,11 @@ pub value-read-spec : {M : Type 1} → statement M
 value-read-spec =
     tie.close
     (tie.spec
-    mul-at
-    word-requires
+    kind-requires
     returns
-    add-word
-    word-requires-2
     value-requires
-    mul-t10
+    value-requires-2
+    mul-t8
     slice-set-from-values
     add-result
     same-length

@@ -5,10 +5,10 @@ use native.Mathlib.Omega.{arith}
 use Rattle.placement.specs.Masks.{bit}
 use Rattle.placement.specs.Placement.{Item}
 use Rattle.network_layout.proofs.Performs.{item-none}
-use Rattle.network_access.proofs.AccessLaws.{item-lent}
+use Rattle.network_placement.proofs.PlacementLaws.{item-lent}
 use borrow.Author.Needs.{needs}
-use Rattle.network_access.proofs.is_copied.Statement.{statement}
-use Rattle.network_access.proofs.is_copied.Tie as tie
+use Rattle.network_placement.proofs.is_copied.Statement.{statement}
+use Rattle.network_placement.proofs.is_copied.Tie as tie
 
 item-count-requires : tie.Need-item-count-requires
 item-count-requires c κs = search needs

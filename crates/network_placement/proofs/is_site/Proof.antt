@@ -1,8 +1,8 @@
 -- `is_site` compares with the number of sites.
 use Rattle.network_layout.proofs.Performs.{site-there}
 use borrow.Author.Needs.{needs}
-use Rattle.network_shape.proofs.is_site.Statement.{statement}
-use Rattle.network_shape.proofs.is_site.Tie as tie
+use Rattle.network_placement.proofs.is_site.Statement.{statement}
+use Rattle.network_placement.proofs.is_site.Tie as tie
 
 shared-slice-read-result : tie.Need-shared-slice-read-result
 shared-slice-read-result c = search needs

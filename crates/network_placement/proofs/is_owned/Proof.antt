@@ -3,10 +3,10 @@ use mathlib.Core.Path.{ap, _∙_}
 use Prim.Native.Nat.{ℕ}
 use lib.Dec.{eqb}
 use Rattle.placement.specs.Placement.{Item}
-use Rattle.network_access.proofs.AccessLaws.{item-lent}
+use Rattle.network_placement.proofs.PlacementLaws.{item-lent}
 use borrow.Author.Needs.{needs}
-use Rattle.network_access.proofs.is_owned.Statement.{statement}
-use Rattle.network_access.proofs.is_owned.Tie as tie
+use Rattle.network_placement.proofs.is_owned.Statement.{statement}
+use Rattle.network_placement.proofs.is_owned.Tie as tie
 
 placed-requires : tie.Need-placed-requires
 placed-requires c κs = search needs

@@ -1,0 +1,108 @@
+// What a state's placement says: how many sites and items there are, who owns and copies what, and who sends to whom.
+use network_layout::ITEM_COUNT;
+use network_layout::ITEMS;
+use network_layout::SITE_COUNT;
+use network_layout::SITES;
+use site::operations;
+ghost use mathlib.Core.Path.{_≡_};
+ghost use mathlib.Core.Bool.{not};
+ghost use lib.ListN.{length};
+ghost use Rattle.limits.specs.Limits.{sitesMost};
+ghost use Rattle.words.specs.Words.{part};
+ghost use Rattle.placement.specs.Masks.{maskOf};
+ghost use Rattle.placement.specs.Placement.{isLine, hasParents, owns, copies};
+ghost use Rattle.site.specs.InWords.{opAt};
+ghost use Rattle.protocol.specs.Steps.{noSuchSite, wantedAt};
+ghost use Rattle.network_layout.specs.Layout.{stateSize, siteCount, itemCount, itemsAt, itemsSize};
+ghost use Rattle.network_layout.specs.InWords.{networkIn};
+ghost use Rattle.network_layout.specs.At.{AtState, HasItem};
+
+// ---- how many there are
+pub fn site_count(state: &[u32]) -> u32
+    requires { ⌜ length (now state) ≡ stateSize ⌝ }
+    ensures { λ r. ⌜ r ≡ siteCount (now (state .entry)) ⌝ }
+{
+    state[SITE_COUNT]
+}
+
+pub fn item_count(state: &[u32]) -> u32
+    requires { ⌜ length (now state) ≡ stateSize ⌝ }
+    ensures { λ r. ⌜ r ≡ itemCount (now (state .entry)) ⌝ }
+{
+    state[ITEM_COUNT]
+}
+
+// Whether there is a site of that number.
+pub fn is_site(state: &[u32], i: u32) -> bool
+    requires { ⌜ length (now state) ≡ stateSize ⌝ }
+    ensures { λ r. ⌜ r ≡ not (noSuchSite (networkIn (now (state .entry))) i) ⌝ }
+{
+    i < state[SITE_COUNT]
+}
+
+// ---- the items
+// Its words, two for each item.
+pub fn placed(state: &[u32]) -> &[u32]
+    requires { ⌜ length (now state) ≡ stateSize ⌝ }
+    ensures { λ r. ⌜ now r ≡ part (now (state .entry)) itemsAt itemsSize ⌝ }
+{
+    &state[ITEMS..SITES]
+}
+
+pub fn is_line(state: &[u32], p: u32, c: u32) -> bool
+    requires { ⌜ AtState (now state) ⌝ }
+    ensures { λ r. ⌜ r ≡ isLine (networkIn (now (state .entry)) .items) p c ⌝ }
+{
+    placement::is_line(placed(state), words::wide(item_count(state)), p, c)
+}
+
+pub fn has_parents(state: &[u32], c: u32) -> bool
+    requires { ⌜ AtState (now state) ⌝ }
+    ensures { λ r. ⌜ r ≡ hasParents (networkIn (now (state .entry)) .items) c ⌝ }
+{
+    placement::has_parents(placed(state), words::wide(item_count(state)), c)
+}
+
+pub fn children(state: &[u32], p: u32) -> u32
+    requires { ⌜ AtState (now state) ⌝ }
+    ensures { λ r. ⌜ r ≡ maskOf (isLine (networkIn (now (state .entry)) .items) p) sitesMost ⌝ }
+{
+    placement::children(placed(state), words::wide(item_count(state)), p)
+}
+
+pub fn parents(state: &[u32], c: u32) -> u32
+    requires { ⌜ AtState (now state) ⌝ }
+    ensures { λ r. ⌜ r ≡ maskOf (λ p. isLine (networkIn (now (state .entry)) .items) p c) sitesMost ⌝ }
+{
+    placement::parents(placed(state), words::wide(item_count(state)), c)
+}
+
+// Whether an item has its primary at site i.
+pub fn is_owned(state: &[u32], item: u32, i: u32) -> bool
+    requires { ⌜ HasItem (now state) item ⌝ }
+    ensures { λ r. ⌜ r ≡ owns (networkIn (now (state .entry)) .items) i item ⌝ }
+{
+    placement::primary(placed(state), words::wide(item)) == i
+}
+
+// Whether an item has a copy at site i; one that is not there has none.
+pub fn is_copied(state: &[u32], item: u32, i: u32) -> bool
+    requires { ⌜ length (now state) ≡ stateSize ⌝ }
+    ensures { λ r. ⌜ r ≡ copies (networkIn (now (state .entry)) .items) i item ⌝ }
+{
+    if item_count(state) <= item {
+        return placement::bit(0, i);
+    }
+    placement::bit(placement::mask(placed(state), words::wide(item)), i)
+}
+
+// Whether operation i writes an item that has a copy at site j.
+pub fn is_wanted(state: &[u32], ops: &[u32], i: usize, j: u32) -> bool
+    requires { ⌜ length (now state) ≡ stateSize ⌝ }
+    ensures { λ r. ⌜ r ≡ wantedAt (networkIn (now (state .entry)) .items) j (opAt (now (ops .entry)) i) ⌝ }
+{
+    if operations::kind(ops, i) != operations::WRITE {
+        return false;
+    }
+    is_copied(state, operations::item(ops, i), j)
+}
