@@ -74,21 +74,19 @@ module _ (b : List ℕ) (n : ℕ) where
   unfolding numberAt
   no-op = refl
 
-  pub op-past : (i : ℕ) → n ≤ i → noOp ≡ getD opsOf i noOp
-  op-past i h = sym (List·getD-eq-default opsOf noOp {n = i} (omega (arith, ops-length)))
+  pub op-at : (i : ℕ) → i < n → getD opsOf i noOp ≡ opRead (part b (i * unitSize) unitSize)
+  op-at i h = ap (getD opsOf i) no-op ∙ List·getD-map opRead (chunks unitSize n b) i [] ∙ ap opRead (chunks-at unitSize n b i h)
 
-  module _ (i : ℕ) (h : i < n) where
-    op-at : getD opsOf i noOp ≡ opRead (part b (i * unitSize) unitSize)
-    op-at = ap (getD opsOf i) no-op ∙ List·getD-map opRead (chunks unitSize n b) i [] ∙ ap opRead (chunks-at unitSize n b i h)
+-- the fields of operation i
+module _ (b : List ℕ) (i : ℕ) where
+  pub op-kind : getD b (i * unitSize) 0 ≡ opRead (part b (i * unitSize) unitSize) .kind
+  op-kind = sym (unit-getD b i 0 (i * unitSize) (omega arith) (omega arith))
 
-    pub op-kind : getD b (i * unitSize) 0 ≡ getD opsOf i noOp .kind
-    op-kind = sym (ap (λ (o : Op). o .kind) op-at ∙ unit-getD b i 0 (i * unitSize) (omega arith) (omega arith))
+  pub op-item : getD b (i * unitSize + 1) 0 ≡ opRead (part b (i * unitSize) unitSize) .item
+  op-item = sym (unit-getD b i 1 (i * unitSize + 1) (omega arith) refl)
 
-    pub op-item : getD b (i * unitSize + 1) 0 ≡ getD opsOf i noOp .item
-    op-item = sym (ap (λ (o : Op). o .item) op-at ∙ unit-getD b i 1 (i * unitSize + 1) (omega arith) refl)
-
-    pub op-value : (w : ℕ) → w ≡ numberAt b (i * unitSize + 4) → toZ w32 w ≡ getD opsOf i noOp .value
-    op-value w e = ap (toZ w32) (e ∙ sym (unit-number b i)) ∙ sym (ap (λ (o : Op). o .value) op-at)
+  pub op-value : (w : ℕ) → w ≡ numberAt b (i * unitSize + 4) → toZ w32 w ≡ opRead (part b (i * unitSize) unitSize) .value
+  op-value w e = ap (toZ w32) (e ∙ sym (unit-number b i))
 
 -- a value that is passed on
 pub passed-on : (z y : ℤ) → SFits w32 z → z ≡ y → toZ w32 (ofZ w32 z) ≡ y

@@ -7,20 +7,15 @@ use Rattle.limits.specs.Limits.{opsMost}
 use Rattle.history_file.specs.Bytes.{unitSize}
 use Rattle.history_file.specs.Reading.{tupleCount, opCount, sizeRead}
 
--- n tuples that a timestamp has room for
-pub record Tuples (b : List ℕ) (n : ℕ) : Type 0 where
+-- n tuples or operations, at most so many
+pub record Units (b : List ℕ) (n most : ℕ) : Type 0 where
   pub inside : n * unitSize ≤ length b
-  pub few : n ≤ room
+  pub few : n ≤ most
 
 -- n tuples, and a place of a timestamp
 pub record AtTuple (b : List ℕ) (n i : ℕ) : Type 0 where
   pub inside : n * unitSize ≤ length b
   pub place : i < room
-
--- n operations, and a place of a record's operations
-pub record AtOp (b : List ℕ) (n i : ℕ) : Type 0 where
-  pub inside : n * unitSize ≤ length b
-  pub place : i < opsMost
 
 -- a whole record in front, of as many tuples and operations as a value has places for
 pub record Whole (b : List ℕ) : Type 0 where

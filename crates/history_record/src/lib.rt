@@ -6,16 +6,30 @@ use timestamp::Timestamp;
 use timestamp::Tuple;
 ghost use mathlib.Core.Path.{_≡_};
 ghost use mathlib.Core.List.{map};
-ghost use Prim.Native.Nat.{_*_, _≤_};
+ghost use Prim.Native.Nat.{_+_, _*_, _≤_};
 ghost use lib.ListN.{length, getD};
-ghost use Rattle.words.specs.Words.{chunks};
-ghost use Rattle.timestamp.specs.Timestamp.{stampOf, pairOf, noPair};
+ghost use Rattle.words.specs.Words.{part, chunks};
+ghost use Rattle.timestamp.specs.Timestamp.{stampOf, pairOf, noPair, room};
 ghost use Rattle.limits.specs.Limits.{opsMost};
 ghost use Rattle.history_file.specs.Bytes.{unitSize};
 ghost use Rattle.history_file.specs.Reading.{pairRead, opRead, recordRead};
-ghost use Rattle.site.specs.Operations.{noOp};
-ghost use Rattle.history_file.specs.Promises.{placesFrom, noStep, stepOf, Gives};
-ghost use Rattle.history_record.specs.Asked.{Tuples, AtTuple, AtOp, Whole};
+ghost use Rattle.history_file.specs.Promises.{noStep, stepOf, Gives};
+ghost use Rattle.history_record.specs.Asked.{Units, AtTuple, Whole};
+ghost use Rattle.history_record.specs.Placed.{Operated, Placed};
+
+// One operation.
+struct Operation {
+    kind: u8,
+    item: u32,
+    value: i32,
+}
+
+// The fields of operations at eight places each, 0 past the last.
+struct Places {
+    kinds: [u8; 8],
+    items: [u32; 8],
+    values: [i32; 8],
+}
 
 // Tuple i of n, and zeros past the last.
 fn tuple_at(b: &[u8], n: usize, i: usize) -> Tuple
@@ -37,7 +51,7 @@ fn tuple_at(b: &[u8], n: usize, i: usize) -> Tuple
 
 // The timestamp of n tuples.
 fn stamp(b: &[u8], n: usize, epoch: u32) -> Timestamp
-    requires { ⌜ Tuples (now b) n ⌝ }
+    requires { ⌜ Units (now b) n room ⌝ }
     ensures { λ r. ⌜ stampOf r ≡ record { epoch = epoch; tuples = map pairRead (chunks unitSize n (now (b .entry))) } ⌝ }
 {
     Timestamp {
@@ -56,84 +70,41 @@ fn stamp(b: &[u8], n: usize, epoch: u32) -> Timestamp
     }
 }
 
-// The kind, the item and the value of operation i of n; 0 past the last.
-fn kind_at(b: &[u8], n: usize, i: usize) -> u8
-    requires { ⌜ AtOp (now b) n i ⌝ }
-    ensures { λ r. ⌜ r ≡ getD (map opRead (chunks unitSize n (now (b .entry)))) i noOp .kind ⌝ }
+// Operation i.
+fn operation_at(b: &[u8], i: usize) -> Operation
+    requires { ⌜ i * unitSize + unitSize ≤ length (now b) ⌝ }
+    ensures { λ r. ⌜ Operated (opRead (part (now (b .entry)) (i * unitSize) unitSize)) (r .kind) (r .item) (r .value) ⌝ }
 {
-    if i < n {
-        return history_numbers::byte_at(b, i * 8);
+    let a = i * 8;
+    Operation {
+        kind: history_numbers::byte_at(b, a),
+        item: history_numbers::field(b, a + 1),
+        value: words::value(history_numbers::number(b, a + 4)),
     }
-    0
 }
 
-fn item_at(b: &[u8], n: usize, i: usize) -> u32
-    requires { ⌜ AtOp (now b) n i ⌝ }
-    ensures { λ r. ⌜ r ≡ getD (map opRead (chunks unitSize n (now (b .entry)))) i noOp .item ⌝ }
+// The fields of n operations.
+fn operations(b: &[u8], n: usize) -> Places
+    requires { ⌜ Units (now b) n opsMost ⌝ }
+    ensures { λ r. ⌜ Placed (map opRead (chunks unitSize n (now (b .entry)))) (r .kinds) (r .items) (r .values) ⌝ }
 {
-    if i < n {
-        return history_numbers::field(b, i * 8 + 1);
+    let mut kinds = [0u8; 8];
+    let mut items = [0u32; 8];
+    let mut values = [0i32; 8];
+    let mut i = 0;
+    while i < n {
+        let o = operation_at(b, i);
+        let value = o.value;
+        kinds[i] = o.kind;
+        items[i] = o.item;
+        values[i] = value;
+        i += 1;
     }
-    0
-}
-
-fn value_at(b: &[u8], n: usize, i: usize) -> i32
-    requires { ⌜ AtOp (now b) n i ⌝ }
-    ensures { λ r. ⌜ r ≡ getD (map opRead (chunks unitSize n (now (b .entry)))) i noOp .value ⌝ }
-{
-    if i < n {
-        return words::value(history_numbers::number(b, i * 8 + 4));
+    Places {
+        kinds,
+        items,
+        values,
     }
-    0
-}
-
-// Eight places of each.
-fn kinds(b: &[u8], n: usize) -> [u8; 8]
-    requires { ⌜ n * unitSize ≤ length (now b) ⌝ }
-    ensures { λ r. ⌜ r ≡ placesFrom (λ o. o .kind) (map opRead (chunks unitSize n (now (b .entry)))) 0 opsMost ⌝ }
-{
-    [
-        kind_at(b, n, 0),
-        kind_at(b, n, 1),
-        kind_at(b, n, 2),
-        kind_at(b, n, 3),
-        kind_at(b, n, 4),
-        kind_at(b, n, 5),
-        kind_at(b, n, 6),
-        kind_at(b, n, 7),
-    ]
-}
-
-fn items(b: &[u8], n: usize) -> [u32; 8]
-    requires { ⌜ n * unitSize ≤ length (now b) ⌝ }
-    ensures { λ r. ⌜ r ≡ placesFrom (λ o. o .item) (map opRead (chunks unitSize n (now (b .entry)))) 0 opsMost ⌝ }
-{
-    [
-        item_at(b, n, 0),
-        item_at(b, n, 1),
-        item_at(b, n, 2),
-        item_at(b, n, 3),
-        item_at(b, n, 4),
-        item_at(b, n, 5),
-        item_at(b, n, 6),
-        item_at(b, n, 7),
-    ]
-}
-
-fn values(b: &[u8], n: usize) -> [i32; 8]
-    requires { ⌜ n * unitSize ≤ length (now b) ⌝ }
-    ensures { λ r. ⌜ r ≡ placesFrom (λ o. o .value) (map opRead (chunks unitSize n (now (b .entry)))) 0 opsMost ⌝ }
-{
-    [
-        value_at(b, n, 0),
-        value_at(b, n, 1),
-        value_at(b, n, 2),
-        value_at(b, n, 3),
-        value_at(b, n, 4),
-        value_at(b, n, 5),
-        value_at(b, n, 6),
-        value_at(b, n, 7),
-    ]
 }
 
 // The record that the bytes start with.
@@ -144,18 +115,19 @@ fn found(b: &[u8], next: usize) -> Found
     let t = history_validity::count(b, 1);
     let o = history_validity::count(b, 2);
     let a = 8 + 8 * t;
-    let k = kinds(&b[a..], o);
-    let m = items(&b[a..], o);
-    let v = values(&b[a..], o);
+    let ops = operations(&b[a..], o);
+    let kinds = ops.kinds;
+    let items = ops.items;
+    let values = ops.values;
     Found {
         number: 0,
         next,
         site: history_numbers::field(b, 0),
         stamp: stamp(&b[8..], t, history_numbers::number(b, 4)),
         count: o,
-        kinds: k,
-        items: m,
-        values: v,
+        kinds,
+        items,
+        values,
     }
 }
 

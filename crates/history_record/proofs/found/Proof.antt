@@ -21,77 +21,60 @@ mul-a c = search needs
 add-a : tie.Need-add-a
 add-a c = search needs
 
-sub-kinds : tie.Need-sub-kinds
+sub-operations : tie.Need-sub-operations
 unfolding sizeRead
-sub-kinds c = omega (arith, c .before .before .before .pre .inside, c .before .count .ensures)
+sub-operations c = let start = c .before .before .before in omega (arith, start .pre .inside, c .before .count .ensures)
 
-part-kinds-start : tie.Need-part-kinds-start
+part-operations-start : tie.Need-part-operations-start
 unfolding sizeRead
-part-kinds-start c = omega (arith, c .before .before .before .pre .inside, c .before .count .ensures)
+part-operations-start c = let start = c .before .before .before in omega (arith, start .pre .inside, c .before .count .ensures)
 
-part-kinds-end : tie.Need-part-kinds-end
-part-kinds-end c = search needs
+part-operations-end : tie.Need-part-operations-end
+part-operations-end c = search needs
 
-kinds-requires : tie.Need-kinds-requires
+operations-requires : tie.Need-operations-requires
 unfolding sizeRead
-kinds-requires c κs = omega (arith, c .before .before .before .before .pre .inside, c .before .before .count .ensures, c .before .count2 .ensures, rest-length (c .before .before .before .before .args .b .now) (8 + 8 * c .before .before .count .result))
-
-sub-items : tie.Need-sub-items
-unfolding sizeRead
-sub-items c = omega (arith, c .before .before .before .before .before .pre .inside, c .before .before .before .count .ensures)
-
-part-items-start : tie.Need-part-items-start
-unfolding sizeRead
-part-items-start c = omega (arith, c .before .before .before .before .before .pre .inside, c .before .before .before .count .ensures)
-
-part-items-end : tie.Need-part-items-end
-part-items-end c = search needs
-
-items-requires : tie.Need-items-requires
-unfolding sizeRead
-items-requires c κs = omega (arith, c .before .before .before .before .before .before .pre .inside, c .before .before .before .before .count .ensures, c .before .before .before .count2 .ensures, rest-length (c .before .before .before .before .before .before .args .b .now) (8 + 8 * c .before .before .before .before .count .result))
-
-sub-values : tie.Need-sub-values
-unfolding sizeRead
-sub-values c = omega (arith, c .before .before .before .before .before .before .before .pre .inside, c .before .before .before .before .before .count .ensures)
-
-part-values-start : tie.Need-part-values-start
-unfolding sizeRead
-part-values-start c = omega (arith, c .before .before .before .before .before .before .before .pre .inside, c .before .before .before .before .before .count .ensures)
-
-part-values-end : tie.Need-part-values-end
-part-values-end c = search needs
-
-values-requires : tie.Need-values-requires
-unfolding sizeRead
-values-requires c κs = omega (arith, c .before .before .before .before .before .before .before .before .pre .inside, c .before .before .before .before .before .before .count .ensures, c .before .before .before .before .before .count2 .ensures, rest-length (c .before .before .before .before .before .before .before .before .args .b .now) (8 + 8 * c .before .before .before .before .before .before .count .result))
+operations-requires c κs =
+    let counted = c .before in
+    let first = counted .before in
+    let start = first .before .before in
+    record { inside = omega (arith, start .pre .inside, first .count .ensures, counted .count2 .ensures, rest-length (start .args .b .now) (8 + 8 * first .count .result)); few = omega (arith, start .pre .few-ops, counted .count2 .ensures) }
 
 field-requires : tie.Need-field-requires
 field-requires c κs = search needs
 
 sub-stamp : tie.Need-sub-stamp
 unfolding sizeRead
-sub-stamp c = omega (arith, c .before .before .before .before .before .before .before .before .before .before .pre .inside)
+sub-stamp c = omega (arith, c .before .before .before .before .before .before .before .before .before .pre .inside)
 
 part-stamp-start : tie.Need-part-stamp-start
 unfolding sizeRead
-part-stamp-start c = omega (arith, c .before .before .before .before .before .before .before .before .before .before .pre .inside)
+part-stamp-start c = omega (arith, c .before .before .before .before .before .before .before .before .before .pre .inside)
 
 part-stamp-end : tie.Need-part-stamp-end
 part-stamp-end c = search needs
 
 number-requires : tie.Need-number-requires
 unfolding sizeRead
-number-requires c κs = omega (arith, c .before .before .before .before .before .before .before .before .before .before .before .pre .inside)
+number-requires c κs = omega (arith, c .before .before .before .before .before .before .before .before .before .before .pre .inside)
 
 stamp-requires : tie.Need-stamp-requires
 unfolding sizeRead
-stamp-requires c κs = record { inside = omega (arith, c .before .before .before .before .before .before .before .before .before .before .before .before .pre .inside, c .before .before .before .before .before .before .before .before .before .before .count .ensures, rest-length (c .before .before .before .before .before .before .before .before .before .before .before .before .args .b .now) 8); few = omega (arith, c .before .before .before .before .before .before .before .before .before .before .before .before .pre .few-tuples, c .before .before .before .before .before .before .before .before .before .before .count .ensures) }
+stamp-requires c κs =
+    let first = c .before .before .before .before .before .before .before .before .before in
+    let start = first .before .before in
+    record { inside = omega (arith, start .pre .inside, first .count .ensures, rest-length (start .args .b .now) 8); few = omega (arith, start .pre .few-tuples, first .count .ensures) }
 
 returns : tie.Need-returns
 returns c =
-    let A = c .before .before .before .before .before .before .before .before .before .before .before .before .before .args in
-    held (A .b .now) (c .before .before .before .before .before .before .before .before .before .before .before .count .result) (c .before .before .before .before .before .before .before .before .before .before .count2 .result) _ (c .before .before .before .before .before .before .before .before .before .before .before .count .ensures .0) (c .before .before .before .before .before .before .before .before .before .before .count2 .ensures .0) refl (A .next) _ (c .before .number .result) refl refl (c .before .before .before .field .ensures) (c .before .number .ensures) (c .stamp .ensures) refl (c .before .before .before .before .before .before .before .before .kinds .ensures) (c .before .before .before .before .before .before .items .ensures) (c .before .before .before .before .values .ensures)
+    let numbered = c .before in
+    let sited = numbered .before .before in
+    let placed = sited .before .before .before .before in
+    let counted = placed .before .before in
+    let first = counted .before in
+    let A = first .before .before .args in
+    let ops = placed .operations .ensures in
+    held (A .b .now) (first .count .result) (counted .count2 .result) _ (first .count .ensures .0) (counted .count2 .ensures .0) refl (A .next) _ (numbered .number .result) refl refl (sited .field .ensures) (numbered .number .ensures) (c .stamp .ensures) refl (ops .kinds-are) (ops .items-are) (ops .values-are)
 
 pub found-spec : {M : Type 1} → statement M
 found-spec =
@@ -101,18 +84,10 @@ found-spec =
     count-requires-2
     mul-a
     add-a
-    sub-kinds
-    part-kinds-start
-    part-kinds-end
-    kinds-requires
-    sub-items
-    part-items-start
-    part-items-end
-    items-requires
-    sub-values
-    part-values-start
-    part-values-end
-    values-requires
+    sub-operations
+    part-operations-start
+    part-operations-end
+    operations-requires
     field-requires
     sub-stamp
     part-stamp-start
