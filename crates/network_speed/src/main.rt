@@ -1,116 +1,144 @@
-// 100,000 mixed steps on an almost empty network and as many on a full one. What they answer is summed: every number, and the own count of each
-// timestamp that a schedule took.
+// 100,000 mixed steps on an almost empty network and as many on a full one; or, by a letter on standard input, one kind of call again and again on a
+// full network or its history file. What they answer is summed.
+mod steps; // steps.rt: the networks and rounds of steps
+
+use history::Found;
+use libc::STDIN_FILENO;
 use libc::STDOUT_FILENO;
 use network::WORDS;
 
+// The length of the file of a full history whose timestamps have one tuple.
+const FILE: usize = 20496;
+
 fn main() {
     let mut state = [0u32; WORDS];
-    show(almost_empty(&mut state));
-    show(full(&mut state));
+    let mut letter = [0u8; 1];
+    libc::read(STDIN_FILENO, &mut letter);
+    if letter[0] == 0 {
+        show(steps::almost_empty(&mut state));
+        show(steps::full(&mut state));
+        return;
+    }
+    calls(letter[0], &mut state);
 }
 
-// Two sites and one item, at most nine records, one message: 1,000 times a set-up and nine rounds of eleven steps, of which four are refused: 11,
-// 20, 18, 15.
-fn almost_empty(state: &mut [u32; WORDS]) -> u64 {
+fn show(sum: u64) {
+    io::print_decimal(STDOUT_FILENO, sum);
+    io::write_all(STDOUT_FILENO, b"\n");
+}
+
+fn calls(letter: u8, state: &mut [u32; WORDS]) {
+    let mut file = [0u8; FILE];
+    steps::fill(state);
+    history::export(state, &mut file);
+    show(repeated(letter, state, &mut file));
+}
+
+// One kind of call, as often as it takes to be measured. A value of the last record is another each time, so that the compiler leaves no call out.
+fn repeated(letter: u8, state: &mut [u32; WORDS], file: &mut [u8; FILE]) -> u64 {
+    let n = times(letter);
+    let mut sum = 0u64;
+    let mut i = 0u32;
+    while i < n {
+        state[WORDS - 1] = i;
+        sum = plus(sum, once(letter, state, file));
+        i += 1;
+    }
+    sum
+}
+
+fn times(letter: u8) -> u32 {
+    match letter {
+        101 => 20,
+        102 => 2,
+        104 => 100000,
+        82 => 100,
+        _ => 10000,
+    }
+}
+
+fn once(letter: u8, state: &mut [u32; WORDS], file: &mut [u8; FILE]) -> u64 {
+    match letter {
+        101 => steps::almost_empty(state),
+        102 => steps::full(state),
+        104 => network::well_shaped(state) as u64,
+        119 => waiting(state),
+        120 => history::export(state, file).length as u64,
+        107 => history::check(file).records as u64,
+        114 => following(file),
+        _ => numbered(file),
+    }
+}
+
+// The sum of the items that wait at site 7.
+fn waiting(state: &[u32; WORDS]) -> u64 {
+    let report = network::waiting(state, 7);
+    let items = report.items;
     let mut sum = 0u64;
     let mut i = 0usize;
-    while i < 1000 {
-        network::set_up(state, 2, 1, &[0], &[2]);
-        sum = std::num::wrapping_add_u64(
+    while i < 64 {
+        sum = plus(sum, items[i] as u64);
+        i += 1;
+    }
+    sum
+}
+
+// All records, each from where the one before ended.
+fn following(file: &[u8; FILE]) -> u64 {
+    let part = history::read(file);
+    let mut at = 0usize;
+    let mut sum = 0u64;
+    let mut i = 0usize;
+    while i < 256 {
+        let found = history::record_from(part, at, 8, 64);
+        at = found.next;
+        sum = plus(sum, digest(found));
+        i += 1;
+    }
+    sum
+}
+
+// All records by their numbers, each with all checks.
+fn numbered(file: &[u8; FILE]) -> u64 {
+    let mut sum = 0u64;
+    let mut i = 0usize;
+    while i < 256 {
+        sum = plus(sum, digest(history::record(file, i)));
+        i += 1;
+    }
+    sum
+}
+
+// Every field of a record goes into a sum, so that none is left out by the compiler.
+fn digest(r: Found) -> u64 {
+    let stamp = r.stamp;
+    let own = stamp.own();
+    let head = plus(
+        plus(r.site as u64, r.count as u64),
+        plus(stamp.epoch.0 as u64, own.count.0 as u64),
+    );
+    plus(head, operations(r))
+}
+
+fn operations(r: Found) -> u64 {
+    let kinds = r.kinds;
+    let items = r.items;
+    let values = r.values;
+    let mut sum = 0u64;
+    let mut i = 0usize;
+    while i < 8 {
+        sum = plus(
             sum,
-            rounds(state, b"c00l01s10d00l01s10e00c10s10l01e10", 9),
+            plus(
+                kinds[i] as u64,
+                plus(items[i] as u64, words::bits(values[i]) as u64),
+            ),
         );
         i += 1;
     }
     sum
 }
 
-// Eight sites and 64 items, 256 records of eight operations, 16 messages on each of the 28 lines, one from each parent arrived at site 7: 10,000
-// rounds of ten steps. Site 7 takes the oldest message of site 6, which sends it a dummy: the line is full again. Six steps are refused: 12, 11,
-// 13, 15, 17, 20.
-fn full(state: &mut [u32; WORDS]) -> u64 {
-    place(state);
-    rounds(state, b"w00w10w20w30w40w50w60w70", 16);
-    rounds(state, b"w70", 128);
-    rounds(state, b"l07l17l27l37l47l57l67", 1);
-    rounds(state, b"c77c10d00e00e70s70d60l67l76s10", 10000)
-}
-
-// Item k has its primary at site k % 8 and a copy at every site above it.
-fn place(state: &mut [u32; WORDS]) {
-    let above = [254u8, 252, 248, 240, 224, 192, 128, 0];
-    let mut primaries = [0u32; 64];
-    let mut masks = [0u8; 64];
-    let mut k = 0usize;
-    while k < 64 {
-        primaries[k] = (k % 8) as u32;
-        masks[k] = above[k % 8];
-        k += 1;
-    }
-    set_up(state, &primaries, &masks);
-}
-
-fn set_up(state: &mut [u32; WORDS], primaries: &[u32; 64], masks: &[u8; 64]) {
-    network::set_up(state, 8, 64, primaries, masks);
-}
-
-// So many rounds of steps.
-fn rounds(state: &mut [u32; WORDS], steps: &[u8], n: u32) -> u64 {
-    let mut sum = 0u64;
-    let mut r = 0u32;
-    while r < n {
-        r += 1;
-        sum = std::num::wrapping_add_u64(sum, round(state, steps, r));
-    }
-    sum
-}
-
-// Steps of three bytes: a letter as in a script, and two digits.
-fn round(state: &mut [u32; WORDS], steps: &[u8], r: u32) -> u64 {
-    let mut sum = 0u64;
-    let mut i = 2usize;
-    while i < steps.len() {
-        let answer = step(state, steps[i - 2], digit(steps[i - 1]), digit(steps[i]), r);
-        sum = std::num::wrapping_add_u64(sum, answer);
-        i += 3;
-    }
-    sum
-}
-
-fn digit(b: u8) -> u32 {
-    (b % 16) as u32
-}
-
-// `c` writes item b at site a, `w` all eight items of site a; the new epoch of `e` is the round's number.
-fn step(state: &mut [u32; WORDS], letter: u8, a: u32, b: u32, r: u32) -> u64 {
-    match letter {
-        99 => commit(state, a, b),
-        119 => write_all(state, a),
-        100 => network::dummy(state, a).number as u64,
-        101 => network::epoch(state, a, r) as u64,
-        108 => network::deliver(state, a, b) as u64,
-        _ => schedule(state, a),
-    }
-}
-
-fn commit(state: &mut [u32; WORDS], site: u32, item: u32) -> u64 {
-    network::commit(state, site, &[1], &[item], &[1]).number as u64
-}
-
-fn write_all(state: &mut [u32; WORDS], p: u32) -> u64 {
-    let k = p % 8;
-    let items = [k, k + 8, k + 16, k + 24, k + 32, k + 40, k + 48, k + 56];
-    network::commit(state, p, &[1; 8], &items, &[1; 8]).number as u64
-}
-
-fn schedule(state: &mut [u32; WORDS], site: u32) -> u64 {
-    let answer = network::schedule(state, site);
-    let t = answer.stamp;
-    let own = t.own();
-    answer.number as u64 + own.count.0 as u64
-}
-
-fn show(sum: u64) {
-    io::print_decimal(STDOUT_FILENO, sum);
-    io::write_all(STDOUT_FILENO, b"\n");
+fn plus(a: u64, b: u64) -> u64 {
+    std::num::wrapping_add_u64(a, b)
 }

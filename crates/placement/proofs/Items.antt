@@ -11,7 +11,7 @@ use Rattle.words.specs.Words.{chunks}
 use Rattle.words.proofs.Parts.{part-getD}
 use Rattle.words.proofs.Chunks.{chunks-length, chunks-at}
 use Rattle.placement.specs.Masks.{bit}
-use Rattle.placement.specs.Placement.{Item, namesMissing, namesBelow, itemNumber, itemsNumber, noItem}
+use Rattle.placement.specs.Placement.{Item, namesMissing, namesBelow, itemNumber, itemsNumber, noItem, givesLine}
 use Rattle.lists.specs.Lists.{any}
 use Rattle.placement.specs.InWords.{itemSize, itemIn, itemWords, itemAt, itemsIn}
 use Rattle.lists.proofs.Some.{some-true, some-next, some-done}
@@ -28,9 +28,6 @@ module _ (w : List ℕ) (k j : ℕ) (h : j < itemSize) where
 -- ---- the tests of an item: it has a copy at c, and its primary at p
 abbrev pub copied : ℕ → Item → Bool
 copied c x = bit (x .mask) c
-
-abbrev pub givesLine : ℕ → ℕ → Item → Bool
-givesLine p c x = eqb (x .primary) p && copied c x
 
 module _ (x : Item) (p c : ℕ) where
   pub not-joined : (x .primary ≡ p → ⊥) → false ≡ givesLine p c x

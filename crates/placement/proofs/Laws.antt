@@ -12,8 +12,8 @@ use borrow.Author.Tests.{eqb-true, eqb-false, leb-false, ltb-true, ltb-false}
 use Rattle.lists.proofs.Some.{some-index}
 use Rattle.lists.proofs.Every.{and-true}
 use Rattle.placement.specs.Masks.{bit, maskOf}
-use Rattle.placement.specs.Placement.{Item, namesMissing, namesBelow, itemNumber, itemsNumber, noItem, isLine}
-use Rattle.placement.proofs.Items.{givesLine, copied}
+use Rattle.placement.specs.Placement.{Item, namesMissing, namesBelow, itemNumber, itemsNumber, noItem, givesLine, isLine}
+use Rattle.placement.proofs.Items.{copied}
 
 -- ---- the bits of a mask
 -- a bit set: its weight is in the mask
@@ -32,12 +32,12 @@ bit-below m p k z h =
     ∙ ap (λ (x : ℕ). x % 2) (sym (field m (j + 1) k) ∙ ap (λ (i : ℕ). m % 2 ^ i / 2 ^ k) e ∙ ap (λ (x : ℕ). x / 2 ^ k) z ∙ zero-div (2 ^ k))
 
 -- a bit of weight 2 to the power n, or none, added to bits of less weight: it is there
-bit-added : (m n : ℕ) → m < 2 ^ n → (b : Bool) → bit (m + cond b (2 ^ n) 0) n ≡ b
+pub bit-added : (m n : ℕ) → m < 2 ^ n → (b : Bool) → bit (m + cond b (2 ^ n) 0) n ≡ b
 bit-added m n h true = let e : m + 2 ^ n ≡ 1 * 2 ^ n + m = omega arith in ap (λ (q : ℕ). eqb (q % 2) 1) (ap (λ (x : ℕ). x / 2 ^ n) e ∙ high 1 n h)
 bit-added m n h false = let e : m + 0 ≡ m = omega arith in ap (λ (q : ℕ). eqb (q % 2) 1) (ap (λ (x : ℕ). x / 2 ^ n) e ∙ div-eq-of-lt h)
 
 -- the bits of less weight are as they were
-bit-kept : (m n k : ℕ) → k < n → (b : Bool) → bit (m + cond b (2 ^ n) 0) k ≡ bit m k
+pub bit-kept : (m n k : ℕ) → k < n → (b : Bool) → bit (m + cond b (2 ^ n) 0) k ≡ bit m k
 bit-kept m n k h true =
     let y = 2 ^ (n - suc k) in
     let e : n - suc k + 1 + k ≡ n = omega arith in

@@ -1,3 +1,4 @@
 pub mod Shifts
 pub mod Items
 pub mod Laws
+pub mod Gathered

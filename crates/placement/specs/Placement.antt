@@ -43,9 +43,13 @@ owns xs i k = eqb (getD xs k noItem .primary) i
 abbrev pub copies : List Item → ℕ → ℕ → Bool
 copies xs i k = bit (getD xs k noItem .mask) i
 
--- there is a line from site p to site c: some item has its primary at p and a copy at c
+-- the item has its primary at site p and a copy at site c
+abbrev pub givesLine : ℕ → ℕ → Item → Bool
+givesLine p c x = eqb (x .primary) p && bit (x .mask) c
+
+-- there is a line from site p to site c: some item gives it
 unfoldable pub isLine : List Item → ℕ → ℕ → Bool
-isLine xs p c = any (λ (x : Item). eqb (x .primary) p && bit (x .mask) c) xs
+isLine xs p c = any (givesLine p c) xs
 
 -- site c has a parent: some item has a copy there
 unfoldable pub hasParents : List Item → ℕ → Bool

@@ -5,12 +5,10 @@ use limits::ITEMS_WIDE;
 use limits::SITES;
 pub use masks::bit;
 ghost use mathlib.Core.Path.{_≡_};
-ghost use mathlib.Core.Bool.{_&&_};
 ghost use Prim.Native.Nat.{min, _<_};
 ghost use lib.ListN.{getD};
-ghost use lib.Dec.{eqb};
-ghost use Rattle.placement.specs.Masks.{maskOf, bit as bitOf};
-ghost use Rattle.placement.specs.Placement.{itemNumber, itemsNumber, isLine, hasParents};
+ghost use Rattle.placement.specs.Masks.{maskOf, Names};
+ghost use Rattle.placement.specs.Placement.{itemNumber, itemsNumber, givesLine, isLine, hasParents};
 ghost use Rattle.placement.specs.InWords.{itemSize, itemWords, itemAt, itemsIn};
 ghost use Rattle.limits.specs.Limits.{itemsMost, sitesMost};
 
@@ -115,35 +113,53 @@ pub fn has_parents(w: &[u32], items: usize, c: u32) -> bool
 pub fn children(w: &[u32], items: usize, p: u32) -> u32
     ensures { λ r. ⌜ r ≡ maskOf (isLine (itemsIn (min items itemsMost) (now (w .entry))) p) sitesMost ⌝ }
 {
+    let n = few(items);
     let mut m = 0;
-    let mut c = 0;
-    while c < SITES {
-        if is_line(w, items, p, c) {
-            m += 1u32 << c;
-        }
-        c += 1;
+    let mut k = 0;
+    while k < n {
+        m = m | children_by(w, k, p);
+        k += 1;
     }
-    m
+    masks::below(m, SITES)
 }
 
 // The mask of the parents of site c.
 pub fn parents(w: &[u32], items: usize, c: u32) -> u32
     ensures { λ r. ⌜ r ≡ maskOf (λ p. isLine (itemsIn (min items itemsMost) (now (w .entry))) p c) sitesMost ⌝ }
 {
+    let n = few(items);
     let mut m = 0;
-    let mut p = 0;
-    while p < SITES {
-        if is_line(w, items, p, c) {
-            m += 1u32 << p;
-        }
-        p += 1;
+    let mut k = 0;
+    while k < n {
+        m = m | parents_by(w, k, c);
+        k += 1;
     }
-    m
+    masks::below(m, SITES)
+}
+
+// The children that item k gives site p: the sites of its copies, where p is its primary.
+fn children_by(w: &[u32], k: usize, p: u32) -> u32
+    ensures { λ r. ⌜ Names r (λ c. givesLine p c (itemAt (now (w .entry)) k)) ⌝ }
+{
+    if primary(w, k) == p {
+        return mask(w, k);
+    }
+    0
+}
+
+// The parents that item k gives site c: its primary, where c has a copy.
+fn parents_by(w: &[u32], k: usize, c: u32) -> u32
+    ensures { λ r. ⌜ Names r (λ p. givesLine p c (itemAt (now (w .entry)) k)) ⌝ }
+{
+    if bit(mask(w, k), c) {
+        return masks::one(primary(w, k));
+    }
+    0
 }
 
 // Whether item k has its primary at site p and a copy at site c.
 fn joins(w: &[u32], k: usize, p: u32, c: u32) -> bool
-    ensures { λ r. ⌜ r ≡ (eqb (itemAt (now (w .entry)) k .primary) p && bitOf (itemAt (now (w .entry)) k .mask) c) ⌝ }
+    ensures { λ r. ⌜ r ≡ givesLine p c (itemAt (now (w .entry)) k) ⌝ }
 {
     if primary(w, k) != p {
         return false;

@@ -4,10 +4,10 @@ use Prim.Native.Nat.{_-_, min}
 use native.Mathlib.Omega.{arith}
 use lib.ListN.{drop}
 use Rattle.lists.specs.Lists.{any}
-use Rattle.placement.specs.Placement.{isLine}
+use Rattle.placement.specs.Placement.{givesLine, isLine}
 use Rattle.placement.specs.InWords.{itemsIn}
 use Rattle.limits.specs.Limits.{itemsMost}
-use Rattle.placement.proofs.Items.{givesLine, found, not-yet, not-found}
+use Rattle.placement.proofs.Items.{found, not-yet, not-found}
 use borrow.Author.Needs.{needs}
 use Rattle.placement.proofs.is_line.Statement.{statement}
 use Rattle.placement.proofs.is_line.Tie as tie

@@ -1,8 +1,8 @@
 -- `almost_empty` ends: i rises to 1,000.
 use Prim.Native.Nat.{_≤_, _-_}
 use borrow.Author.Needs.{needs}
-use Rattle.network_speed.proofs.almost_empty.Statement.{statement}
-use Rattle.network_speed.proofs.almost_empty.Tie as tie
+use Rattle.network_speed.proofs.steps.almost_empty.Statement.{statement}
+use Rattle.network_speed.proofs.steps.almost_empty.Tie as tie
 
 abbrev Inv-loop : tie.InvT-loop
 Inv-loop state₀ sum₀ i₀ t4 t5 t6 state sum i = i ≤ 1000

@@ -1,8 +1,8 @@
 -- `place` ends: k rises to 64.
 use Prim.Native.Nat.{_≤_, _-_}
 use borrow.Author.Needs.{needs}
-use Rattle.network_speed.proofs.place.Statement.{statement}
-use Rattle.network_speed.proofs.place.Tie as tie
+use Rattle.network_speed.proofs.steps.place.Statement.{statement}
+use Rattle.network_speed.proofs.steps.place.Tie as tie
 
 abbrev Inv-loop : tie.InvT-loop
 Inv-loop state above primaries₀ masks₀ k₀ primaries masks k = k ≤ 64

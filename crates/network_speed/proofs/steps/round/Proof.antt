@@ -2,8 +2,8 @@
 use lib.ListN.{length}
 use Prim.Native.Nat.{_≤_, _-_}
 use borrow.Author.Needs.{needs}
-use Rattle.network_speed.proofs.round.Statement.{statement}
-use Rattle.network_speed.proofs.round.Tie as tie
+use Rattle.network_speed.proofs.steps.round.Statement.{statement}
+use Rattle.network_speed.proofs.steps.round.Tie as tie
 
 abbrev Inv-loop : tie.InvT-loop
 Inv-loop state₀ steps r sum₀ i₀ state sum i = 2 ≤ i

@@ -1,8 +1,8 @@
 -- `rounds` ends: r rises to n.
 use Prim.Native.Nat.{_≤_, _-_}
 use borrow.Author.Needs.{needs}
-use Rattle.network_speed.proofs.rounds.Statement.{statement}
-use Rattle.network_speed.proofs.rounds.Tie as tie
+use Rattle.network_speed.proofs.steps.rounds.Statement.{statement}
+use Rattle.network_speed.proofs.steps.rounds.Tie as tie
 
 abbrev Inv-loop : tie.InvT-loop
 Inv-loop state₀ steps n sum₀ r₀ state sum r = r ≤ n

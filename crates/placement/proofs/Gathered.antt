@@ -1,0 +1,107 @@
+-- Masks built by `|`: the bits of two masks together, a mask by its bits, and a walk over the items that gathers the sites that each names.
+use mathlib.Core.Path.{_≡_, refl, sym, ap, _∙_}
+use mathlib.Core.Bool.{Bool, true, false, cond, _||_, or-false}
+use mathlib.Core.List.{List}
+use Prim.Native.Nat.{ℕ, zero, suc, _+_, _*_, _/_, _%_, _^_, _≤_, _<_}
+use native.Mathlib.Omega.{arith}
+use native.Mathlib.Numerals.{add-one}
+use native.Mathlib.Nat.{mod-one, mod-lt, zero-div, div-eq-of-lt}
+use lib.Bits.{bitOr, or-shr, or-mod, or-zero-l}
+use lib.Pow.{mod-pow-add, pow-lt, pow-pos}
+use lib.ListN.{length, getD, drop, drop-of-length-le}
+use lib.Seq.{drop-cons}
+use lib.Dec.{eqb, ltb}
+use borrow.Author.Tests.{ltb-true, ltb-false, eq-eqb, ne-eqb}
+use Rattle.limits.specs.Limits.{sitesMost}
+use Rattle.lists.specs.Lists.{any}
+use Rattle.placement.specs.Masks.{bit, maskOf, Names}
+use Rattle.placement.specs.Placement.{Item, noItem}
+use Rattle.placement.specs.InWords.{itemAt, itemsIn}
+use Rattle.placement.proofs.Items.{items-length, items-at}
+use Rattle.placement.proofs.Laws.{bit-added, bit-kept}
+
+-- ---- the bits of two masks together
+one-of : (i j : ℕ) → i < 2 → j < 2 → eqb (bitOr i j) 1 ≡ (eqb i 1 || eqb j 1)
+one-of zero j h g = ap (λ (x : ℕ). eqb x 1) (or-zero-l j)
+one-of (suc zero) zero h g = refl
+one-of (suc zero) (suc zero) h g = refl
+one-of (suc zero) (suc (suc j)) h g = absurd (omega arith)
+one-of (suc (suc i)) j h g = absurd (omega arith)
+
+pub bit-or : (a b k : ℕ) → bit (bitOr a b) k ≡ (bit a k || bit b k)
+bit-or a b k =
+    let x = a / 2 ^ k in
+    let y = b / 2 ^ k in
+    ap (λ (z : ℕ). eqb (z % 2) 1) (or-shr a b k)
+    ∙ ap (λ (z : ℕ). eqb z 1) (or-mod x y 1)
+    ∙ one-of (x % 2) (y % 2) (mod-lt x {m = 2} (omega arith)) (mod-lt y {m = 2} (omega arith))
+
+pub bit-none : (k : ℕ) → bit 0 k ≡ false
+bit-none k = ap (λ (z : ℕ). eqb (z % 2) 1) (zero-div (2 ^ k))
+
+-- ---- the bits of a weight
+pub bit-one : (k j : ℕ) → bit (2 ^ k) j ≡ eqb k j
+bit-one k j = go (ltb j k) (ltb k j) refl refl
+  where
+    e : 0 + 2 ^ k ≡ 2 ^ k
+    e = omega arith
+
+    go : (b d : Bool) → ltb j k ≡ b → ltb k j ≡ d → bit (2 ^ k) j ≡ eqb k j
+    go true d p q =
+        let below = ltb-true j k p in
+        ap (λ (x : ℕ). bit x j) (sym e) ∙ bit-kept 0 k j below true ∙ bit-none j ∙ sym (ne-eqb k j (λ z. omega arith))
+    go false true p q =
+        let above = ltb-true k j q in
+        ap (λ (x : ℕ). eqb (x % 2) 1) (div-eq-of-lt (pow-lt above)) ∙ sym (ne-eqb k j (λ z. omega arith))
+    go false false p q =
+        let same : k ≡ j = omega (arith, ltb-false j k p, ltb-false k j q) in
+        ap (bit (2 ^ k)) (sym same) ∙ ap (λ (x : ℕ). bit x k) (sym e) ∙ bit-added 0 k (pow-pos k) true ∙ sym (eq-eqb k j same)
+
+-- ---- a mask is that of its bits
+weight : (r k : ℕ) → r < 2 → r * 2 ^ k ≡ cond (eqb r 1) (2 ^ k) 0
+weight zero k h = omega arith
+weight (suc zero) k h = omega arith
+weight (suc (suc r)) k h = absurd (omega arith)
+
+pub mask-of-bits : (m n : ℕ) → m % 2 ^ n ≡ maskOf (bit m) n
+unfolding maskOf
+mask-of-bits m zero = mod-one m
+mask-of-bits m (suc n) =
+    let e : suc n ≡ 1 + n = omega arith in
+    ap (λ (k : ℕ). m % 2 ^ k) e ∙ mod-pow-add m 1 n ∙ omega (arith, weight (m / 2 ^ n % 2) n (mod-lt (m / 2 ^ n) {m = 2} (omega arith)), mask-of-bits m n)
+
+pub mask-same : (f g : ℕ → Bool) (n : ℕ) → ((k : ℕ) → k < n → f k ≡ g k) → maskOf f n ≡ maskOf g n
+unfolding maskOf
+mask-same f g zero h = refl
+mask-same f g (suc n) h = rw (h n (omega arith), mask-same f g n (λ k b. h k (omega arith)))
+
+-- ---- a walk over the items: m has the bits of those before item k
+or-assoc : (a b c : Bool) → (a || (b || c)) ≡ ((a || b) || c)
+or-assoc true b c = refl
+or-assoc false b c = refl
+
+-- of the sites that there can be, a site passes a test of some item exactly where m names it or it passes that of an item from k on
+abbrev pub Gathered : (ℕ → Item → Bool) → ℕ → List ℕ → ℕ → ℕ → Type 0
+Gathered test n w m k = (c : ℕ) → c < sitesMost → any (test c) (itemsIn n w) ≡ (bit m c || any (test c) (drop k (itemsIn n w)))
+
+module _ (test : ℕ → Item → Bool) (n : ℕ) (w : List ℕ) where
+  pub gather-none : Gathered test n w 0 0
+  gather-none c h = sym (ap (λ (b : Bool). b || any (test c) (itemsIn n w)) (bit-none c))
+
+  module _ (m k : ℕ) (before : Gathered test n w m k) where
+    pub gather-next : k < n → (r : ℕ) → Names r (λ c. test c (itemAt w k)) → Gathered test n w (bitOr m r) (k + 1)
+    gather-next few r names c h =
+        let xs = itemsIn n w in
+        let next = any (test c) (drop (k + 1) xs) in
+        let there : k < length xs = omega (arith, items-length n w) in
+        let here : any (test c) (drop k xs) ≡ (test c (itemAt w k) || next) = rw (add-one, drop-cons xs k noItem there, items-at n w k few) in
+        before c h
+        ∙ ap (λ (b : Bool). bit m c || b) (here ∙ ap (λ (b : Bool). b || next) (sym (names c h)))
+        ∙ or-assoc (bit m c) (bit r c) next
+        ∙ ap (λ (b : Bool). b || next) (sym (bit-or m r c))
+
+    pub gather-done : n ≤ k → m % 2 ^ sitesMost ≡ maskOf (λ c. any (test c) (itemsIn n w)) sitesMost
+    gather-done all =
+        mask-of-bits m sitesMost
+        ∙ mask-same (bit m) (λ c. any (test c) (itemsIn n w)) sitesMost
+        (λ c h. sym (before c h ∙ ap (λ (xs : List Item). bit m c || any (test c) xs) (drop-of-length-le (itemsIn n w) {i = k} (omega (arith, items-length n w))) ∙ or-false (bit m c)))
