@@ -143,10 +143,9 @@ module _ {M : Type 1} (𝓤 : URA M) (H : Heap 𝓤) (A : Atoms 𝓤) (W : Given
         split ! $ move ! (1 ∷ []) $ drop ! $ split ! $ move ! (1 ∷ []) $
         -- [what the struct owns; the token; what s owns; room for _5; …; _4; …; _3; …; _2; …; _1; …; room for _0; …]
         peeks ! B (Is B) (shows 𝓤 H A B) r (u ∷ []) (λ is.
-        let fields = LL.owed D L r _ is in
         land ! (from ! (stop !)) (init ! 9 refl (LL.lawful (T.the-type αᵉ) (T′.the-laws αᵉ) 𝓤 H A W .typed r _ is .0)) $ rewrite ! 9 (λ (x : Val). ‵ (fat fullShare (T′.mir erased) l₂ 0 x)) (ap only (LL.tells D L r _ is)) refl $
-        assigns ! (of-opd ! (load ! (from ! (fld ! refl (stop !))) (look-in ! 9 (sub ! 0 refl (whole !))))) (from ! (stop !)) (init ! 5 refl (tt, record { fits = fields .0 .1 })) $
-        assigns ! (of-opd ! (load ! (from ! (fld ! refl (stop !))) (look-in ! 9 (sub ! 1 refl (whole !))))) (from ! (stop !)) (init ! 3 refl (tt, (tt, (record { fits = fields .1 .0 .0 .1 .0 }, tt)))) $
+        assigns ! (of-opd ! (load ! (from ! (fld ! refl (stop !))) (look-in ! 9 (sub ! 0 refl (whole !))))) (from ! (stop !)) (init ! 5 refl (tt, record { fits = LL.owed D L r _ is .0 .1 })) $
+        assigns ! (of-opd ! (load ! (from ! (fld ! refl (stop !))) (look-in ! 9 (sub ! 1 refl (whole !))))) (from ! (stop !)) (init ! 3 refl (tt, (tt, (record { fits = LL.owed D L r _ is .1 .0 .0 .1 .0 }, tt)))) $
         use2 W (raw (Print 𝓤 H A mem run .pre (to-print r))) (goes-print r u) $
         calls-at ! fm (Print 𝓤 H A mem run) known-print (to-print r) (and-then ! (load ! (from ! (stop !)) (look ! 4 refl)) (and-then ! (load ! (from ! (stop !)) (look ! 2 refl)) (no-more !))) (λ w.
         use1 W (later (some (λ (t : Unit {0}). (Token ⊛ ‵ (unit .own t (w ∷ []))) ⊛ raw (ensured 𝓤 H A print.ended (print.clauses 𝓤 H A mem run) (κ, tt) (r .number, (r .part, tt)) tt t)))) (id⊢ 𝓤 _) $ await ! tt $ pick ! (λ t.
