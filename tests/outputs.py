@@ -75,7 +75,7 @@ class Cases:
         calls = {
             "#": lambda: line.decode(),
             "b": lambda: self.file.hex(),
-            "h": lambda: files.read(self.file)[4].hex(),
+            "h": self.read,
             "a": self.sums,
             "f": self.check,
             "=": lambda: self.put(b"", text),
@@ -134,6 +134,10 @@ class Cases:
     def check(self):
         number, sites, items, records, part = files.read(self.file)
         return joined([number, len(records), sites, items, len(part)])
+
+    def read(self):
+        number, _, _, _, part = files.read(self.file)
+        return joined([number] + ([part.hex()] if part else []))
 
     def record(self, k):
         return found_text(*files.by_number(self.file, k))

@@ -86,7 +86,7 @@ pub fn sums(file: &[u8]) {
 // `f`: the number, the records, sites and items, and the length of the part.
 pub fn check(file: &[u8]) {
     let checked = history::check(file);
-    let part = history::read(file);
+    let part = history::part(file);
     lists::show(
         &[
             checked.number as usize,
@@ -98,6 +98,20 @@ pub fn check(file: &[u8]) {
     );
 }
 
+// `h`: the number, and the bytes of the part. The one function here that holds what `history::read` hands back.
+pub fn read(file: &[u8]) {
+    let reading = history::read(file);
+    print(reading.number, reading.part);
+}
+
+fn print(number: u32, part: &[u8]) {
+    lists::show(&[number as usize]);
+    if 0 < part.len() {
+        io::write_all(STDOUT_FILENO, b" ");
+        bytes(part);
+    }
+}
+
 // `r NUMBER`: a record by its number.
 pub fn record(line: &[u8], file: &[u8]) {
     let list = lists::numbers(line);
@@ -107,7 +121,7 @@ pub fn record(line: &[u8], file: &[u8]) {
 // `@ PLACE SITES ITEMS`: the record at a place of the part.
 pub fn record_from(line: &[u8], file: &[u8]) {
     let list = lists::numbers(line);
-    let part = history::read(file);
+    let part = history::part(file);
     found(history::record_from(part, list[0] as usize, list[1], list[2]));
 }
 

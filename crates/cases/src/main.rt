@@ -53,7 +53,7 @@ fn shown(line: &[u8], state: &mut [u32; WORDS], file: &[u8], size: usize)
     let part = &file[0..size];
     match lists::letter(line) {
         98 => files::bytes(part),
-        104 => files::bytes(history::read(part)),
+        104 => files::read(part),
         97 => files::sums(part),
         102 => files::check(part),
         114 => files::record(line, part),

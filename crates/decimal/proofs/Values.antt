@@ -1,18 +1,21 @@
 -- Laws of the value of digits, one digit at a time, and of the texts that are numbers.
 use mathlib.Core.Path.{_≡_, refl, sym, ap, subst, _∙_}
 use mathlib.Core.Bool.{Bool, true, false, cond, not, _&&_, false≢true}
-use mathlib.Core.Option.{none, some}
+use mathlib.Core.Option.{Option, none, some}
 use mathlib.Core.List.{List, [], _∷_}
 use Prim.Native.Nat.{ℕ, suc, _+_, _-_, _*_, _≤_, _<_}
 use native.Mathlib.Omega.{arith}
 use native.Mathlib.Numerals.{add-one}
+use lib.IntN.{ℤ}
 use lib.ListN.{length, getD, drop, drop-of-length-le}
 use lib.Seq.{drop-cons}
 use lib.Dec.{leb, ltb}
 use borrow.Author.Tests.{le-leb, lt-leb, lt-ltb, le-ltb}
 use Rattle.lists.specs.Lists.{every}
 use Rattle.lists.proofs.Every.{and-true}
-use Rattle.decimal.specs.Decimal.{isDigit, extraZero, valueFrom, greatest, natural}
+use Rattle.decimal.specs.Decimal.{isDigit, extraZero, valueFrom, greatest, natural, asNumber, asInteger, numberOf, integerOf}
+use Rattle.decimal.specs.declared.Number.{Number}
+use Rattle.decimal.specs.declared.Integer.{Integer}
 
 -- digits only raise it
 pub value-above : (v : ℕ) (l : List ℕ) → v ≤ valueFrom v l
@@ -127,3 +130,14 @@ pub natural-long : (l : List ℕ) (v : ℕ) → some v ≡ natural l → 1 ≤ l
 unfolding natural
 natural-long [] v e = let z : _≡_ {A = ℕ} 0 1 = cc in omega arith
 natural-long (d ∷ ds) v e = omega arith
+
+-- what is answered means what was read
+pub number-means : {r : Number} {o : Option ℕ} → r ≡ asNumber o → numberOf r ≡ o
+unfolding asNumber
+number-means {o = none} e = ap numberOf e
+number-means {o = some n} e = ap numberOf e
+
+pub integer-means : {r : Integer} {o : Option ℤ} → r ≡ asInteger o → integerOf r ≡ o
+unfolding asInteger
+integer-means {o = none} e = ap integerOf e
+integer-means {o = some z} e = ap integerOf e

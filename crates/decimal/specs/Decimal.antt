@@ -1,6 +1,6 @@
 -- Numbers in decimal: the bytes that a number is printed as, and the number that bytes stand for, if they do.
 use mathlib.Core.Path.{_≡_}
-use mathlib.Core.Bool.{Bool, cond, not, _&&_}
+use mathlib.Core.Bool.{Bool, true, false, cond, not, _&&_}
 use mathlib.Core.List.{List, [], _∷_, _++_}
 use mathlib.Core.Option.{Option, none, some}
 use Prim.Native.Nat.{ℕ, zero, suc, _+_, _-_, _*_, _/_, _%_, _≤_}
@@ -75,7 +75,15 @@ unfoldable pub signed : List ℕ → Option ℤ
 signed [] = none
 signed (d ∷ ds) = cond (eqb d 45) (negative (natural ds)) (notNegative (natural (d ∷ ds)))
 
--- ---- what the values of the code mean
+-- ---- the values of the code, 0 where there is no number, and what they mean
+unfoldable pub asNumber : Option ℕ → Number
+asNumber none = record { ok = false; value = 0 }
+asNumber (some n) = record { ok = true; value = n }
+
+unfoldable pub asInteger : Option ℤ → Integer
+asInteger none = record { ok = false; value = pos 0 }
+asInteger (some z) = record { ok = true; value = z }
+
 abbrev pub numberOf : Number → Option ℕ
 numberOf r = cond (r .ok) (some (r .value)) none
 

@@ -7,7 +7,7 @@ ghost use lib.ListN.{length};
 ghost use lib.IntN.{natAbs};
 ghost use lib.Dec.{leb};
 ghost use Rattle.lists.specs.Lists.{every};
-ghost use Rattle.decimal.specs.Decimal.{digits, signedDigits, Printed, PrintedIn, isDigit, extraZero, valueFrom, greatest, natural as naturalIn, signed as signedIn, numberOf, integerOf, negative, notNegative};
+ghost use Rattle.decimal.specs.Decimal.{digits, signedDigits, Printed, PrintedIn, isDigit, extraZero, valueFrom, greatest, natural as naturalIn, signed as signedIn, numberOf, asNumber, asInteger, negative, notNegative};
 
 // A number, where the text is one; else `ok` is false and the value 0.
 pub struct Number {
@@ -23,7 +23,7 @@ pub struct Integer {
 
 // The number that a text stands for.
 pub fn natural(text: &[u8]) -> Number
-    ensures { λ r. ⌜ numberOf r ≡ naturalIn (now (text .entry)) ⌝ }
+    ensures { λ r. ⌜ r ≡ asNumber (naturalIn (now (text .entry))) ⌝ }
 {
     if text.len() == 0 {
         return no_number();
@@ -43,7 +43,7 @@ pub fn natural(text: &[u8]) -> Number
 
 // The signed number that a text stands for.
 pub fn signed(text: &[u8]) -> Integer
-    ensures { λ r. ⌜ integerOf r ≡ signedIn (now (text .entry)) ⌝ }
+    ensures { λ r. ⌜ r ≡ asInteger (signedIn (now (text .entry))) ⌝ }
 {
     if text.len() == 0 {
         return no_integer();
@@ -154,7 +154,7 @@ fn next_value(v: u64, d: u8) -> u64
 
 // A magnitude below zero.
 fn below_zero(m: Number) -> Integer
-    ensures { λ r. ⌜ integerOf r ≡ negative (numberOf m) ⌝ }
+    ensures { λ r. ⌜ r ≡ asInteger (negative (numberOf m)) ⌝ }
 {
     let v = m.value;
     if !m.ok {
@@ -174,7 +174,7 @@ fn below_zero(m: Number) -> Integer
 
 // A magnitude not below zero.
 fn above_zero(m: Number) -> Integer
-    ensures { λ r. ⌜ integerOf r ≡ notNegative (numberOf m) ⌝ }
+    ensures { λ r. ⌜ r ≡ asInteger (notNegative (numberOf m)) ⌝ }
 {
     let v = m.value;
     if !m.ok {
@@ -190,7 +190,7 @@ fn above_zero(m: Number) -> Integer
 }
 
 fn no_number() -> Number
-    ensures { λ r. ⌜ numberOf r ≡ none ⌝ }
+    ensures { λ r. ⌜ r ≡ asNumber none ⌝ }
 {
     Number {
         ok: false,
@@ -199,7 +199,7 @@ fn no_number() -> Number
 }
 
 fn no_integer() -> Integer
-    ensures { λ r. ⌜ integerOf r ≡ none ⌝ }
+    ensures { λ r. ⌜ r ≡ asInteger none ⌝ }
 {
     Integer {
         ok: false,

@@ -139,14 +139,38 @@ fn file_number(b: &[u8]) -> u32
     0
 }
 
-// The part of the buffer from the first record to the trailer, which it excludes; empty where the file is refused.
-pub fn read(b: &[u8]) -> &[u8]
+// The part of a file whose number is known; empty where it is refused.
+fn part_numbered(b: &[u8], number: u32) -> &[u8]
+    requires { ⌜ number ≡ fileNumber (now b) ⌝ }
     ensures { λ r. ⌜ now r ≡ partAnswered (now (b .entry)) ⌝ }
 {
-    if file_number(b) != 0 {
+    if number != 0 {
         return &b[0..0];
     }
     part_of(b)
+}
+
+// What reading a file hands back: the number for which it is refused, or 0; and the part of the buffer from the first record to the trailer, which
+// it excludes, empty where the file is refused.
+pub struct Reading<'a> {
+    pub number: u32,
+    pub part: &'a [u8],
+}
+
+pub fn read<'a>(b: &'a [u8]) -> Reading<'a>
+    ensures { λ r. ⌜ (r .number ≡ fileNumber (now (b .entry))) × (now (r .part) ≡ partAnswered (now (b .entry))) ⌝ }
+{
+    let number = file_number(b);
+    let part = part_numbered(b, number);
+    Reading { number, part }
+}
+
+// The part alone: a caller that holds no `Reading` needs no walk by hand.
+pub fn part(b: &[u8]) -> &[u8]
+    ensures { λ r. ⌜ now r ≡ partAnswered (now (b .entry)) ⌝ }
+{
+    let number = file_number(b);
+    part_numbered(b, number)
 }
 
 // The number of the file, and how many records, sites and items it has.

@@ -64,7 +64,7 @@ fn print(b: &[u8]) {
         refused(file.number);
         return;
     }
-    let part = history::read(b);
+    let part = history::part(b);
     records(part, file.records, file.sites, file.items);
 }
 

@@ -1,15 +1,18 @@
 -- What the code's contracts say of calls made one after another is what the definitions say of them.
 use mathlib.Core.Path.{_≡_, refl, ap, sym, subst, _∙_}
 use mathlib.Core.List.{List, [], _∷_, map}
-use mathlib.Core.Option.{Option}
+use mathlib.Core.Option.{Option, none}
 use Prim.Native.Nat.{ℕ}
+use lib.ListN.{replicate}
 use Rattle.protocol.specs.Network.{Network}
 use Rattle.protocol.specs.Calls.{Call, setUp, Outcome, perform}
-use Rattle.network_layout.specs.InWords.{meaning}
+use Rattle.network_layout.specs.InWords.{inRange, shaped, meaning}
 use Rattle.network_layout.specs.Promises.{Performed}
-use Rattle.protocol.specs.Agreement.{Known, nothingKnown, witnessed, learnedAll, Agreement, OneCopyAgreement}
-use Rattle.network_layout.specs.Played.{Event, Played, seenOf, witnessedAll, PlayedAgreement}
+use Rattle.protocol.specs.Agreement.{Known, nothingKnown, witnessed, learnedAll, Agreement, AgreedOrUnset, OneCopyAgreement, FromNothing}
+use Rattle.network_layout.specs.Played.{Event, Played, seenOf, witnessedAll, PlayedAgreement, PlayedFromNothing}
 use Rattle.protocol.proofs.Theorem.{one-copy-agreement}
+use Rattle.protocol.proofs.Beside.{from-nothing}
+use Rattle.network_layout.specs.Layout.{stateSize}
 
 abbrev calls : List Event → List Call
 calls es = map (λ (e : Event). e .call) es
@@ -36,3 +39,14 @@ played-agreement theorem w e es sites items primaries masks c z (p, ps) =
 
 pub one-copy-played : PlayedAgreement
 one-copy-played = played-agreement one-copy-agreement
+
+pub played-from-nothing : PlayedFromNothing
+unfolding FromNothing PlayedFromNothing
+played-from-nothing w es e p =
+    subst AgreedOrUnset (ap (λ (s : Option Network). learnedAll (nothingKnown s) (calls es)) (sym e) ∙ sym (witnessed-is w (nothingKnown (meaning w)) es refl p))
+    (from-nothing (calls es))
+
+-- ---- a state that was never set up: words of zeros have no sites
+pub zeros-mean-nothing : meaning (replicate stateSize 0) ≡ none
+unfolding meaning shaped inRange
+zeros-mean-nothing = refl

@@ -1,13 +1,14 @@
 -- The tie to the code: calls made one after another on the words of one state, each with what it answered and left.
 use mathlib.Core.Path.{_≡_}
 use mathlib.Core.List.{List, [], _∷_}
+use mathlib.Core.Option.{none}
 use Prim.Native.Nat.{ℕ}
 use lib.IntN.{ℤ}
 use Rattle.timestamp.specs.Timestamp.{Stamp}
 use Rattle.protocol.specs.Calls.{Call, setUp, Outcome}
 use Rattle.network_layout.specs.InWords.{meaning}
 use Rattle.network_layout.specs.Promises.{Performed}
-use Rattle.protocol.specs.Agreement.{Known, nothingKnown, witnessed, Agreement}
+use Rattle.protocol.specs.Agreement.{Known, nothingKnown, witnessed, Agreement, AgreedOrUnset}
 
 -- a call, its answer, and the words of the state after it
 pub record Event : Type 0 where
@@ -36,3 +37,7 @@ unfoldable pub PlayedAgreement : Type 0
 PlayedAgreement =
     (w : List ℕ) (e : Event) (es : List Event) (sites items : ℕ) (primaries masks : List ℕ) → e .call ≡ setUp sites items primaries masks → e .number ≡ 0
     → Played w (e ∷ es) → Agreement (witnessedAll (nothingKnown (meaning w)) (e ∷ es))
+
+-- for all words that mean no network, words of zeros among them, and all calls that the code answers
+unfoldable pub PlayedFromNothing : Type 0
+PlayedFromNothing = (w : List ℕ) (es : List Event) → meaning w ≡ none → Played w es → AgreedOrUnset (witnessedAll (nothingKnown (meaning w)) es)

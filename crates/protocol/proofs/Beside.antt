@@ -1,8 +1,9 @@
--- Beside one-copy agreement: no two commits have one timestamp, and no call is refused with 6.
-use mathlib.Core.Path.{_≡_, refl, ap, sym, _∙_}
+-- Beside one-copy agreement: what holds from no network on, no two commits have one timestamp, and no call is refused with 6.
+use mathlib.Core.Path.{_≡_, refl, ap, sym, subst, _∙_}
 use mathlib.Core.Bool.{Bool, true, false, cond, not, _&&_, _||_}
 use mathlib.Core.List.{List, [], _∷_, map}
-use mathlib.Core.Option.{Option, some}
+use mathlib.Core.Logic.{inl, inr}
+use mathlib.Core.Option.{Option, none, some}
 use Prim.Native.Nat.{ℕ, _<_}
 use native.Mathlib.Omega.{arith}
 use lib.IntN.{ℤ}
@@ -15,15 +16,15 @@ use Rattle.placement.specs.Placement.{Item, namesMissing, namesBelow, itemNumbe
 use Rattle.lists.specs.Numbers.{firstNumber, numberIf, outside}
 use Rattle.limits.specs.Limits.{sitesMost, itemsMost, recordsMost}
 use Rattle.protocol.specs.Network.{Network, noRecord, siteAt, lineAt}
-use Rattle.protocol.specs.Steps.{itemsOf, noSuchSite, countAtMost, someLineFull, opsOf, opNumber, due, wrongLists, setUpNumber, commitNumber, dummyNumber, epochNumber, deliverNumber, scheduleNumber}
+use Rattle.protocol.specs.Steps.{itemsOf, noSuchSite, countAtMost, someLineFull, opsOf, opNumber, due, wrongLists, setUpNumber, setUpNetwork, commitNumber, dummyNumber, epochNumber, deliverNumber, scheduleNumber}
 use Rattle.lists.specs.Lists.{someBelow}
 use Rattle.protocol.specs.Waiting.{waitingNumber}
-use Rattle.protocol.specs.Calls.{Call, setUp, commit, dummy, epoch, deliver, schedule, waiting, perform}
-use Rattle.protocol.specs.Agreement.{Known, StampsDiffer, Never6}
+use Rattle.protocol.specs.Calls.{Call, setUp, commit, dummy, epoch, deliver, schedule, waiting, Outcome, refused, perform}
+use Rattle.protocol.specs.Agreement.{Known, nothingKnown, witnessed, learned, learnedAll, OneCopyAgreement, AgreedOrUnset, FromNothing, StampsDiffer, Never6}
 use Rattle.lists.proofs.Matched.{matched-length, matched-at}
 use Rattle.protocol.proofs.Alike.{Alike}
 use Rattle.protocol.proofs.Follows.{Follows, always}
-use Rattle.protocol.proofs.Theorem.{stamps-apart}
+use Rattle.protocol.proofs.Theorem.{stamps-apart, one-copy-agreement}
 
 -- ---- timestamps
 differ : (k : Known) → Follows k → (a b : ℕ) → a < b → b < length (k .book .commits) → getD (k .book .commits) a noRecord .stamp ≡ getD (k .book .commits) b noRecord .stamp → ⊥
@@ -133,6 +134,31 @@ module _ (n : Network) where
 
 never : (k : Known) → Follows k → (c : Call) → perform (k .state) c .number ≡ 6 → ⊥
 never k f c = eqb-false (perform (k .state) c .number) 6 (ap (λ (s : Option Network). eqb (perform s c .number) 6) (f .state-is) ∙ call-not6 (f .network) c .differs)
+
+-- ---- from no network on: a call is refused, and then still nothing is known, until a set-up is accepted
+module _ (c : Call) (cs : List Call) (rest : AgreedOrUnset (learnedAll (nothingKnown none) cs)) where
+  still-unset : (m : ℕ) → eqb m 0 ≡ false → perform none c ≡ refused m none → AgreedOrUnset (learnedAll (nothingKnown none) (c ∷ cs))
+  still-unset m e is =
+      let same : learned (nothingKnown none) c ≡ nothingKnown none = ap (witnessed (nothingKnown none) c) is ∙ rw e in
+      subst (λ (k : Known). AgreedOrUnset (learnedAll k cs)) (sym same) rest
+
+from-nothing-on : (calls : List Call) → AgreedOrUnset (learnedAll (nothingKnown none) calls)
+unfolding perform OneCopyAgreement
+from-nothing-on [] = inl refl
+from-nothing-on (setUp sites items ps ms ∷ cs) =
+    by-number (setUpNumber sites items ps ms)
+    (λ e. inr (one-copy-agreement none sites items ps ms (rw e) cs))
+    (λ e. still-unset (setUp sites items ps ms) cs (from-nothing-on cs) (setUpNumber sites items ps ms) e (rw e))
+from-nothing-on (commit i ks is vs ∷ cs) = still-unset (commit i ks is vs) cs (from-nothing-on cs) 6 refl refl
+from-nothing-on (dummy i ∷ cs) = still-unset (dummy i) cs (from-nothing-on cs) 6 refl refl
+from-nothing-on (epoch i h ∷ cs) = still-unset (epoch i h) cs (from-nothing-on cs) 6 refl refl
+from-nothing-on (deliver p c ∷ cs) = still-unset (deliver p c) cs (from-nothing-on cs) 6 refl refl
+from-nothing-on (schedule j ∷ cs) = still-unset (schedule j) cs (from-nothing-on cs) 6 refl refl
+from-nothing-on (waiting i ∷ cs) = still-unset (waiting i) cs (from-nothing-on cs) 6 refl refl
+
+pub from-nothing : FromNothing
+unfolding FromNothing
+from-nothing = from-nothing-on
 
 pub stamps-differ : StampsDiffer
 unfolding StampsDiffer

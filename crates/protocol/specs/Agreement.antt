@@ -2,7 +2,8 @@
 use mathlib.Core.Path.{_≡_}
 use mathlib.Core.Bool.{Bool, true, cond, _||_}
 use mathlib.Core.List.{List, [], _∷_, _++_, map}
-use mathlib.Core.Option.{Option, some}
+use mathlib.Core.Logic.{_⊎_}
+use mathlib.Core.Option.{Option, none, some}
 use Prim.Native.Nat.{ℕ, _<_}
 use lib.IntN.{ℤ, pos}
 use lib.ListN.{length, getD}
@@ -117,6 +118,13 @@ unfoldable pub OneCopyAgreement : Type 0
 OneCopyAgreement = Always Agreement
 
 -- ---- beside it
+-- from no network at all, whatever is called: no set-up was accepted yet, and so nothing is known, or the agreement holds
+abbrev pub AgreedOrUnset : Known → Type 0
+AgreedOrUnset k = (k ≡ nothingKnown none) ⊎ Agreement k
+
+unfoldable pub FromNothing : Type 0
+FromNothing = (calls : List Call) → AgreedOrUnset (learnedAll (nothingKnown none) calls)
+
 -- no two commits of the book have one timestamp
 unfoldable pub StampsDiffer : Type 0
 StampsDiffer =

@@ -4,3 +4,4 @@ pub mod Walks
 pub mod Parsing
 pub mod Putting
 pub mod Replying
+pub mod Scripts

@@ -5,7 +5,7 @@ use Prim.Native.Nat.{ℕ, _+_, _-_}
 use native.Mathlib.Omega.{arith}
 use lib.ListN.{take, drop, length-take}
 use Rattle.decimal.specs.Decimal.{natural}
-use Rattle.decimal.proofs.Values.{natural-long}
+use Rattle.decimal.proofs.Values.{natural-long, number-means}
 use Rattle.script_notation.specs.Fields.{fieldsFrom}
 use Rattle.script_notation.specs.Parse.{on}
 use Rattle.script_notation.proofs.Places.{field-within}
@@ -44,7 +44,7 @@ returns-2 c =
     let T = c .before .before .before .before .before .before .before .before .before .args .text .now in
     let s = c .before .before .before .before .natural .result in
     replied-none _ (c .before .before .before .before .before .before .before .before .before .args .state .now)
-    (ap (λ (o : Option ℕ). on o (committing (fieldsFrom T (c .before .before .before .before .before .before .find .result + 1)))) (is-none (s .ok) (s .value) (c .before .before .if2 .taken) ∙ c .before .before .before .before .natural .ensures) ∙ site-first T (c .before .before .before .before .before .before .before .if1 .left) (c .before .before .before .before .before .before .find .result) (c .before .before .before .before .before .before .find .ensures))
+    (ap (λ (o : Option ℕ). on o (committing (fieldsFrom T (c .before .before .before .before .before .before .find .result + 1)))) (is-none (s .ok) (s .value) (c .before .before .if2 .taken) ∙ number-means (c .before .before .before .before .natural .ensures)) ∙ site-first T (c .before .before .before .before .before .before .before .if1 .left) (c .before .before .before .before .before .before .find .result) (c .before .before .before .before .before .before .find .ensures))
     (c .question2 .ensures)
 
 add-commit-at : tie.Need-add-commit-at
@@ -55,7 +55,7 @@ commit-at-requires c κs =
     let T = c .before .before .before .before .before .before .before .before .before .args .text .now in
     let s = c .before .before .before .before .natural .result in
     let p = c .before .before .before .before .before .before .find .result in
-    let long = natural-long (take (p - 2) (drop 2 T)) (s .value) (is-some (s .ok) (s .value) (c .before .before .if2 .left) ∙ c .before .before .before .before .natural .ensures) in
+    let long = natural-long (take (p - 2) (drop 2 T)) (s .value) (is-some (s .ok) (s .value) (c .before .before .if2 .left) ∙ number-means (c .before .before .before .before .natural .ensures)) in
     record { short = c .before .before .before .before .before .before .before .before .before .pre; behind = omega (arith, length-take (p - 2) (drop 2 T)) }
 
 returns-3 : tie.Need-returns-3
@@ -63,7 +63,7 @@ returns-3 c =
     let T = c .before .before .before .before .before .before .before .before .before .before .args .text .now in
     let s = c .before .before .before .before .before .natural .result in
     replied-as
-    (ap (λ (o : Option ℕ). on o (committing (fieldsFrom T (c .before .before .before .before .before .before .before .find .result + 1)))) (is-some (s .ok) (s .value) (c .before .before .before .if2 .left) ∙ c .before .before .before .before .before .natural .ensures) ∙ site-first T (c .before .before .before .before .before .before .before .before .if1 .left) (c .before .before .before .before .before .before .before .find .result) (c .before .before .before .before .before .before .before .find .ensures))
+    (ap (λ (o : Option ℕ). on o (committing (fieldsFrom T (c .before .before .before .before .before .before .before .find .result + 1)))) (is-some (s .ok) (s .value) (c .before .before .before .if2 .left) ∙ number-means (c .before .before .before .before .before .natural .ensures)) ∙ site-first T (c .before .before .before .before .before .before .before .before .if1 .left) (c .before .before .before .before .before .before .before .find .result) (c .before .before .before .before .before .before .before .find .ensures))
     (c .commit-at .ensures)
 
 pub commit-spec : {M : Type 1} → statement M

@@ -12,6 +12,7 @@ use Rattle.decimal.specs.Decimal.{natural, signed, integerOf}
 use Rattle.script_notation.specs.Fields.{position}
 use Rattle.script_notation.specs.Parse.{writing}
 use Rattle.script_notation.proofs.Parsing.{assigned-none}
+use Rattle.decimal.proofs.Values.{number-means, integer-means}
 use borrow.Author.Needs.{needs}
 use Rattle.script_parsing.proofs.assigned.Statement.{statement}
 use Rattle.script_parsing.proofs.assigned.Tie as tie
@@ -56,8 +57,8 @@ returns-2 c =
     let e : p ≡ position 61 T = c .before .before .before .before .before .before .find .ensures ∙ zero-add (position 61 T) in
     let rest : take (length T - (p + 1)) (drop (p + 1) T) ≡ drop (suc (position 61 T)) T = take-all (length T - (p + 1)) (drop (p + 1) T) (omega (arith, length-drop (p + 1) T)) ∙ ap (λ (k : ℕ). drop k T) (add-one p ∙ ap suc e) in
     c .writing .ensures
-    ∙ ap (λ (o : Option ℕ). writing o (integerOf (c .before .signed .result))) (c .before .before .before .natural .ensures ∙ ap (λ (k : ℕ). natural (take k T)) e)
-    ∙ ap (λ (o : Option ℤ). writing (natural (take (position 61 T) T)) o) (c .before .signed .ensures ∙ ap signed rest)
+    ∙ ap (λ (o : Option ℕ). writing o (integerOf (c .before .signed .result))) (number-means (c .before .before .before .natural .ensures) ∙ ap (λ (k : ℕ). natural (take k T)) e)
+    ∙ ap (λ (o : Option ℤ). writing (natural (take (position 61 T) T)) o) (integer-means (c .before .signed .ensures) ∙ ap signed rest)
 
 pub assigned-spec : {M : Type 1} → statement M
 assigned-spec =

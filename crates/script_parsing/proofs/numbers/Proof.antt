@@ -5,7 +5,7 @@ use Prim.Native.Nat.{ℕ, _+_, _-_, _*_, _≤_}
 use native.Mathlib.Omega.{arith}
 use lib.ListN.{length, take, length-set}
 use Rattle.decimal.specs.Decimal.{natural}
-use Rattle.decimal.proofs.Values.{natural-long}
+use Rattle.decimal.proofs.Values.{natural-long, number-means}
 use Rattle.script_notation.specs.Fields.{fieldsFrom}
 use Rattle.script_notation.specs.Parse.{all}
 use Rattle.script_notation.proofs.Places.{field-within}
@@ -45,7 +45,7 @@ same-length : tie.Need-same-length Inv-loop μ-loop
 same-length c = search needs
 
 returns : tie.Need-returns Inv-loop μ-loop
-returns c = let A = c .before .before .before .before .before .before .before .before .before .before .args in let T = A .text .now in let l = c .before .before .before .before .before .before .before .loop in (sym (is-false (c .no-list .result .ok) _ (c .no-list .ensures .0)) ∙ sym (walk-out natural T (l .at) (take (l .count) (l .list)) _ (l .inv .3) (c .before .before .before .before .before .before .loop-test .taken) (c .before .before .before .before .before .find .result) (c .before .before .before .before .before .find .ensures) (is-none (c .before .before .before .natural .result .ok) (c .before .before .before .natural .result .value) (c .before .if1 .taken) ∙ c .before .before .before .natural .ensures)), omega (arith, c .no-list .ensures .1))
+returns c = let A = c .before .before .before .before .before .before .before .before .before .before .args in let T = A .text .now in let l = c .before .before .before .before .before .before .before .loop in (sym (is-false (c .no-list .result .ok) _ (c .no-list .ensures .0)) ∙ sym (walk-out natural T (l .at) (take (l .count) (l .list)) _ (l .inv .3) (c .before .before .before .before .before .before .loop-test .taken) (c .before .before .before .before .before .find .result) (c .before .before .before .before .before .find .ensures) (is-none (c .before .before .before .natural .result .ok) (c .before .before .before .natural .result .value) (c .before .if1 .taken) ∙ number-means (c .before .before .before .natural .ensures))), omega (arith, c .no-list .ensures .1))
 
 mul-list : tie.Need-mul-list Inv-loop μ-loop
 mul-list c = search needs
@@ -67,7 +67,7 @@ loop-again c =
     let T = c .before .before .before .before .before .before .before .before .before .args .text .now in
     let l = c .before .before .before .before .before .before .loop in
     let n = c .before .before .natural .result in
-    let some-is = is-some (n .ok) (n .value) (c .if1 .left) ∙ c .before .before .natural .ensures in
+    let some-is = is-some (n .ok) (n .value) (c .if1 .left) ∙ number-means (c .before .before .natural .ensures) in
     let long = natural-long _ (n .value) some-is in
     let size = field-size natural T (l .at) (take (l .count) (l .list)) _ (l .inv .3) (c .before .before .before .before .before .loop-test .taken) (c .before .before .before .before .find .result) (c .before .before .before .before .find .ensures) in (
       omega arith,

@@ -7,6 +7,7 @@ use lib.Seq.{take-all}
 use Rattle.decimal.specs.Decimal.{natural}
 use Rattle.script_notation.specs.Parse.{reading, assigned}
 use Rattle.script_notation.proofs.Parsing.{op-empty, op-read, op-write, op-other}
+use Rattle.decimal.proofs.Values.{number-means}
 use borrow.Author.Needs.{needs}
 use Rattle.script_parsing.proofs.operation.Statement.{statement}
 use Rattle.script_parsing.proofs.operation.Tie as tie
@@ -39,7 +40,7 @@ returns-2 : tie.Need-returns-2
 returns-2 c =
     let T = c .before .before .before .before .before .before .before .args .field .now in
     let rest : take (length T - 1) (drop 1 T) ≡ drop 1 T = take-all (length T - 1) (drop 1 T) (omega (arith, length-drop 1 T)) in
-    c .reading .ensures ∙ ap reading (c .before .natural .ensures ∙ ap natural rest) ∙ op-read T (c .before .before .before .before .before .if1 .left) (c .before .before .before .if2 .taken)
+    c .reading .ensures ∙ ap reading (number-means (c .before .natural .ensures) ∙ ap natural rest) ∙ op-read T (c .before .before .before .before .before .if1 .left) (c .before .before .before .if2 .taken)
 
 shared-slice-read-if3 : tie.Need-shared-slice-read-if3
 shared-slice-read-if3 c = search needs
