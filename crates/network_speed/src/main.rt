@@ -85,7 +85,7 @@ fn waiting(state: &[u32; WORDS]) -> u64 {
 
 // All records, each from where the one before ended.
 fn following(file: &[u8; FILE]) -> u64 {
-    let part = history::read(file);
+    let part = history::part(file);
     let mut at = 0usize;
     let mut sum = 0u64;
     let mut i = 0usize;
