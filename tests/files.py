@@ -43,7 +43,7 @@ def record_at(part, at, sites, items):
         return None
     site, tuple_count, op_count = head[:3]
     end = at + 8 + 8 * (tuple_count + op_count)
-    if end > len(part) or not 1 <= op_count <= OPERATIONS or site >= sites:
+    if end > len(part) or tuple_count > SITES or not 1 <= op_count <= OPERATIONS or site >= sites:
         return None
     tuples, ops = [], []
     for i in range(tuple_count):
@@ -118,9 +118,8 @@ def record(b, k):
     return (number,) + (found[0] if found else NO_RECORD)
 
 
-def by_place(b, at, sites, items):
-    """The number, and the record at a place of the part with the place behind it."""
-    inside = part(b)
+def by_place(inside, at, sites, items):
+    """The number, and the record at a place of a part with the place behind it."""
     if at >= len(inside):
         return 24, None
     found = record_at(inside, at, sites, items)

@@ -70,18 +70,19 @@ def load(w):
         return None
 
 
-# ---- writing: what means nothing is 0
+# ---- writing
 def lay(w, at, numbers):
-    w[at : at + len(numbers)] = [n % 2**32 for n in numbers]
+    for k, n in enumerate(numbers, at):
+        w[k] = n % 2**32
 
 
 def lay_stamp(w, at, stamp):
     lay(w, at, [stamp[0], len(stamp[1])] + [n for t in stamp[1] for n in t])
 
 
-def words(network):
-    """The words of a network."""
-    w = [0] * WORDS
+def words(network, w=None):
+    """The words of a network; those that mean nothing stay as they were in w, or are 0."""
+    w = [0] * WORDS if w is None else w
     lay(w, 0, [network.sites, len(network.items), len(network.history)] + [n for item in network.items for n in item])
     for i in range(network.sites):
         lay_stamp(w, SITES_AT + SITE * i, network.stamps[i])

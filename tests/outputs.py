@@ -130,7 +130,7 @@ class Cases:
         return found_text(*files.found_at(self.file, k))
 
     def at(self, place, sites, items):
-        return found_text(*files.by_place(self.file, place, sites, items))
+        return found_text(*files.by_place(files.part(self.file), place, sites, items))
 
 
 def cases(data):
