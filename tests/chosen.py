@@ -12,7 +12,7 @@ from limits import HELD, ITEMS, OPERATIONS, RECORDS, SITES, U32
 # How often each call stands in a list. A run takes one of these by chance: what it does most decides which corners it reaches.
 BALANCED = dict(
     commit=8, commit_lists=2, dummy=4, epoch=1, deliver=14, schedule=12, waiting=2, table=2, stamp=2, line=2,
-    export=1, script=4, run=1, poke=1, copy=1, set_up=1, state=0.2, noise=0.1, file=2, record_from=1, compare=2,
+    export=1, script=4, run=1, poke=2, copy=1, set_up=1, state=0.2, noise=0.1, file=2, record_from=1, compare=2,
 )
 MOODS = [
     BALANCED,
@@ -80,7 +80,7 @@ def faulty(rng, sites, items, primaries, masks):
         if fault == 0:
             sites = rng.choice([0, 9, 255, U32])
         elif fault == 1:
-            items = rng.choice([0, 65, items + 1, U32])
+            items = rng.choice([0, 65, (items + 1) % 2**32, U32])
         elif fault == 2:
             primaries = primaries[:-1] if rng.random() < 0.5 else primaries + [0]
         elif fault == 3:
@@ -261,11 +261,20 @@ class Chooser:
         near = [0, now, min(now + 1, U32), min(now + 1, U32), min(now + 7, U32), max(now - 1, 0)]
         return ("epoch", site, self.rng.choice(near) if self.rng.random() < 0.9 else word(self.rng))
 
+    def likely(self, wanted, otherwise):
+        """One of those that are wanted, most often."""
+        return self.rng.choice(wanted) if wanted and self.rng.random() < 0.7 else otherwise
+
     def deliver(self, engine):
-        return ("deliver",) + self.pair(engine)
+        n = engine.network
+        moving = sorted(line for line in n.lines if n.arrived[line] < len(n.held[line])) if n else []
+        return ("deliver",) + self.likely(moving, self.pair(engine))
 
     def schedule(self, engine):
-        return ("schedule", self.site(engine))
+        n = engine.network
+        inner = sorted({c for _, c in n.lines}) if n else []
+        ready = [j for j in inner if all(n.arrived[p, j] for p in n.parents(j))]
+        return ("schedule", self.likely(ready, self.likely(inner, self.site(engine))))
 
     def waiting(self, engine):
         return ("waiting", self.site(engine))
@@ -323,9 +332,14 @@ class Chooser:
 
     def record_from(self, engine):
         data = file(self.rng, engine)
-        part = data[: max(0, len(data) - files.TRAILER)]
-        place = self.rng.choice([0, 0, 0, 8, len(part), len(part) + 1, self.rng.randint(0, len(part))])
-        return ("record_from", part, place, self.rng.choice([0, 1, 3, 8, 8, 9]), self.rng.choice([0, 1, 2, 64, 64, 65]))
+        number, _, sites, items, found = files.examined(data)
+        if number:
+            part = data[: max(0, len(data) - files.TRAILER)]
+            starts, sites, items = [0], SITES, ITEMS
+        else:
+            part, starts = files.part(data), [0] + [end for _, end in found]
+        place = self.likely(starts, self.rng.choice([8, len(part), len(part) + 1, self.rng.randint(0, len(part))]))
+        return ("record_from", part, place, self.likely([sites], self.rng.choice([0, 1, 3, 9])), self.likely([items], self.rng.choice([0, 1, 2, 65])))
 
     def compare(self, engine):
         first = any_stamp(self.rng)

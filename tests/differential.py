@@ -293,7 +293,7 @@ def shrunk(calls):
             if time.monotonic() > until:
                 break
             said = apart(complaint, other)
-            if said and not said.startswith("raised"):
+            if said and said.startswith("raised") == told.startswith("raised"):
                 calls, told, better = other, said, True
                 break
     return calls, told
