@@ -67,6 +67,17 @@ def blocks(path):
     return re.findall(r"^```(\w+)\n(.*?)^```$", path.read_text(), re.M | re.S)
 
 
+def session(path):
+    """The Python blocks of a document, each line at its place, so that a difference is told with its line."""
+    language, lines = None, []
+    for line in path.read_text().splitlines():
+        if line.startswith("```"):
+            language = line[3:]
+            line = ""
+        lines.append(line if language == "python" else "")
+    return "\n".join(lines) + "\n"
+
+
 def output(*command):
     return subprocess.run(command, check=True, stdout=subprocess.PIPE, text=True).stdout
 
@@ -97,7 +108,7 @@ def run_programs(path, scratch):
             expect("%s program of %s" % (language, path.name), RUN[language](source, scratch), wanted)
 
 
-def run_sessions(name, text):
+def run_session(name, text):
     test = doctest.DocTestParser().get_doctest(text, dict(vars(gevrolen), gevrolen=gevrolen), name, name, 0)
     if doctest.DocTestRunner().run(test).failed or not test.examples:
         complaints.append("the Python session of %s" % name)
@@ -109,13 +120,12 @@ def run_example(scratch):
 
 def main():
     compare_names()
-    run_sessions("gevrolen.py", gevrolen.__doc__)
+    run_session("gevrolen.py", gevrolen.__doc__)
     with tempfile.TemporaryDirectory() as name:
         scratch = pathlib.Path(name)
         run_example(scratch)
         for path in DOCUMENTS:
-            sessions = "".join(text + "\n" for language, text in blocks(path) if language == "python")
-            run_sessions(path.name, sessions)
+            run_session(path.name, session(path))
             run_programs(path, scratch)
     for text in complaints:
         print(text)
