@@ -4,6 +4,7 @@
     bindings.py     after bindings/build; what it built is looked for in target/gevrolen, or in GEVROLEN_FOLDER
 
 - Names, numbers, sentences and sizes are the same in the header, the Python module, the Rust crate and the table of docs/USING.md.
+- The Python module raises for numbers that do not fit and for wrong types, before any call.
 - The Python sessions of the module, of README.md and of docs/USING.md answer as they say; so do the programs in C and Rust, where a block of text follows them.
 - The C example answers as the worked example's script.
 """
@@ -59,6 +60,42 @@ def compare_names():
 
     rows = re.findall(r"^\| (\d+) \| `(\w+)` \| (.*) \|$", (ROOT / "docs" / "USING.md").read_text(), re.M)
     expect("table of docs/USING.md", rows, [(str(n.value), n.name, gevrolen.explain(n)) for n in gevrolen.Number if n])
+
+
+# ---- what the Python module refuses itself, since no field of the library could hold it
+def check_arguments():
+    network = gevrolen.Network()
+    network.set_up(3, 2, [0, 1], [6, 4])
+    before = bytes(network)
+    too_large = [
+        lambda: network.dummy(2**32),
+        lambda: network.dummy(-1),
+        lambda: network.epoch(0, 2**32),
+        lambda: network.set_up(3, 2, [0, 2**32], [6, 4]),
+        lambda: network.set_up(3, 2, [0, 1], [256, 4]),
+        lambda: network.commit(0, [(1, 0, 2**31)]),
+        lambda: network.commit(0, [(1, 0, -(2**31) - 1)]),
+        lambda: network.commit(0, [(2**32, 0, 0)]),
+        lambda: network.commit_lists(0, [256], [0], [0]),
+        lambda: network.export(-1),
+        lambda: gevrolen.record(b"", -1),
+        lambda: gevrolen.compare((0, [(0, 0)] * 9), (0, [])),
+    ]
+    wrong_type = [
+        lambda: network.dummy("0"),
+        lambda: network.dummy(0.0),
+        lambda: network.set_up(3, 2, [0, "1"], [6, 4]),
+        lambda: network.commit(0, [(1, 0, None)]),
+        lambda: network.script("d 0"),
+        lambda: gevrolen.read(16),
+    ]
+    for fault, calls in ((OverflowError, too_large), (TypeError, wrong_type)):
+        for k, call in enumerate(calls):
+            try:
+                expect("call %d that should raise %s" % (k, fault.__name__), call(), None)
+            except fault:
+                pass
+    expect("words after calls that raise", bytes(network) == before, True)
 
 
 # ---- code of the documents
@@ -120,6 +157,7 @@ def run_example(scratch):
 
 def main():
     compare_names()
+    check_arguments()
     run_session("gevrolen.py", gevrolen.__doc__)
     with tempfile.TemporaryDirectory() as name:
         scratch = pathlib.Path(name)

@@ -5,13 +5,18 @@ use crate::{Record, Refusal};
 use std::fmt;
 use std::iter::FusedIterator;
 
-/// An accepted history file: where its records stand in the buffer, how many bytes they take, and how many records, sites and items it has.
+/// An accepted history file.
 #[derive(Clone, Copy, Debug, PartialEq, Eq)]
 pub struct File {
+    /// Where its records start in the buffer.
     pub start: usize,
+    /// How many bytes they take.
     pub length: usize,
+    /// How many records there are.
     pub records: usize,
+    /// How many sites the network had.
     pub sites: u32,
+    /// How many items the network had.
     pub items: u32,
 }
 

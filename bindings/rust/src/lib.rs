@@ -23,7 +23,7 @@
 //!
 //! Everything below this crate is proved code, reached through its C interface; a refusal is an answer, and leaves the state as it was. Every call is quick, keeps
 //! nothing of its own and tests the state's shape first.
-#![warn(missing_debug_implementations)]
+#![warn(missing_debug_implementations, missing_docs)]
 
 mod history;
 mod network;

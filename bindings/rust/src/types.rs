@@ -24,6 +24,7 @@ impl Stamp {
         (tuples.len() <= SITES).then(|| Stamp { epoch, tuples: tuples.to_vec() })
     }
 
+    /// Its epoch.
     pub fn epoch(&self) -> u32 {
         self.epoch
     }
@@ -80,23 +81,30 @@ pub fn compare(first: &Stamp, second: &Stamp) -> Ordering {
 /// What an operation does.
 #[derive(Clone, Copy, Debug, PartialEq, Eq, Hash)]
 pub enum Kind {
+    /// Gives the item's value from before the commit.
     Read,
+    /// Sets the item's value.
     Write,
 }
 
 /// An operation of a commit. Lent, a read's value is ignored; in a record it is the value that the read gave.
 #[derive(Clone, Copy, PartialEq, Eq, Hash)]
 pub struct Operation {
+    /// What it does.
     pub kind: Kind,
+    /// The item's number.
     pub item: u32,
+    /// The value written or read.
     pub value: i32,
 }
 
 impl Operation {
+    /// A read of an item.
     pub fn read(item: u32) -> Operation {
         Operation { kind: Kind::Read, item, value: 0 }
     }
 
+    /// A write of a value to an item.
     pub fn write(item: u32, value: i32) -> Operation {
         Operation { kind: Kind::Write, item, value }
     }
@@ -132,10 +140,12 @@ impl fmt::Debug for Operation {
     }
 }
 
-/// What a commit answers: its timestamp, and the values of its reads in order.
+/// What a commit answers.
 #[derive(Clone, Debug, PartialEq, Eq)]
 pub struct Committed {
+    /// The commit's timestamp, which is the site's now.
     pub stamp: Stamp,
+    /// The values of its reads, in order.
     pub values: Vec<i32>,
 }
 
@@ -145,25 +155,32 @@ impl Committed {
     }
 }
 
-/// What a schedule answers: the parent whose message was taken, and the message's timestamp.
+/// What a schedule answers.
 #[derive(Clone, Debug, PartialEq, Eq)]
 pub struct Scheduled {
+    /// The parent whose message was taken.
     pub parent: u32,
+    /// The message's timestamp.
     pub stamp: Stamp,
 }
 
-/// A line: how many messages it holds, on the way and arrived together, and how many of them have arrived.
+/// A line between two sites.
 #[derive(Clone, Copy, Debug, PartialEq, Eq)]
 pub struct Line {
+    /// How many messages it holds, on the way and arrived together.
     pub held: u32,
+    /// How many of them have arrived.
     pub arrived: u32,
 }
 
 /// A record of a history. It displays as a line: site, epoch, tuples, operations, a read with the value that it gave.
 #[derive(Clone, Debug, PartialEq, Eq)]
 pub struct Record {
+    /// The site that committed.
     pub site: u32,
+    /// The commit's timestamp.
     pub stamp: Stamp,
+    /// Its operations, in list order.
     pub operations: Vec<Operation>,
 }
 
