@@ -3,6 +3,7 @@
 A call is a tuple of its name and its arguments, plain data, so that a list of calls can be printed, played again and made shorter.
 """
 import random
+import re
 
 import files
 import layout
@@ -94,7 +95,7 @@ def faulty(rng, sites, items, primaries, masks):
 
 # ---- states that no set-up need lead to
 def network(seed, records, held):
-    """A well-shaped network of at most so many records and messages on a line."""
+    """A network of at most so many records and messages on a line; well shaped, but for a flaw that some have."""
     rng = random.Random(seed)
     sites, items, primaries, masks = placement(rng)
     engine = model.Engine()
@@ -104,11 +105,51 @@ def network(seed, records, held):
     n.stamps = [stamp(rng, i) for i in range(sites)]
     n.tables = [[value(rng) for _ in range(items)] for _ in range(sites)]
     made = [[k for k, one in enumerate(n.history) if one[0] == i] for i in range(sites)]
-    for p, c in n.lines:
+    for p, c in sorted(n.lines):
         count = rng.randint(0, held)
         n.held[p, c] = [rng.choice(made[p]) if made[p] and rng.random() < 0.6 else stamp(rng, p) for _ in range(count)]
         n.arrived[p, c] = rng.randint(0, count)
+    if rng.random() < 0.4:
+        flaw(rng, n)
     return n
+
+
+def wrong_stamp(rng, site):
+    epoch, tuples = stamp(rng, site)
+    return (epoch, rng.choice([(), tuples[:-1], tuples[-1:] + tuples, tuples + tuples[-1:], tuples + ((site + 1, 0),)])[:SITES])
+
+
+def wrong_record(rng, n, site, made, ops):
+    kind, item, v = ops[-1]
+    return rng.choice(
+        [
+            (n.sites, stamp(rng, min(n.sites, SITES - 1)), ops),
+            (site, wrong_stamp(rng, site), ops),
+            (site, made, ops[:-1] + ((2, item, v),)),
+            (site, made, ops[:-1] + ((kind, len(n.items), v),)),
+        ]
+    )
+
+
+def flaw(rng, n):
+    """One thing, most often, that no well-shaped network has."""
+    p = rng.randrange(SITES)
+    line = (p, rng.randrange(SITES))
+    site, item = rng.randrange(n.sites), rng.randrange(len(n.items))
+    which = rng.randrange(7)
+    if which == 0:
+        n.held[line] = n.held[line][:-1] + [stamp(rng, p)]
+    elif which == 1:
+        n.held[line] = n.held[line][:-1] + [rng.choice([wrong_stamp(rng, p), len(n.history), 0, RECORDS - 1])]
+    elif which == 2:
+        n.arrived[line] = len(n.held[line]) + 1
+    elif which == 3:
+        n.stamps[site] = wrong_stamp(rng, site)
+    elif which == 4:
+        n.items[item] = (rng.choice([n.items[item][0], n.sites]), rng.randrange(512))
+    elif n.history:
+        k = rng.randrange(len(n.history))
+        n.history[k] = wrong_record(rng, n, *n.history[k])
 
 
 def noise(seed):
@@ -166,12 +207,19 @@ def line(call):
     return b" ".join([LETTERS[name]] + [b"%d" % n for n in numbers])
 
 
+ODD_NUMBERS = b"0 -0 00 01 +1 -1 255 256 2147483647 2147483648 -2147483648 -2147483649 4294967295 4294967296 99999999999".split(b" ") + [b""]
+
+
 def misspelt(rng, text):
     text = bytearray(text)
     for _ in range(rng.choice([1, 1, 2])):
         at = rng.randint(0, len(text))
-        fault = rng.randrange(4)
-        if fault == 0:
+        fault = rng.randrange(6)
+        numbers = list(re.finditer(rb"-?[0-9]+", text))
+        if fault >= 4 and numbers:
+            start, end = rng.choice(numbers).span()
+            text[start:end] = rng.choice(ODD_NUMBERS)
+        elif fault == 0:
             text[at:at] = rng.choice([b" ", b"0", b"-", b"=", b"-0", b"r", b"w", b",", b"\x00", b"4294967296", b" " * 500])
         elif fault == 1:
             del text[at : at + 1]

@@ -91,8 +91,10 @@ def words(network, w=None):
         at = LINES_AT + LINE * (SITES * p + c)
         lay(w, at, [len(messages), network.arrived[p, c]])
         for k, message in enumerate(messages):
-            lay(w, at + 2 + MESSAGE * k, [DUMMY if isinstance(message, tuple) else message])
-            lay_stamp(w, at + 3 + MESSAGE * k, network.message_stamp(message))
+            dummy = isinstance(message, tuple)
+            lay(w, at + 2 + MESSAGE * k, [DUMMY if dummy else message])
+            if dummy:
+                lay_stamp(w, at + 3 + MESSAGE * k, message)
     for k, (site, stamp, ops) in enumerate(network.history):
         at = HISTORY_AT + RECORD * k
         lay(w, at, [site, len(ops)])
@@ -112,7 +114,7 @@ def parts(w):
         at = LINES_AT + LINE * k
         held = min(w[at], HELD)
         if held:
-            found += [(at, 2), (at + 2, MESSAGE), (at + 2 + MESSAGE * (held - 1), MESSAGE)]
+            found += [(at, 2), (at, 2), (at + 2, MESSAGE), (at + 2 + MESSAGE * (held - 1), MESSAGE)]
     if records:
         last = HISTORY_AT + RECORD * (records - 1)
         found += [(HISTORY_AT, 2 + STAMP), (HISTORY_AT, RECORD), (last, 2 + STAMP), (last, RECORD)]
