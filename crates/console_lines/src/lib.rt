@@ -106,7 +106,7 @@ fn begin(block: &[u8], held: Held, state: &mut [u32; WORDS], out: &mut [u8], at:
 }
 
 // The lines that a block ends, where nothing is held before it: each is answered where it lies.
-fn lines(block: &[u8], state: &mut [u32; WORDS], out: &mut [u8], at: usize) -> Next
+pub fn lines(block: &[u8], state: &mut [u32; WORDS], out: &mut [u8], at: usize) -> Next
     ensures { λ r. ⌜ Ended (now (block .entry)) (now (state .entry)) (now (state .exit)) (now (out .entry)) (now (out .exit)) at r ⌝ }
 {
     let mut space = [0u8; ANSWER];

@@ -1,4 +1,4 @@
-// A network of sites in one lent array of words: set-up, commit, dummy, epoch, deliver, schedule, waiting report; and what the crates above read of a state.
+// A network of sites in one lent array of words: set-up, commit, dummy, epoch, deliver, schedule, waiting report, readers; and what the crates above read of a state.
 use limits::RECORDS_WIDE;
 pub use network_commit::commit;
 pub use network_deliver::deliver;
@@ -7,12 +7,18 @@ pub use network_epoch::epoch;
 pub use network_layout::Committed;
 pub use network_layout::Dummied;
 pub use network_layout::Entry;
+pub use network_layout::Lined;
 pub use network_layout::Operation;
 pub use network_layout::Report;
 pub use network_layout::Scheduled;
+pub use network_layout::Stamped;
+pub use network_layout::Tabled;
 pub use network_layout::Totals;
 pub use network_layout::WORDS;
 pub use network_operations::commit_operations;
+pub use network_readers::line;
+pub use network_readers::stamp;
+pub use network_readers::table;
 pub use network_schedule::schedule;
 pub use network_set_up::set_up;
 pub use network_waiting::waiting;

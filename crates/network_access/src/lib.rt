@@ -185,7 +185,7 @@ pub fn line_take(state: &mut [u32], k: usize)
 
 // ---- sites
 // The words of site i.
-fn site_at(state: &[u32], i: usize) -> &[u32]
+pub fn site_at(state: &[u32], i: usize) -> &[u32]
     requires { ⌜ AtSite (now state) i ⌝ }
     ensures { λ r. ⌜ Lent siteSize siteIn (siteAt (networkIn (now (state .entry))) i) (now r) ⌝ }
 {

@@ -4,3 +4,4 @@ pub mod Asked
 pub mod Places
 pub mod Played
 pub mod OnNetwork
+pub mod Questions

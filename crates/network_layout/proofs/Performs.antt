@@ -1,7 +1,7 @@
 -- From a step's number and the network after it to what its contract promises; the placement as the code asks for it.
 use mathlib.Core.Path.{_≡_, refl, sym, ap, _∙_}
 use mathlib.Core.Bool.{Bool, true, false, not, cond}
-use mathlib.Core.List.{List, [], _∷_}
+use mathlib.Core.List.{List, []}
 use mathlib.Core.Option.{Option, none, some}
 use Prim.Native.Nat.{ℕ, _≤_, _<_, min}
 use native.Mathlib.Omega.{arith}
@@ -16,7 +16,7 @@ use Rattle.timestamp.specs.Timestamp.{Stamp}
 use Rattle.site.specs.Site.{Site}
 use Rattle.site.specs.InWords.{siteIn, siteSize}
 use Rattle.placement.specs.Placement.{noItem}
-use Rattle.lists.specs.Numbers.{firstNumber, numberIf}
+use Rattle.lists.specs.Numbers.{numberIf}
 use Rattle.placement.specs.InWords.{itemsIn, itemAt}
 use Rattle.limits.specs.Limits.{itemsMost, sitesMost}
 use Rattle.placement.proofs.Items.{items-length, items-at}
@@ -28,7 +28,7 @@ use Rattle.protocol.specs.Steps.{noSuchSite}
 use Rattle.protocol.specs.Calls.{Call, Outcome, refused, judged, perform}
 use Rattle.network_layout.specs.InWords.{siteWords, lineWords, recordWords, networkIn, inRange, shaped, meaning, numberIn, SiteStep}
 use Rattle.network_layout.specs.Promises.{Performed}
-use Rattle.lists.proofs.Numbers.{none-holds, first-some}
+use Rattle.lists.proofs.Numbers.{none-holds}
 use Rattle.network_layout.proofs.Assembled.{partsOf, range-parts}
 
 -- ---- how many of each there are
@@ -141,17 +141,6 @@ site-below w e i h =
 module _ (w : List ℕ) (i : ℕ) where
   pub site-found : numberIn w (λ n. numberIf (noSuchSite n i) 7) ≡ 0 → (shaped w ≡ true) × (noSuchSite (networkIn w) i ≡ false)
   site-found z = let q = number-none w (λ n. numberIf (noSuchSite n i) 7) z in (q .0, none-holds (noSuchSite (networkIn w) i) 6 [] (rw (q .1)) .0)
-
-  -- where one of them holds, it is the number of every step that asks for them first
-  pub site-first : (rest : Network → List ℕ) (r : ℕ) → r ≡ numberIn w (λ n. numberIf (noSuchSite n i) 7) → (r ≡ 0 → ⊥) → r ≡ numberIn w (λ n. firstNumber (numberIf (noSuchSite n i) 7 ∷ rest n))
-  unfolding numberIn
-  site-first rest r e h = go (shaped w) refl
-    where
-      go : (b : Bool) → shaped w ≡ b → r ≡ numberIn w (λ n. firstNumber (numberIf (noSuchSite n i) 7 ∷ rest n))
-      go true s =
-          let f : r ≡ numberIf (noSuchSite (networkIn w) i) 7 = e ∙ rw s refl in
-          rw s (f ∙ sym (first-some (numberIf (noSuchSite (networkIn w) i) 7) (rest (networkIn w)) (λ z. h (f ∙ z))))
-      go false s = e ∙ rw s refl
 
 pub few-sites : (w : List ℕ) → inRange w ≡ true → length (networkIn w .sites) ≤ sitesMost
 unfolding partsOf

@@ -8,7 +8,8 @@ use Rattle.timestamp.specs.declared.Timestamp.{Timestamp}
 use Rattle.timestamp.specs.Timestamp.{Stamp, pairOf, room, noPair}
 use Rattle.limits.specs.Limits.{itemsMost}
 use Rattle.protocol.specs.Network.{noStamp}
-use Rattle.protocol.specs.Calls.{Call, waiting, perform}
+use Rattle.protocol.specs.Questions.{waiting}
+use Rattle.protocol.specs.Calls.{Call, ask, perform}
 use Rattle.protocol.specs.Waiting.{EachOnce}
 use Rattle.network_layout.specs.InWords.{networkIn, meaning}
 
@@ -33,7 +34,7 @@ pub record Filled {A : Type 0} (z : A) (places count : ℕ) (vs : List A) : Type
 
 -- what a waiting report at a site answers, the first `count` of 64 places being its items; the state is as it was
 pub record Reported (site : ℕ) (entry : List ℕ) (number count : ℕ) (items : List ℕ) : Type 0 where
-  pub performed : Performed (waiting site) entry entry number 0 noStamp []
+  pub performed : Performed (ask (waiting site)) entry entry number 0 noStamp []
   pub each-once : number ≡ 0 → EachOnce (networkIn entry) site (take count items)
   pub none-refused : (number ≡ 0 → ⊥) → count ≡ 0
   pub filled : Filled 0 itemsMost count items

@@ -40,6 +40,26 @@ pub struct Report {
     pub items: [u32; ITEMS_WIDE],
 }
 
+// What a site's table answers: its number, and a value for each of `count` items; all zero where refused.
+pub struct Tabled {
+    pub number: u32,
+    pub count: usize,
+    pub values: [i32; ITEMS_WIDE],
+}
+
+// What a site's timestamp answers: its number and the timestamp, which is zero where it is refused.
+pub struct Stamped {
+    pub number: u32,
+    pub stamp: Timestamp,
+}
+
+// What a line answers: its number, and how many messages it holds and how many of them have arrived; 0 where refused.
+pub struct Lined {
+    pub number: u32,
+    pub held: usize,
+    pub arrived: usize,
+}
+
 // How many sites, items and records a state holds.
 pub struct Totals {
     pub sites: u32,

@@ -14,11 +14,11 @@ ghost use Rattle.network_operations.specs.Gathered.{gatheredMost, Gather
 ghost use Rattle.network_layout.specs.Promises.{Performed, Blank, Filled};
 
 // The fields of the first `count` operations. Nine stand for more, which are refused whatever they say.
-struct Gathered {
-    count: usize,
-    kinds: [u8; 9],
-    items: [u32; 9],
-    values: [i32; 9],
+pub struct Gathered {
+    pub count: usize,
+    pub kinds: [u8; 9],
+    pub items: [u32; 9],
+    pub values: [i32; 9],
 }
 
 // A commit at a site, as `commit`, with its operations as records.
@@ -44,7 +44,8 @@ fn gather(operations: &[Operation]) -> Gathered
     gathered
 }
 
-fn empty() -> Gathered
+// Nothing is gathered before the first operation.
+pub fn empty() -> Gathered
     ensures { λ r. ⌜ Gathers [] r ⌝ }
 {
     Gathered {
@@ -56,7 +57,7 @@ fn empty() -> Gathered
 }
 
 // One operation more, where there is room for it.
-fn added(gathered: Gathered, operation: Operation) -> Gathered
+pub fn added(gathered: Gathered, operation: Operation) -> Gathered
     ensures { λ r. ⌜ ((os : List Op) → Gathers (take gatheredMost os) gathered → Gathers (take gatheredMost (os ++ (operation ∷ []))) r) ⌝ }
 {
     let at = gathered.count;
@@ -79,7 +80,7 @@ fn added(gathered: Gathered, operation: Operation) -> Gathered
 }
 
 // A commit of the operations, however many, of which these were gathered.
-fn commit_gathered(state: &mut [u32; WORDS], site: u32, gathered: Gathered) -> Committed
+pub fn commit_gathered(state: &mut [u32; WORDS], site: u32, gathered: Gathered) -> Committed
     requires { ⌜ gathered .count ≤ gatheredMost ⌝ }
     ensures { λ r. ⌜ ((os : List Op) → Gathers (take gatheredMost os) gathered → Performed (operationsCall site os) (now (state .entry)) (now (state .exit)) (r .number) 0 (stampOf (r .stamp)) (take (r .count) (r .values))) ⌝ }
     ensures { λ r. ⌜ ((r .number ≡ 0 → ⊥) → Blank (r .stamp) × (r .count ≡ 0)) ⌝ }

@@ -1,4 +1,4 @@
--- The waiting report: what a message writes, by its name; the items collected, each once; and the call.
+-- The waiting report: what a message writes, by its name; and the items collected, each once.
 use mathlib.Core.Path.{_≡_, refl, sym, ap, _∙_}
 use mathlib.Core.Bool.{Bool, true, false, cond, _&&_}
 use mathlib.Core.List.{List, [], _∷_, _++_, append-nil}
@@ -16,17 +16,13 @@ use Rattle.lists.specs.Lists.{any, someBelow}
 use Rattle.limits.specs.Limits.{sitesMost, itemsMost, recordsMost}
 use Rattle.lines.specs.Lines.{Message, commit, dummy, nameOf}
 use Rattle.records.specs.Records.{Record}
-use Rattle.protocol.specs.Network.{Network, noStamp, noRecord, messageOps}
-use Rattle.lists.specs.Numbers.{numberIf}
-use Rattle.protocol.specs.Steps.{noSuchSite}
+use Rattle.protocol.specs.Network.{Network, noRecord, messageOps}
 use Rattle.site.specs.Operations.{writesItem}
-use Rattle.protocol.specs.Waiting.{onLine, isWaiting, waitingNumber, occurrences, EachOnce}
+use Rattle.protocol.specs.Waiting.{onLine, isWaiting, occurrences, EachOnce}
 use Rattle.network_waiting.specs.Collected.{Collected}
-use Rattle.protocol.specs.Calls.{waiting, accepted, perform}
-use Rattle.network_layout.specs.InWords.{networkIn, inRange, numberIn}
-use Rattle.network_layout.specs.Promises.{Performed}
+use Rattle.network_layout.specs.InWords.{networkIn, inRange}
 use Rattle.network_layout.proofs.Assembled.{partsOf, range-parts}
-use Rattle.network_layout.proofs.Performs.{records-count, items-count, shaped-range, shaped-well, meaning-some, number-shaped, site-found, site-first, performs-refused, performs-accepted}
+use Rattle.network_layout.proofs.Performs.{records-count, items-count}
 use Rattle.lists.proofs.Some.{some-below-at}
 
 -- ---- what a message writes, where x is its name
@@ -145,18 +141,3 @@ collected-next f vs vs′ count count′ k e s = s .items-are ∙ ap (λ (l : Li
 pub few-placed : (w : List ℕ) → inRange w ≡ true → getD w 1 0 ≤ itemsMost
 unfolding partsOf
 few-placed w e = range-parts w e .few-items
-
--- ---- the call
-module _ (w : List ℕ) (i : ℕ) where
-  pub waiting-refused : (r : ℕ) → r ≡ numberIn w (λ n. numberIf (noSuchSite n i) 7) → (r ≡ 0 → ⊥) → Performed (waiting i) w w r 0 noStamp []
-  unfolding perform waitingNumber
-  waiting-refused r e h =
-      performs-refused (waiting i) (λ n. waitingNumber n i) (λ n. accepted 0 noStamp [] n) (λ n. refl) refl w r (site-first w i (λ n. []) r e h) h
-
-  pub waiting-done : numberIn w (λ n. numberIf (noSuchSite n i) 7) ≡ 0 → Performed (waiting i) w w 0 0 noStamp []
-  unfolding perform waitingNumber
-  waiting-done z =
-      let q = site-found w i z in
-      let none : numberIn w (λ n. waitingNumber n i) ≡ 0 = number-shaped w (λ n. waitingNumber n i) (q .0) ∙ rw (q .1) in
-      performs-accepted (waiting i) (λ n. waitingNumber n i) (λ n. accepted 0 noStamp [] n) (λ n. refl) refl w w 0 noStamp [] none refl refl refl refl
-      (meaning-some w (networkIn w) (shaped-range w (q .0)) refl (shaped-well w (q .0)))

@@ -17,8 +17,8 @@ use Rattle.limits.specs.Limits.{sitesMost, itemsMost, recordsMost}
 use Rattle.protocol.specs.Network.{Network, noRecord, siteAt, lineAt}
 use Rattle.protocol.specs.Steps.{itemsOf, noSuchSite, countAtMost, someLineFull, opsOf, opNumber, due, wrongLists, setUpNumber, commitNumber, dummyNumber, epochNumber, deliverNumber, scheduleNumber}
 use Rattle.lists.specs.Lists.{someBelow}
-use Rattle.protocol.specs.Waiting.{waitingNumber}
-use Rattle.protocol.specs.Calls.{Call, setUp, commit, dummy, epoch, deliver, schedule, waiting, perform}
+use Rattle.protocol.specs.Questions.{Question, waiting, table, stamp, line, askedSite, questionNumber}
+use Rattle.protocol.specs.Calls.{Call, setUp, commit, dummy, epoch, deliver, schedule, ask, perform}
 use Rattle.protocol.specs.Agreement.{Known, StampsDiffer, Never6}
 use Rattle.lists.proofs.Matched.{matched-length, matched-at}
 use Rattle.protocol.proofs.Alike.{Alike}
@@ -117,9 +117,15 @@ module _ (n : Network) where
       when-not6 (noSuchSite n j) 7 refl
       (when-not6 (not (hasParents (n .items) j)) 19 refl (when-not6 (someBelow (λ p. isLine (n .items) p j && eqb (lineAt n p j .arrived) 0) sitesMost) 20 refl zero-not6))
 
-  waiting-not6 : (i : ℕ) → Not6 (waitingNumber n i)
-  unfolding waitingNumber
-  waiting-not6 i = when-not6 (noSuchSite n i) 7 refl zero-not6
+  site-not6 : (i : ℕ) → Not6 (askedSite n i)
+  site-not6 i = either-not6 (noSuchSite n i) (record { differs = refl }) zero-not6
+
+  question-not6 : (q : Question) → Not6 (questionNumber n q)
+  unfolding questionNumber
+  question-not6 (waiting i) = site-not6 i
+  question-not6 (table i) = site-not6 i
+  question-not6 (stamp i) = site-not6 i
+  question-not6 (line p c) = when-not6 (noSuchSite n p || noSuchSite n c) 7 refl (when-not6 (not (isLine (n .items) p c)) 17 refl zero-not6)
 
   call-not6 : (c : Call) → Not6 (perform (some n) c .number)
   unfolding perform
@@ -129,7 +135,7 @@ module _ (n : Network) where
   call-not6 (epoch i h) = by-number (epochNumber n i h) (λ e. rw e zero-not6) (λ e. rw e (epoch-not6 i h))
   call-not6 (deliver p c) = by-number (deliverNumber n p c) (λ e. rw e zero-not6) (λ e. rw e (deliver-not6 p c))
   call-not6 (schedule j) = by-number (scheduleNumber n j) (λ e. rw e zero-not6) (λ e. rw e (schedule-not6 j))
-  call-not6 (waiting i) = by-number (waitingNumber n i) (λ e. rw e zero-not6) (λ e. rw e (waiting-not6 i))
+  call-not6 (ask q) = by-number (questionNumber n q) (λ e. rw e zero-not6) (λ e. rw e (question-not6 q))
 
 never : (k : Known) → Follows k → (c : Call) → perform (k .state) c .number ≡ 6 → ⊥
 never k f c = eqb-false (perform (k .state) c .number) 6 (ap (λ (s : Option Network). eqb (perform s c .number) 6) (f .state-is) ∙ call-not6 (f .network) c .differs)

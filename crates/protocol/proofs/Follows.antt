@@ -17,8 +17,8 @@ use Rattle.site.specs.Site.{Site, committed, dummied, atEpoch, received}
 use Rattle.records.specs.Records.{Record}
 use Rattle.protocol.specs.Network.{Network, noStamp, noSite, siteAt}
 use Rattle.protocol.specs.Steps.{startSites, setUpNumber, setUpNetwork, opsOf, commitNetwork, recordOf, dummyNetwork, epochNetwork, deliverNetwork, scheduleNumber, scheduleNetwork, chosen, head, headStamp, writesFor}
-use Rattle.protocol.specs.Waiting.{waitingNumber}
-use Rattle.protocol.specs.Calls.{Call, setUp, commit, dummy, epoch, deliver, schedule, waiting, Outcome, refused, accepted, judged, perform}
+use Rattle.protocol.specs.Questions.{Question, questionNumber}
+use Rattle.protocol.specs.Calls.{Call, setUp, commit, dummy, epoch, deliver, schedule, ask, Outcome, refused, accepted, judged, perform}
 use Rattle.protocol.proofs.Chosen.{received-stamp}
 use Rattle.protocol.specs.Book.{Book, bookStamp, withStamp, startStamps, noted}
 use Rattle.protocol.specs.Agreement.{Known, nothingKnown, witnessed, learned, learnedAll, Always}
@@ -195,9 +195,9 @@ module _ (k : Known) (f : Follows k) where
   unfolding noted deliverNetwork
   deliver-follows p c z = still-follows (deliverNetwork n p c) (deliver-keeps n (f .inv) p c z) refl refl refl
 
-  waiting-follows : (i : ℕ) → waitingNumber n i ≡ 0 → Follows (witnessed k (waiting i) (accepted 0 noStamp [] n))
+  ask-follows : (q : Question) → questionNumber n q ≡ 0 → Follows (witnessed k (ask q) (accepted 0 noStamp [] n))
   unfolding noted
-  waiting-follows i z = still-follows n (f .inv) refl refl refl
+  ask-follows q z = still-follows n (f .inv) refl refl refl
 
   schedule-follows : (j : ℕ) → scheduleNumber n j ≡ 0
       → Follows (witnessed k (schedule j) (accepted (chosen n j) (headStamp n (chosen n j) j) [] (scheduleNetwork n j)))
@@ -227,7 +227,7 @@ call-follows k f (dummy i) = judged-follows k f (dummy i) _ _ refl (λ z. dummy-
 call-follows k f (epoch i e) = judged-follows k f (epoch i e) _ _ refl (λ z. epoch-follows k f i e (epoch-allowed (f .network) i e z))
 call-follows k f (deliver p c) = judged-follows k f (deliver p c) _ _ refl (λ z. deliver-follows k f p c (deliver-allowed (f .network) p c z))
 call-follows k f (schedule j) = judged-follows k f (schedule j) _ _ refl (schedule-follows k f j)
-call-follows k f (waiting i) = judged-follows k f (waiting i) _ _ refl (waiting-follows k f i)
+call-follows k f (ask q) = judged-follows k f (ask q) _ _ refl (ask-follows k f q)
 
 calls-follow : (k : Known) → Follows k → (cs : List Call) → Follows (learnedAll k cs)
 calls-follow k f [] = f

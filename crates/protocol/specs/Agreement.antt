@@ -13,7 +13,7 @@ use Rattle.placement.specs.Placement.{Item, owns, copies}
 use Rattle.records.specs.Records.{Record}
 use Rattle.protocol.specs.Network.{Network, noRecord, siteAt, placeOf}
 use Rattle.protocol.specs.Steps.{itemsOf}
-use Rattle.protocol.specs.Calls.{Call, setUp, commit, dummy, epoch, deliver, schedule, waiting, Outcome, perform}
+use Rattle.protocol.specs.Calls.{Call, setUp, commit, dummy, epoch, deliver, schedule, ask, Outcome, perform}
 use Rattle.protocol.specs.Book.{Book, noBook, bookStamp, notedIf}
 use Rattle.protocol.specs.Run.{startTable, shown, valueAt}
 
@@ -43,7 +43,7 @@ placedBy (dummy i) xs = xs
 placedBy (epoch i e) xs = xs
 placedBy (deliver p c) xs = xs
 placedBy (schedule j) xs = xs
-placedBy (waiting i) xs = xs
+placedBy (ask q) xs = xs
 
 abbrev pub valuesBy : Call → List ℤ → List (List ℤ) → List (List ℤ)
 valuesBy (setUp sites items ps ms) vs all = []
@@ -52,7 +52,7 @@ valuesBy (dummy i) vs all = all
 valuesBy (epoch i e) vs all = all
 valuesBy (deliver p c) vs all = all
 valuesBy (schedule j) vs all = all
-valuesBy (waiting i) vs all = all
+valuesBy (ask q) vs all = all
 
 -- the timestamps of the commits and dummies, with one more taken from `at` the call's site
 abbrev pub stampsBy : Call → (ℕ → Stamp) → List Stamp → List Stamp
@@ -62,7 +62,7 @@ stampsBy (dummy i) at all = all ++ (at i ∷ [])
 stampsBy (epoch i e) at all = all
 stampsBy (deliver p c) at all = all
 stampsBy (schedule j) at all = all
-stampsBy (waiting i) at all = all
+stampsBy (ask q) at all = all
 
 -- one more call, with what it answered and left
 abbrev pub witnessed : Known → Call → Outcome → Known

@@ -2,6 +2,7 @@ pub mod Network
 pub mod Steps
 pub mod Allowed
 pub mod Waiting
+pub mod Questions
 pub mod Examples
 pub mod Calls
 pub mod Book

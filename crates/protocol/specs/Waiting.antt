@@ -5,13 +5,11 @@ use mathlib.Core.List.{List, [], _∷_}
 use Prim.Native.Nat.{ℕ, _+_}
 use lib.Dec.{eqb}
 use Rattle.site.specs.Operations.{writesItem}
-use Rattle.lists.specs.Numbers.{firstNumber, numberIf}
 use Rattle.lists.specs.Lists.{any, someBelow}
 use Rattle.placement.specs.Placement.{copies}
 use Rattle.limits.specs.Limits.{sitesMost}
 use Rattle.lines.specs.Lines.{Message}
 use Rattle.protocol.specs.Network.{Network, lineAt, messageOps}
-use Rattle.protocol.specs.Steps.{noSuchSite}
 
 -- a message on the line from p to site i writes item k
 abbrev pub onLine : Network → ℕ → ℕ → ℕ → Bool
@@ -20,9 +18,6 @@ onLine n i k p = any (λ (m : Message). any (writesItem k) (messageOps (n .histo
 -- site i has a copy of item k, and a message on some line into it writes it
 unfoldable pub isWaiting : Network → ℕ → ℕ → Bool
 isWaiting n i k = copies (n .items) i k && someBelow (onLine n i k) sitesMost
-
-unfoldable pub waitingNumber : Network → ℕ → ℕ
-waitingNumber n i = firstNumber (numberIf (noSuchSite n i) 7 ∷ [])
 
 -- how often a number stands in a list
 abbrev pub occurrences : ℕ → List ℕ → ℕ

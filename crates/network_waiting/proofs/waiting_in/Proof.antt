@@ -1,13 +1,8 @@
 -- `waiting_in` refuses with its number, or collects the items.
-use mathlib.Core.Path.{refl, sym, subst, _∙_}
-use mathlib.Core.List.{[]}
-use Prim.Native.Nat.{ℕ}
+use mathlib.Core.Path.{refl, sym, _∙_}
 use native.Mathlib.Omega.{arith}
-use Rattle.protocol.specs.Network.{noStamp}
-use Rattle.protocol.specs.Calls.{waiting}
-use Rattle.network_layout.specs.Promises.{Performed}
-use Rattle.network_layout.proofs.Performs.{shaped-range, site-below, site-found}
-use Rattle.network_waiting.proofs.WaitingLaws.{waiting-refused, waiting-done}
+use Rattle.protocol.specs.Questions.{waiting, questionNumber}
+use Rattle.network_layout.proofs.Questions.{asked, site-asked}
 use borrow.Author.Needs.{needs}
 use Rattle.network_waiting.proofs.waiting_in.Statement.{statement}
 use Rattle.network_waiting.proofs.waiting_in.Tie as tie
@@ -16,11 +11,12 @@ site-number-requires : tie.Need-site-number-requires
 site-number-requires c κs = search needs
 
 returns : tie.Need-returns
+unfolding questionNumber
 returns c =
     let A = c .before .before .before .args in
     let n = c .before .site-number in
     record {
-      performed = waiting-refused (A .state .now) (A .site) (n .result) (n .ensures) (c .if1 .taken);
+      performed = asked (waiting (A .site)) (A .state .now) (n .result) (n .ensures);
       each-once = λ z. absurd (c .if1 .taken z);
       none-refused = λ _. refl;
       filled = record { fits = omega arith; rest-is = refl };
@@ -29,18 +25,16 @@ returns c =
 collect-requires : tie.Need-collect-requires
 collect-requires c κs =
     let A = c .before .before .before .args in
-    let q = site-found (A .state .now) (A .site) (sym (c .before .site-number .ensures) ∙ c .if1 .left) in
-    let r = shaped-range (A .state .now) (q .0) in
-    let below = site-below (A .state .now) r (A .site) (q .1) in
-    record { sized = c .before .before .before .pre; ranged = r; there = below .0; few = below .1 }
+    site-asked (A .state .now) (c .before .before .before .pre) (A .site) _ refl (sym (c .before .site-number .ensures) ∙ c .if1 .left)
 
 returns-2 : tie.Need-returns-2
+unfolding questionNumber
 returns-2 c =
     let A = c .before .before .before .before .args in
     let w = A .state .now in
     let e = c .collect .ensures in
     record {
-      performed = subst (λ (r : ℕ). Performed (waiting (A .site)) w w r 0 noStamp []) (sym (e .accepted)) (waiting-done w (A .site) (sym (c .before .before .site-number .ensures) ∙ c .before .if1 .left));
+      performed = asked (waiting (A .site)) w _ (e .accepted ∙ sym (sym (c .before .before .site-number .ensures) ∙ c .before .if1 .left));
       each-once = λ _. e .each-once;
       none-refused = λ h. absurd (h (e .accepted));
       filled = e .filled;

@@ -1,0 +1,162 @@
+// Readers of a state: a site's table and timestamp, and a line. They only look.
+use limits::ITEMS_WIDE;
+use network_layout::Lined;
+use network_layout::Stamped;
+use network_layout::Tabled;
+use network_layout::WORDS;
+ghost use mathlib.Core.Path.{_≡_};
+ghost use lib.IntN.{pos};
+ghost use lib.ListN.{length, take};
+ghost use Rattle.limits.specs.Limits.{itemsMost};
+ghost use Rattle.site.specs.InWords.{tableIn};
+ghost use Rattle.protocol.specs.Questions.{askedLine};
+ghost use Rattle.network_layout.specs.Layout.{stateSize};
+ghost use Rattle.network_layout.specs.InWords.{networkIn};
+ghost use Rattle.network_layout.specs.At.{AtSite, AtNetwork, HasLine};
+ghost use Rattle.network_readers.specs.Readers.{padded, tableOf, TableAt, TableRead, StampRead, LineAt, LineRead, Values};
+
+// Where a site's words have its table.
+const TABLE: usize = timestamp::WORDS;
+
+// The table of a site. It answers its number and a value for each item.
+pub fn table(state: &[u32; WORDS], site: u32) -> Tabled
+    ensures { λ r. ⌜ TableRead site (now (state .entry)) (r .number) (r .count) (r .values) ⌝ }
+{
+    table_in(state, site)
+}
+
+fn table_in(state: &[u32], site: u32) -> Tabled
+    requires { ⌜ length (now state) ≡ stateSize ⌝ }
+    ensures { λ r. ⌜ TableRead site (now (state .entry)) (r .number) (r .count) (r .values) ⌝ }
+{
+    let number = network_shape::site_number(state, site);
+    if number != 0 {
+        return Tabled {
+            number,
+            count: 0,
+            values: [0; ITEMS_WIDE],
+        };
+    }
+    table_at(state, words::wide(site))
+}
+
+// The values of the items at site i.
+fn table_at(state: &[u32], i: usize) -> Tabled
+    requires { ⌜ AtSite (now state) i ⌝ }
+    ensures { λ r. ⌜ TableAt (tableOf i (networkIn (now (state .entry)))) (r .number) (r .count) (r .values) ⌝ }
+{
+    let count = words::wide(network_access::item_count(state));
+    let w = network_access::site_at(state, i);
+    Tabled {
+        number: 0,
+        count,
+        values: values(&w[TABLE..], count),
+    }
+}
+
+// The values of the first n words; the places past them are 0.
+fn values(w: &[u32], n: usize) -> [i32; ITEMS_WIDE]
+    requires { ⌜ Values (now w) n ⌝ }
+    ensures { λ r. ⌜ r ≡ padded itemsMost (pos 0) (take n (tableIn (now (w .entry)))) ⌝ }
+{
+    let mut out = [0i32; ITEMS_WIDE];
+    let mut i = 0;
+    while i < n {
+        out[i] = words::value(words::word(w, i));
+        i += 1;
+    }
+    out
+}
+
+// The timestamp of a site. It answers its number and the timestamp.
+pub fn stamp(state: &[u32; WORDS], site: u32) -> Stamped
+    ensures { λ r. ⌜ StampRead site (now (state .entry)) (r .number) (r .stamp) ⌝ }
+{
+    stamp_in(state, site)
+}
+
+fn stamp_in(state: &[u32], site: u32) -> Stamped
+    requires { ⌜ length (now state) ≡ stateSize ⌝ }
+    ensures { λ r. ⌜ StampRead site (now (state .entry)) (r .number) (r .stamp) ⌝ }
+{
+    let number = network_shape::site_number(state, site);
+    if number != 0 {
+        return Stamped {
+            number,
+            stamp: network_access::no_stamp(),
+        };
+    }
+    Stamped {
+        number: 0,
+        stamp: network_access::site_stamp(state, words::wide(site)),
+    }
+}
+
+// The line from a parent to a child. It answers its number, how many messages it holds, and how many have arrived.
+pub fn line(state: &[u32; WORDS], parent: u32, child: u32) -> Lined
+    ensures { λ r. ⌜ LineRead parent child (now (state .entry)) (r .number) (r .held) (r .arrived) ⌝ }
+{
+    line_in(state, parent, child)
+}
+
+fn line_in(state: &[u32], parent: u32, child: u32) -> Lined
+    requires { ⌜ length (now state) ≡ stateSize ⌝ }
+    ensures { λ r. ⌜ LineRead parent child (now (state .entry)) (r .number) (r .held) (r .arrived) ⌝ }
+{
+    if !network_shape::shaped(state) {
+        return no_line(6);
+    }
+    line_on(state, parent, child)
+}
+
+// The same on the words of a network.
+fn line_on(state: &[u32], parent: u32, child: u32) -> Lined
+    requires { ⌜ AtNetwork (now state) ⌝ }
+    ensures { λ r. ⌜ LineRead parent child (now (state .entry)) (r .number) (r .held) (r .arrived) ⌝ }
+{
+    let number = line_number(state, parent, child);
+    if number != 0 {
+        return no_line(number);
+    }
+    line_at(state, network_access::line_number(parent, child))
+}
+
+// The number of the first cause that refuses it, or 0.
+fn line_number(state: &[u32], parent: u32, child: u32) -> u32
+    requires { ⌜ AtNetwork (now state) ⌝ }
+    ensures { λ r. ⌜ r ≡ askedLine (networkIn (now (state .entry))) parent child ⌝ }
+{
+    if !network_shape::is_site(state, parent) {
+        return 7;
+    }
+    if !network_shape::is_site(state, child) {
+        return 7;
+    }
+    if !network_access::is_line(state, parent, child) {
+        return 17;
+    }
+    0
+}
+
+// Line k.
+fn line_at(state: &[u32], k: usize) -> Lined
+    requires { ⌜ HasLine (now state) k ⌝ }
+    ensures { λ r. ⌜ LineAt (networkIn (now (state .entry))) k (r .number) (r .held) (r .arrived) ⌝ }
+{
+    Lined {
+        number: 0,
+        held: network_access::line_held(state, k),
+        arrived: network_access::line_arrived(state, k),
+    }
+}
+
+// Nothing but the number for which it is refused.
+fn no_line(number: u32) -> Lined
+    ensures { λ r. ⌜ (r .number ≡ number) × (r .held ≡ 0) × (r .arrived ≡ 0) ⌝ }
+{
+    Lined {
+        number,
+        held: 0,
+        arrived: 0,
+    }
+}
