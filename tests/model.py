@@ -5,15 +5,306 @@
     model.py script SEED N  writes a random script of N lines over 8 sites and 64 items
 
 crates/script_cases/data/long is the script of seed 1 with 4000 lines.
+
+A timestamp is (epoch, ((site, count), ..)), a record (site, timestamp, ((kind, item, value), ..)), a message a record's number or a dummy's timestamp. An
+answer is a tuple, the number first.
 """
+import functools
 import random
 import sys
 
-SITES, ITEMS, HELD, RECORDS, OPERATIONS = 8, 64, 16, 256, 8
-LONGEST = 512
-U32 = 2**32 - 1
+import files
+from limits import HELD, ITEMS, LONGEST, OPERATIONS, RECORDS, SITES, U32
+
+NO_STAMP = (0, ())
 
 
+# ---- timestamps
+def order(a, b):
+    """-1 where timestamp a is the earlier, 1 where b is, 0 where they are the same."""
+    if a[0] != b[0]:
+        return -1 if a[0] < b[0] else 1
+    for x, y in zip(a[1], b[1]):
+        if x[0] != y[0]:
+            return -1 if x[0] > y[0] else 1
+        if x[1] != y[1]:
+            return -1 if x[1] < y[1] else 1
+    return (len(a[1]) > len(b[1])) - (len(a[1]) < len(b[1]))
+
+
+def made_by(site, stamp):
+    """Whether the sites of a timestamp rise and end with the site that made it."""
+    sites = [s for s, _ in stamp[1]]
+    return bool(sites) and sites[-1] == site and all(x < y for x, y in zip(sites, sites[1:]))
+
+
+# ---- refusals
+class Refused(Exception):
+    pass
+
+
+def refuse(number, cause):
+    if cause:
+        raise Refused(number)
+
+
+def call(*blank):
+    """A call answers 0 and its fields, or the number of the first cause and blank fields."""
+
+    def wrap(step):
+        @functools.wraps(step)
+        def answered(self, *arguments):
+            try:
+                return (0,) + step(self, *arguments)
+            except Refused as refused:
+                return refused.args + blank
+
+        return answered
+
+    return wrap
+
+
+# ---- networks
+class Network:
+    """How many sites; primary and mask of each item; timestamp and table of each site; on each line the messages held and how many arrived; the history."""
+
+    def __init__(self, sites, items, stamps, tables, held, arrived, history):
+        self.sites, self.items, self.stamps, self.tables = sites, items, stamps, tables
+        self.held, self.arrived, self.history = held, arrived, history
+        self.lines = {(primary, c) for primary, mask in items for c in range(SITES) if mask >> c & 1}
+
+    def __eq__(self, other):
+        return vars(self) == vars(other)
+
+    def has(self, site, item):
+        """Whether a site is an item's primary or has a copy of it."""
+        primary, mask = self.items[item]
+        return primary == site or mask >> site & 1
+
+    def parents(self, site):
+        return [p for p in range(self.sites) if (p, site) in self.lines]
+
+    def children(self, site):
+        return [c for c in range(self.sites) if (site, c) in self.lines]
+
+    def own_count(self, site):
+        return self.stamps[site][1][-1][1]
+
+    def raise_count(self, site):
+        epoch, tuples = self.stamps[site]
+        self.stamps[site] = (epoch, tuples[:-1] + ((site, tuples[-1][1] + 1),))
+
+    def full(self, site, children):
+        return any(len(self.held[site, c]) >= HELD for c in children)
+
+    def message_stamp(self, message):
+        return message if isinstance(message, tuple) else self.history[message][1]
+
+    def writes(self, message):
+        """Items and values that a message writes."""
+        return [] if isinstance(message, tuple) else [(item, v) for kind, item, v in self.history[message][2] if kind == 1]
+
+
+def set_up_number(sites, items, primaries, masks):
+    """The number of a set-up's first cause, or 0."""
+    if not 1 <= sites <= SITES:
+        return 1
+    if not 1 <= items <= ITEMS or len(primaries) != items or len(masks) != items:
+        return 2
+    for primary, mask in zip(primaries, masks):
+        if primary >= sites:
+            return 3
+        if mask >> sites or mask >> primary & 1:
+            return 4
+        if any(mask >> k & 1 for k in range(primary)):
+            return 5
+    return 0
+
+
+def well_shaped(n):
+    def record_fits(record):
+        site, stamp, ops = record
+        in_range = site < n.sites and 1 <= len(ops) <= OPERATIONS
+        return in_range and all(kind <= 1 and item < len(n.items) for kind, item, _ in ops) and made_by(site, stamp)
+
+    def message_fits(parent, message):
+        if isinstance(message, tuple):
+            return made_by(parent, message)
+        return message < len(n.history) and n.history[message][0] == parent
+
+    def line_fits(p, c):
+        held = n.held[p, c]
+        if len(held) > HELD or n.arrived[p, c] > len(held) or held and (p, c) not in n.lines:
+            return False
+        return all(message_fits(p, message) for message in held)
+
+    return (
+        set_up_number(n.sites, len(n.items), [p for p, _ in n.items], [m for _, m in n.items]) == 0
+        and len(n.history) <= RECORDS
+        and all(made_by(i, stamp) for i, stamp in enumerate(n.stamps))
+        and all(map(record_fits, n.history))
+        and all(line_fits(p, c) for p, c in n.held)
+    )
+
+
+# ---- calls
+class Engine:
+    """A state: a network, or none where it was never set up or is not well shaped."""
+
+    def __init__(self):
+        self.network = None
+
+    def take(self, network):
+        """The state becomes one that holds this network, or none; which is no network where it is not well shaped."""
+        self.network = network if network and well_shaped(network) else None
+
+    def shaped(self):
+        refuse(6, self.network is None)
+        return self.network
+
+    def at(self, *sites):
+        """The network, where it has these sites."""
+        n = self.shaped()
+        refuse(7, any(site >= n.sites for site in sites))
+        return n
+
+    @call()
+    def set_up(self, sites, items, primaries, masks):
+        number = set_up_number(sites, items, primaries, masks)
+        refuse(number, number)
+        lines = [(p, c) for p in range(SITES) for c in range(SITES)]
+        self.network = Network(
+            sites,
+            list(zip(primaries, masks)),
+            [(0, ((i, 0),)) for i in range(sites)],
+            [[0] * items for _ in range(sites)],
+            {line: [] for line in lines},
+            {line: 0 for line in lines},
+            [],
+        )
+        return ()
+
+    @call(NO_STAMP, ())
+    def commit(self, i, ops):
+        n = self.at(i)
+        refuse(8, not 1 <= len(ops) <= OPERATIONS)
+        for kind, item, _ in ops:
+            refuse(9, kind > 1 or item >= len(n.items))
+            refuse(10, kind == 0 and not n.has(i, item))
+            refuse(11, kind == 1 and n.items[item][0] != i)
+        refuse(12, len(n.history) >= RECORDS)
+        written = [item for kind, item, _ in ops if kind == 1]
+        due = [c for c in n.children(i) if any(n.items[item][1] >> c & 1 for item in written)]
+        refuse(13, n.full(i, due))
+        refuse(14, n.own_count(i) == U32)
+        done = tuple((kind, item, n.tables[i][item] if kind == 0 else v) for kind, item, v in ops)
+        for kind, item, v in done:
+            if kind == 1:
+                n.tables[i][item] = v
+        n.raise_count(i)
+        for c in due:
+            n.held[i, c].append(len(n.history))
+        n.history.append((i, n.stamps[i], done))
+        return n.stamps[i], tuple(v for kind, _, v in done if kind == 0)
+
+    def commit_lists(self, i, kinds, items, values):
+        # lists of two lengths are refused as no operations are
+        return self.commit(i, list(zip(kinds, items, values)) if len(kinds) == len(items) == len(values) else [])
+
+    @call(NO_STAMP)
+    def dummy(self, i):
+        n = self.at(i)
+        refuse(13, n.full(i, n.children(i)))
+        refuse(14, n.own_count(i) == U32)
+        n.raise_count(i)
+        for c in n.children(i):
+            n.held[i, c].append(n.stamps[i])
+        return (n.stamps[i],)
+
+    @call()
+    def epoch(self, i, new):
+        n = self.at(i)
+        refuse(15, n.parents(i))
+        refuse(16, new <= n.stamps[i][0])
+        n.stamps[i] = (new, n.stamps[i][1])
+        return ()
+
+    @call()
+    def deliver(self, p, c):
+        n = self.at(p, c)
+        refuse(17, (p, c) not in n.lines)
+        refuse(18, n.arrived[p, c] >= len(n.held[p, c]))
+        n.arrived[p, c] += 1
+        return ()
+
+    @call(0, NO_STAMP)
+    def schedule(self, j):
+        n = self.at(j)
+        parents = n.parents(j)
+        refuse(19, not parents)
+        refuse(20, any(n.arrived[p, j] == 0 for p in parents))
+        best = parents[0]
+        for p in parents[1:]:
+            if order(n.message_stamp(n.held[p, j][0]), n.message_stamp(n.held[best, j][0])) < 0:
+                best = p
+        message = n.held[best, j].pop(0)
+        n.arrived[best, j] -= 1
+        for item, v in n.writes(message):
+            if n.items[item][1] >> j & 1:
+                n.tables[j][item] = v
+        stamp = n.message_stamp(message)
+        n.stamps[j] = (stamp[0], stamp[1] + n.stamps[j][1][-1:])
+        return best, stamp
+
+    # ---- calls that only look
+    @call(frozenset())
+    def waiting(self, j):
+        """The items, whose order is left open."""
+        n = self.at(j)
+        written = {item for p in n.parents(j) for message in n.held[p, j] for item, _ in n.writes(message)}
+        return (frozenset(item for item in written if n.items[item][1] >> j & 1),)
+
+    @call(())
+    def table(self, i):
+        return (tuple(self.at(i).tables[i]),)
+
+    @call(NO_STAMP)
+    def stamp(self, i):
+        return (self.at(i).stamps[i],)
+
+    @call(0, 0)
+    def line(self, p, c):
+        n = self.at(p, c)
+        refuse(17, (p, c) not in n.lines)
+        return len(n.held[p, c]), n.arrived[p, c]
+
+    @call(b"")
+    def export(self, room):
+        """The file, for a buffer of so many bytes."""
+        n = self.shaped()
+        made = files.file_bytes(n.sites, len(n.items), n.history)
+        refuse(25, len(made) > room)
+        return (made,)
+
+    # ---- the script
+    def script(self, line):
+        """The answer to a line, without newline."""
+        try:
+            letter, *fields = parse(line)
+        except Malformed:
+            return b"?"
+        calls = {"p": self.set_up, "c": self.commit, "d": self.dummy, "e": self.epoch, "l": self.deliver, "s": self.schedule}
+        return answer_text(letter, calls[letter](*fields)).encode()
+
+    def run(self, text):
+        """The answers to the lines of a script, a newline behind each."""
+        lines = text.split(b"\n")
+        if lines[-1] == b"":
+            lines.pop()
+        return b"".join(self.script(line) + b"\n" for line in lines)
+
+
+# ---- the script's notation
 class Malformed(Exception):
     pass
 
@@ -59,8 +350,7 @@ def parse(line):
         if len(rest) < 2 or len(rest) % 2:
             raise Malformed
         sites, items = number(rest[0]), number(rest[1])
-        pairs = [(number(rest[i]), number(rest[i + 1], 255)) for i in range(2, len(rest), 2)]
-        return ("p", sites, items, pairs)
+        return ("p", sites, items, [number(f) for f in rest[2::2]], [number(f, 255) for f in rest[3::2]])
     if letter == b"c":
         if not rest:
             raise Malformed
@@ -71,187 +361,24 @@ def parse(line):
     return (letter.decode(),) + tuple(number(f) for f in rest)
 
 
-def earlier(a, b):
-    """Whether timestamp a is earlier than b: (epoch, [(site, count), ..])."""
-    if a[0] != b[0]:
-        return a[0] < b[0]
-    for x, y in zip(a[1], b[1]):
-        if x[0] != y[0]:
-            return x[0] > y[0]
-        if x[1] != y[1]:
-            return x[1] < y[1]
-    return len(a[1]) < len(b[1])
-
-
-class Engine:
-    def __init__(self):
-        self.sites = 0
-        self.damaged = set()
-
-    def set_up(self, sites, items, pairs):
-        if not 1 <= sites <= SITES:
-            return (1,)
-        if not 1 <= items <= ITEMS or len(pairs) != items:
-            return (2,)
-        for primary, mask in pairs:
-            if primary >= sites:
-                return (3,)
-            if mask >> sites or mask >> primary & 1:
-                return (4,)
-            if any(mask >> k & 1 for k in range(primary)):
-                return (5,)
-        self.sites = sites
-        self.damaged = set()
-        self.items = pairs
-        self.tables = [[0] * items for _ in range(sites)]
-        self.stamps = [(0, [(i, 0)]) for i in range(sites)]
-        self.lines = {(p, c): [] for p in range(sites) for c in range(sites) if self.is_line(p, c)}
-        self.arrived = {key: 0 for key in self.lines}
-        self.history = []
-        return (0,)
-
-    def well_shaped(self):
-        return self.sites and not self.damaged
-
-    def is_line(self, p, c):
-        return any(primary == p and mask >> c & 1 for primary, mask in self.items)
-
-    def parents(self, j):
-        return [p for p in range(self.sites) if (p, j) in self.lines]
-
-    def raised(self, i):
-        epoch, tuples = self.stamps[i]
-        return (epoch, tuples[:-1] + [(i, tuples[-1][1] + 1)])
-
-    def send(self, i, children, stamp, writes):
-        for c in children:
-            self.lines[i, c].append((stamp, writes))
-
-    def commit(self, i, ops):
-        if i >= self.sites:
-            return (7,)
-        if not 1 <= len(ops) <= OPERATIONS:
-            return (8,)
-        for kind, item, _ in ops:
-            if kind > 1 or item >= len(self.items):
-                return (9,)
-            primary, mask = self.items[item]
-            if kind == 0 and primary != i and not mask >> i & 1:
-                return (10,)
-            if kind == 1 and primary != i:
-                return (11,)
-        if len(self.history) >= RECORDS:
-            return (12,)
-        writes = [(item, v) for kind, item, v in ops if kind == 1]
-        children = [c for c in range(self.sites) if any(self.items[item][1] >> c & 1 for item, _ in writes)]
-        if any(len(self.lines[i, c]) >= HELD for c in children):
-            return (13,)
-        if self.stamps[i][1][-1][1] == U32:
-            return (14,)
-        done = [(kind, item, self.tables[i][item] if kind == 0 else v) for kind, item, v in ops]
-        for item, v in writes:
-            self.tables[i][item] = v
-        self.stamps[i] = self.raised(i)
-        self.history.append((i, self.stamps[i], done))
-        self.send(i, children, self.stamps[i], writes)
-        return (0, self.stamps[i], [v for kind, _, v in done if kind == 0])
-
-    def dummy(self, i):
-        if i >= self.sites:
-            return (7,)
-        children = [c for c in range(self.sites) if (i, c) in self.lines]
-        if any(len(self.lines[i, c]) >= HELD for c in children):
-            return (13,)
-        if self.stamps[i][1][-1][1] == U32:
-            return (14,)
-        self.stamps[i] = self.raised(i)
-        self.send(i, children, self.stamps[i], [])
-        return (0, self.stamps[i], [])
-
-    def epoch(self, i, new):
-        if i >= self.sites:
-            return (7,)
-        if self.parents(i):
-            return (15,)
-        if new <= self.stamps[i][0]:
-            return (16,)
-        self.stamps[i] = (new, self.stamps[i][1])
-        return (0,)
-
-    def deliver(self, p, c):
-        if p >= self.sites or c >= self.sites:
-            return (7,)
-        if (p, c) not in self.lines:
-            return (17,)
-        if self.arrived[p, c] >= len(self.lines[p, c]):
-            return (18,)
-        self.arrived[p, c] += 1
-        return (0,)
-
-    def schedule(self, j):
-        if j >= self.sites:
-            return (7,)
-        parents = self.parents(j)
-        if not parents:
-            return (19,)
-        if any(self.arrived[p, j] == 0 for p in parents):
-            return (20,)
-        best = parents[0]
-        for p in parents[1:]:
-            if earlier(self.lines[p, j][0][0], self.lines[best, j][0][0]):
-                best = p
-        stamp, writes = self.lines[best, j].pop(0)
-        self.arrived[best, j] -= 1
-        for item, v in writes:
-            if self.items[item][1] >> j & 1:
-                self.tables[j][item] = v
-        self.stamps[j] = (stamp[0], stamp[1] + [self.stamps[j][1][-1]])
-        return (0, best, stamp)
-
-    def waiting(self, j):
-        if j >= self.sites:
-            return (7, set())
-        written = {item for p in self.parents(j) for _, writes in self.lines[p, j] for item, _ in writes}
-        return (0, {item for item in written if self.items[item][1] >> j & 1})
+def tuples_text(tuples):
+    return ",".join("%d.%d" % t for t in tuples)
 
 
 def stamp_text(stamp):
-    return "%d %s" % (stamp[0], ",".join("%d.%d" % t for t in stamp[1]))
+    return "%d %s" % (stamp[0], tuples_text(stamp[1]))
 
 
-def answer(engine, line):
-    try:
-        call = parse(line)
-    except Malformed:
-        return "?"
-    letter, arguments = call[0], call[1:]
-    if letter != "p" and not engine.well_shaped():
-        return "6"
-    result = {
-        "p": engine.set_up,
-        "c": engine.commit,
-        "d": engine.dummy,
-        "e": engine.epoch,
-        "l": engine.deliver,
-        "s": engine.schedule,
-    }[letter](*arguments)
-    if result[0] or letter in "pel":
-        return str(result[0])
+def answer_text(letter, answer):
+    if answer[0] or letter in "pel":
+        return str(answer[0])
     if letter == "s":
-        return "0 %d %s" % (result[1], stamp_text(result[2]))
-    return " ".join(["0", stamp_text(result[1])] + [str(v) for v in result[2]])
+        return "0 %d %s" % (answer[1], stamp_text(answer[2]))
+    values = answer[2] if letter == "c" else ()
+    return " ".join(["0", stamp_text(answer[1])] + [str(v) for v in values])
 
 
-def run(source, sink):
-    engine = Engine()
-    data = source.read()
-    lines = data.split(b"\n")
-    if lines[-1] == b"":
-        lines.pop()
-    for line in lines:
-        sink.write(answer(engine, line) + "\n")
-
-
+# ---- random scripts
 def placement(rng):
     """Eight sites and 64 items: most with a copy or two at later sites."""
     fields = []
@@ -309,7 +436,7 @@ def script(seed, count, sink):
 
 def main():
     if sys.argv[1] == "run":
-        run(sys.stdin.buffer, sys.stdout)
+        sys.stdout.buffer.write(Engine().run(sys.stdin.buffer.read()))
     elif sys.argv[1] == "script":
         script(int(sys.argv[2]), int(sys.argv[3]), sys.stdout)
 

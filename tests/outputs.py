@@ -8,8 +8,7 @@ The lines of crates/cases, beside those of a script:
 
     # ..                        a comment, printed as it is
     w SITE                      waiting report: the number, how many items, the items in rising order
-    k PLACE WORD                a word of the state set by hand, and the line printed: an own count, or a word that makes the state not well
-                                shaped until the next such line on the same place, or a set-up
+    k PLACE WORD                a word of the state set by hand, and the line printed
     o SITE KIND                 commit by two records: a read of item 0, and an operation of that kind on item 1 with the value -1
     u SITE KINDS ITEMS VALUES   commit by separate lists of so many entries, writes of item 0
     = BYTES, + BYTES            the file anew, or more of it: how many bytes it has
@@ -28,6 +27,7 @@ import sys
 import zlib
 
 import files
+import layout
 import model
 
 CRATES = pathlib.Path(__file__).resolve().parent.parent / "crates"
@@ -42,8 +42,7 @@ def lines_of(data):
 
 
 def script(data):
-    engine = model.Engine()
-    return "".join(model.answer(engine, line) + "\n" for line in lines_of(data))
+    return model.Engine().run(data).decode()
 
 
 def joined(numbers):
@@ -56,18 +55,19 @@ def refusable(text):
 
 def record_text(first, stamp, ops):
     texts = ["%s%d=%d" % ("rw"[kind], item, value) for kind, item, value in ops]
-    tuples = ",".join("%d.%d" % t for t in stamp[1])
+    tuples = model.tuples_text(stamp[1])
     return " ".join([str(first), str(stamp[0])] + ([tuples] if tuples else []) + texts)
 
 
 def found_text(number, found):
-    (site, stamp, ops), end = found or ((0, (0, []), []), 0)
-    return "%s %s" % (joined([number, end, len(ops)]), record_text(site, stamp, ops + [(0, 0, 0)] * (8 - len(ops))))
+    (site, stamp, ops), end = found or (files.NO_RECORD, 0)
+    return "%s %s" % (joined([number, end, len(ops)]), record_text(site, stamp, ops + ((0, 0, 0),) * (8 - len(ops))))
 
 
 class Cases:
     def __init__(self):
         self.engine = model.Engine()
+        self.words = [0] * layout.WORDS  # what a line k changed last
         self.file = b""
 
     def answer(self, line):
@@ -86,64 +86,55 @@ class Cases:
         numbered = {"w": self.waiting, "k": self.set, "o": self.records, "u": self.lists, "x": self.export, "r": self.record, "@": self.at}
         if letter in numbered:
             return numbered[letter](*[int(field) for field in text.split(" ")])
-        return refusable(model.answer(self.engine, line))
+        return refusable(self.engine.script(line).decode())
 
     def waiting(self, site):
-        number, items = self.engine.waiting(site) if self.engine.well_shaped() else (6, [])
+        number, items = self.engine.waiting(site)
         return joined([number, len(items)] + sorted(items))
 
     def set(self, place, word):
-        for i in range(self.engine.sites):
-            tuples = self.engine.stamps[i][1]
-            if place == 131 + 82 * i + 1 + 2 * len(tuples):
-                tuples[-1] = (i, word)
-                return "k %d %d" % (place, word)
-        self.engine.damaged ^= {place}
+        if self.engine.network:
+            self.words = layout.words(self.engine.network)
+        self.words[place] = word
+        self.engine.take(layout.load(self.words))
         return "k %d %d" % (place, word)
 
-    def commit(self, site, ops):
-        result = self.engine.commit(site, ops) if self.engine.well_shaped() else (6,)
-        stamp, values = (result[1], result[2]) if result[0] == 0 else ((0, []), [])
-        return refusable(record_text(result[0], stamp, [(0, i, v) for i, v in enumerate(values)]))
+    def commit(self, answer):
+        number, stamp, values = answer
+        return refusable(record_text(number, stamp, [(0, i, v) for i, v in enumerate(values)]))
 
     def records(self, site, kind):
-        return self.commit(site, [(0, 0, 7), (kind, 1, -1)])
+        return self.commit(self.engine.commit(site, [(0, 0, 7), (kind, 1, -1)]))
 
     def lists(self, site, kinds, items, values):
-        # lists of two lengths are refused as no operations are
-        return self.commit(site, [(1, 0, 9)] * kinds if kinds == items == values else [])
+        return self.commit(self.engine.commit_lists(site, [1] * kinds, [0] * items, [9] * values))
 
     def put(self, front, text):
         self.file = front + bytes.fromhex(text)
         return str(len(self.file))
 
     def export(self, size):
-        self.file = b"\xee" * size
-        if not self.engine.well_shaped():
-            return "6 0"
-        made = files.file_bytes(self.engine.sites, len(self.engine.items), self.engine.history)
-        if len(made) > size:
-            return "25 0"
-        self.file = made + self.file[len(made) :]
-        return "0 %d" % len(made)
+        number, made = self.engine.export(size)
+        self.file = made + b"\xee" * (size - len(made))
+        return joined([number, len(made)])
 
     def sums(self):
         both = zlib.adler32(self.file)
         return joined([both % 65536, both // 65536])
 
     def check(self):
-        number, sites, items, records, part = files.read(self.file)
-        return joined([number, len(records), sites, items, len(part)])
+        number, _, length, records, sites, items = files.read(self.file)
+        return joined([number, records, sites, items, length])
 
     def read(self):
-        number, _, _, _, part = files.read(self.file)
+        number, part = files.read(self.file)[0], files.part(self.file)
         return joined([number] + ([part.hex()] if part else []))
 
     def record(self, k):
-        return found_text(*files.by_number(self.file, k))
+        return found_text(*files.found_at(self.file, k))
 
     def at(self, place, sites, items):
-        return found_text(*files.by_place(self.file, place, sites, items))
+        return found_text(*files.by_place(files.part(self.file), place, sites, items))
 
 
 def cases(data):

@@ -1,0 +1,228 @@
+//! A network that owns its state, and every call on it.
+use crate::raw;
+use crate::refusal::answered;
+use crate::{Committed, Line, Operation, Refusal, Scheduled, Stamp};
+use crate::{ANSWERS, FILE_BYTES, ITEMS, SITES, WORDS};
+use std::fmt;
+
+/// An owner of a state: sites, their tables, the lines between them and the history. A refused call leaves it as it was.
+///
+/// It debug-prints as a person would list it:
+///
+/// ```
+/// # use gevrolen::{Network, Operation};
+/// # fn main() -> Result<(), gevrolen::Refusal> {
+/// let mut network = Network::new();
+/// assert_eq!(format!("{network:?}"), "Network: never set up, or not well shaped");
+/// network.set_up(3, 2, &[0, 1], &[6, 4])?;
+/// network.commit(0, &[Operation::write(0, 5)])?;
+/// network.deliver(0, 1)?;
+/// assert_eq!(format!("{network:?}"), "\
+/// Network: 3 sites, 2 items
+///   site 0 at 0 0.1: [5, 0]
+///   site 1 at 0 1.0: [0, 0]
+///   site 2 at 0 2.0: [0, 0]
+///   line 0 to 1: 1 held, 1 arrived
+///   line 0 to 2: 1 held, 0 arrived
+///   line 1 to 2: 0 held, 0 arrived");
+/// # Ok(())
+/// # }
+/// ```
+#[derive(Clone)]
+pub struct Network {
+    words: Box<[u32; WORDS]>,
+}
+
+impl Network {
+    /// A state that was never set up.
+    pub fn new() -> Network {
+        let words = vec![0; WORDS].into_boxed_slice();
+        Network { words: words.try_into().expect("as many words as a state has") }
+    }
+
+    /// A state from words that were saved; any words will do, since every call tests them.
+    pub fn from_words(words: &[u32; WORDS]) -> Network {
+        let mut network = Network::new();
+        network.words.copy_from_slice(words);
+        network
+    }
+
+    /// The words of the state, to save.
+    pub fn as_words(&self) -> &[u32; WORDS] {
+        &self.words
+    }
+
+    /// Starts a group anew: for each item its primary site and its mask of copies, in which the bit of weight 2 to the power k names site k. 1 to 5.
+    pub fn set_up(&mut self, sites: u32, items: u32, primaries: &[u32], masks: &[u8]) -> Result<(), Refusal> {
+        let words = &mut *self.words;
+        // SAFETY: the state is this network's own; the lists are only read.
+        let number = unsafe { raw::gevrolen_set_up(words, sites, items, primaries.as_ptr(), primaries.len(), masks.as_ptr(), masks.len()) };
+        answered(number, || ())
+    }
+
+    /// A commit of 1 to 8 operations at a site: reads give the values from before it, then the writes go in, in list order. 6 to 14.
+    pub fn commit(&mut self, site: u32, operations: &[Operation]) -> Result<Committed, Refusal> {
+        let lent: Vec<raw::Operation> = operations.iter().map(Operation::raw).collect();
+        let mut answer = raw::Committed::default();
+        // SAFETY: as for `set_up`; the answer is a struct of the header to write to. So in all calls below.
+        let number = unsafe { raw::gevrolen_commit(&mut *self.words, site, lent.as_ptr(), lent.len(), &mut answer) };
+        answered(number, || Committed::of(&answer))
+    }
+
+    /// A commit by separate lists of kinds (0 reads, 1 writes), items and values, refused by 8 where their lengths differ. 6 to 14.
+    pub fn commit_lists(&mut self, site: u32, kinds: &[u8], items: &[u32], values: &[i32]) -> Result<Committed, Refusal> {
+        let mut answer = raw::Committed::default();
+        let number = unsafe {
+            raw::gevrolen_commit_lists(
+                &mut *self.words,
+                site,
+                kinds.as_ptr(),
+                kinds.len(),
+                items.as_ptr(),
+                items.len(),
+                values.as_ptr(),
+                values.len(),
+                &mut answer,
+            )
+        };
+        answered(number, || Committed::of(&answer))
+    }
+
+    /// A commit without operations: it raises the site's count and goes to every child. 6, 7, 13, 14.
+    pub fn dummy(&mut self, site: u32) -> Result<Stamp, Refusal> {
+        let mut answer = raw::Stamp::default();
+        let number = unsafe { raw::gevrolen_dummy(&mut *self.words, site, &mut answer) };
+        answered(number, || Stamp::of(&answer))
+    }
+
+    /// A higher epoch for a site without parents. 6, 7, 15, 16.
+    pub fn epoch(&mut self, site: u32, number: u32) -> Result<(), Refusal> {
+        let told = unsafe { raw::gevrolen_epoch(&mut *self.words, site, number) };
+        answered(told, || ())
+    }
+
+    /// The oldest message on the way from parent to child arrives. 6, 7, 17, 18.
+    pub fn deliver(&mut self, parent: u32, child: u32) -> Result<(), Refusal> {
+        let number = unsafe { raw::gevrolen_deliver(&mut *self.words, parent, child) };
+        answered(number, || ())
+    }
+
+    /// The site takes the earliest of the oldest arrived messages of its parents and applies it. 6, 7, 19, 20.
+    pub fn schedule(&mut self, site: u32) -> Result<Scheduled, Refusal> {
+        let mut answer = raw::Scheduled::default();
+        let number = unsafe { raw::gevrolen_schedule(&mut *self.words, site, &mut answer) };
+        answered(number, || Scheduled { parent: answer.parent, stamp: Stamp::of(&answer.stamp) })
+    }
+
+    /// The items that messages on the lines into a site write and that it has a copy of, each once, in an order that is left open. 6, 7.
+    pub fn waiting(&self, site: u32) -> Result<Vec<u32>, Refusal> {
+        let mut answer = raw::Report { count: 0, items: [0; ITEMS] };
+        let number = unsafe { raw::gevrolen_waiting(&*self.words, site, &mut answer) };
+        answered(number, || answer.items[..answer.count as usize].to_vec())
+    }
+
+    /// A site's value for each item, 0 for one that it does not hold. 6, 7.
+    pub fn table(&self, site: u32) -> Result<Vec<i32>, Refusal> {
+        let mut answer = raw::Table { count: 0, values: [0; ITEMS] };
+        let number = unsafe { raw::gevrolen_table(&*self.words, site, &mut answer) };
+        answered(number, || answer.values[..answer.count as usize].to_vec())
+    }
+
+    /// A site's timestamp. 6, 7.
+    pub fn stamp(&self, site: u32) -> Result<Stamp, Refusal> {
+        let mut answer = raw::Stamp::default();
+        let number = unsafe { raw::gevrolen_stamp(&*self.words, site, &mut answer) };
+        answered(number, || Stamp::of(&answer))
+    }
+
+    /// The line from parent to child. 6, 7, 17.
+    pub fn line(&self, parent: u32, child: u32) -> Result<Line, Refusal> {
+        let mut answer = raw::Line::default();
+        let number = unsafe { raw::gevrolen_line(&*self.words, parent, child, &mut answer) };
+        answered(number, || Line { held: answer.held, arrived: answer.arrived })
+    }
+
+    /// The history as a file. 6.
+    pub fn export(&self) -> Result<Vec<u8>, Refusal> {
+        let mut buffer = vec![0; FILE_BYTES];
+        let length = self.export_to(&mut buffer)?;
+        buffer.truncate(length);
+        Ok(buffer)
+    }
+
+    /// The history as a file at the front of a buffer, whose rest stays as it was; answers the file's length. 6, 25.
+    pub fn export_to(&self, buffer: &mut [u8]) -> Result<usize, Refusal> {
+        let mut length = 0;
+        let number = unsafe { raw::gevrolen_export(&*self.words, buffer.as_mut_ptr(), buffer.len(), &mut length) };
+        answered(number, || length)
+    }
+
+    /// The answer to one line of a script, both without newline: `?` where the line is no call.
+    ///
+    /// ```
+    /// let mut network = gevrolen::Network::new();
+    /// assert_eq!(network.script(b"p 3 2 0 6 1 4"), b"0");
+    /// assert_eq!(network.script(b"c 0 w0=5"), b"0 0 0.1");
+    /// assert_eq!(network.script(b"hello"), b"?");
+    /// ```
+    pub fn script(&mut self, line: &[u8]) -> Vec<u8> {
+        let mut answer = vec![0; crate::ANSWER];
+        let length = unsafe { raw::gevrolen_script(&mut *self.words, line.as_ptr(), line.len(), answer.as_mut_ptr()) };
+        answer.truncate(length);
+        answer
+    }
+
+    /// The answers to the lines of a script, a newline behind each; the last line may lack its own.
+    ///
+    /// ```
+    /// let mut network = gevrolen::Network::new();
+    /// assert_eq!(network.run(b"p 3 2 0 6 1 4\nc 0 w0=5\nl 0 1"), b"0\n0 0 0.1\n0\n");
+    /// ```
+    pub fn run(&mut self, text: &[u8]) -> Vec<u8> {
+        let mut told = Vec::new();
+        let ended = text.iter().rposition(|&byte| byte == b'\n').map_or(0, |place| place + 1);
+        self.run_lines(&text[..ended], &mut told);
+        if ended < text.len() {
+            self.run_lines(&[&text[ended..], b"\n"].concat(), &mut told);
+        }
+        told
+    }
+
+    /// Lines that all end in a newline.
+    fn run_lines(&mut self, mut text: &[u8], told: &mut Vec<u8>) {
+        let mut answers = vec![0; ANSWERS];
+        while !text.is_empty() {
+            let mut progress = raw::Progress::default();
+            unsafe { raw::gevrolen_run(&mut *self.words, text.as_ptr(), text.len(), answers.as_mut_ptr(), answers.len(), &mut progress) };
+            told.extend_from_slice(&answers[..progress.filled]);
+            text = &text[progress.used..];
+        }
+    }
+}
+
+impl Default for Network {
+    fn default() -> Network {
+        Network::new()
+    }
+}
+
+impl fmt::Debug for Network {
+    fn fmt(&self, f: &mut fmt::Formatter<'_>) -> fmt::Result {
+        let Ok(table) = self.table(0) else {
+            return f.write_str("Network: never set up, or not well shaped");
+        };
+        let sites: Vec<u32> = (0..SITES as u32).filter(|&site| self.stamp(site).is_ok()).collect();
+        write!(f, "Network: {} sites, {} items", sites.len(), table.len())?;
+        for &site in &sites {
+            if let (Ok(stamp), Ok(values)) = (self.stamp(site), self.table(site)) {
+                write!(f, "\n  site {site} at {stamp}: {values:?}")?;
+            }
+        }
+        for (parent, child) in sites.iter().flat_map(|&parent| sites.iter().map(move |&child| (parent, child))) {
+            if let Ok(line) = self.line(parent, child) {
+                write!(f, "\n  line {parent} to {child}: {} held, {} arrived", line.held, line.arrived)?;
+            }
+        }
+        Ok(())
+    }
+}

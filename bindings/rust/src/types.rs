@@ -1,0 +1,199 @@
+//! Timestamps, operations and answers.
+use crate::raw;
+use crate::SITES;
+use std::cmp::Ordering;
+use std::fmt;
+
+/// A timestamp: an epoch and tuples of a site and its count, sites rising. It displays as a script prints it.
+///
+/// ```
+/// # use gevrolen::Stamp;
+/// let stamp = Stamp::new(0, &[(0, 1), (2, 1)]).unwrap();
+/// assert_eq!(stamp.to_string(), "0 0.1,2.1");
+/// assert_eq!(Stamp::new(0, &[(0, 1); 9]), None);
+/// ```
+#[derive(Clone, PartialEq, Eq, Hash, Default)]
+pub struct Stamp {
+    epoch: u32,
+    tuples: Vec<(u32, u32)>,
+}
+
+impl Stamp {
+    /// A timestamp of an epoch and at most eight tuples; none of more.
+    pub fn new(epoch: u32, tuples: &[(u32, u32)]) -> Option<Stamp> {
+        (tuples.len() <= SITES).then(|| Stamp { epoch, tuples: tuples.to_vec() })
+    }
+
+    /// Its epoch.
+    pub fn epoch(&self) -> u32 {
+        self.epoch
+    }
+
+    /// Sites and their counts.
+    pub fn tuples(&self) -> &[(u32, u32)] {
+        &self.tuples
+    }
+
+    pub(crate) fn of(raw: &raw::Stamp) -> Stamp {
+        let tuples = raw.tuples[..raw.length as usize].iter().map(|t| (t.site, t.count)).collect();
+        Stamp { epoch: raw.epoch, tuples }
+    }
+
+    fn raw(&self) -> raw::Stamp {
+        let mut raw = raw::Stamp { epoch: self.epoch, length: self.tuples.len() as u32, ..Default::default() };
+        for (place, &(site, count)) in raw.tuples.iter_mut().zip(&self.tuples) {
+            *place = raw::Tuple { site, count };
+        }
+        raw
+    }
+}
+
+impl fmt::Display for Stamp {
+    fn fmt(&self, f: &mut fmt::Formatter<'_>) -> fmt::Result {
+        write!(f, "{} ", self.epoch)?;
+        for (k, (site, count)) in self.tuples.iter().enumerate() {
+            write!(f, "{}{site}.{count}", if k == 0 { "" } else { "," })?;
+        }
+        Ok(())
+    }
+}
+
+impl fmt::Debug for Stamp {
+    fn fmt(&self, f: &mut fmt::Formatter<'_>) -> fmt::Result {
+        write!(f, "Stamp({self})")
+    }
+}
+
+/// Which of two timestamps is the earlier: at the first tuple that differs, the one with the higher site.
+///
+/// ```
+/// # use gevrolen::{compare, Stamp};
+/// # use std::cmp::Ordering;
+/// let stamp = |tuples: &[(u32, u32)]| Stamp::new(0, tuples).unwrap();
+/// assert_eq!(compare(&stamp(&[(0, 1), (2, 1)]), &stamp(&[(0, 1), (1, 1)])), Ordering::Less);
+/// assert_eq!(compare(&stamp(&[(0, 1)]), &stamp(&[(0, 1), (2, 1)])), Ordering::Less);
+/// ```
+pub fn compare(first: &Stamp, second: &Stamp) -> Ordering {
+    // SAFETY: two structs of the header, only read.
+    unsafe { raw::gevrolen_compare(&first.raw(), &second.raw()) }.cmp(&0)
+}
+
+/// What an operation does.
+#[derive(Clone, Copy, Debug, PartialEq, Eq, Hash)]
+pub enum Kind {
+    /// Gives the item's value from before the commit.
+    Read,
+    /// Sets the item's value.
+    Write,
+}
+
+/// An operation of a commit. Lent, a read's value is ignored; in a record it is the value that the read gave.
+#[derive(Clone, Copy, PartialEq, Eq, Hash)]
+pub struct Operation {
+    /// What it does.
+    pub kind: Kind,
+    /// The item's number.
+    pub item: u32,
+    /// The value written or read.
+    pub value: i32,
+}
+
+impl Operation {
+    /// A read of an item.
+    pub fn read(item: u32) -> Operation {
+        Operation { kind: Kind::Read, item, value: 0 }
+    }
+
+    /// A write of a value to an item.
+    pub fn write(item: u32, value: i32) -> Operation {
+        Operation { kind: Kind::Write, item, value }
+    }
+
+    pub(crate) fn raw(&self) -> raw::Operation {
+        let kind = match self.kind {
+            Kind::Read => 0,
+            Kind::Write => 1,
+        };
+        raw::Operation { kind, item: self.item, value: self.value }
+    }
+
+    fn of(raw: &raw::Operation) -> Operation {
+        let kind = if raw.kind == 0 { Kind::Read } else { Kind::Write };
+        Operation { kind, item: raw.item, value: raw.value }
+    }
+}
+
+/// As a record's line has it: `r0=5` read 5 from item 0, `w1=7` wrote 7 to item 1.
+impl fmt::Display for Operation {
+    fn fmt(&self, f: &mut fmt::Formatter<'_>) -> fmt::Result {
+        let letter = match self.kind {
+            Kind::Read => 'r',
+            Kind::Write => 'w',
+        };
+        write!(f, "{letter}{}={}", self.item, self.value)
+    }
+}
+
+impl fmt::Debug for Operation {
+    fn fmt(&self, f: &mut fmt::Formatter<'_>) -> fmt::Result {
+        write!(f, "Operation({self})")
+    }
+}
+
+/// What a commit answers.
+#[derive(Clone, Debug, PartialEq, Eq)]
+pub struct Committed {
+    /// The commit's timestamp, which is the site's now.
+    pub stamp: Stamp,
+    /// The values of its reads, in order.
+    pub values: Vec<i32>,
+}
+
+impl Committed {
+    pub(crate) fn of(raw: &raw::Committed) -> Committed {
+        Committed { stamp: Stamp::of(&raw.stamp), values: raw.values[..raw.count as usize].to_vec() }
+    }
+}
+
+/// What a schedule answers.
+#[derive(Clone, Debug, PartialEq, Eq)]
+pub struct Scheduled {
+    /// The parent whose message was taken.
+    pub parent: u32,
+    /// The message's timestamp.
+    pub stamp: Stamp,
+}
+
+/// A line between two sites.
+#[derive(Clone, Copy, Debug, PartialEq, Eq)]
+pub struct Line {
+    /// How many messages it holds, on the way and arrived together.
+    pub held: u32,
+    /// How many of them have arrived.
+    pub arrived: u32,
+}
+
+/// A record of a history. It displays as a line: site, epoch, tuples, operations, a read with the value that it gave.
+#[derive(Clone, Debug, PartialEq, Eq)]
+pub struct Record {
+    /// The site that committed.
+    pub site: u32,
+    /// The commit's timestamp.
+    pub stamp: Stamp,
+    /// Its operations, in list order.
+    pub operations: Vec<Operation>,
+}
+
+impl Record {
+    pub(crate) fn of(raw: &raw::Record) -> Record {
+        let operations = raw.operations[..raw.count as usize].iter().map(Operation::of).collect();
+        Record { site: raw.site, stamp: Stamp::of(&raw.stamp), operations }
+    }
+}
+
+impl fmt::Display for Record {
+    fn fmt(&self, f: &mut fmt::Formatter<'_>) -> fmt::Result {
+        write!(f, "{} {}", self.site, self.stamp)?;
+        self.operations.iter().try_for_each(|operation| write!(f, " {operation}"))
+    }
+}

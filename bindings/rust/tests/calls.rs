@@ -1,0 +1,151 @@
+//! Every call once accepted, and refused where it can be; what the words are then.
+use gevrolen::{compare, read, record, records, Kind, Line, Network, Operation, Record, Refusal, Stamp, WORDS};
+use std::cmp::Ordering;
+
+fn stamp(tuples: &[(u32, u32)]) -> Stamp {
+    Stamp::new(0, tuples).unwrap()
+}
+
+/// Three sites; item 0 at site 0 with copies at 1 and 2, item 1 at site 1 with a copy at 2.
+fn worked() -> Network {
+    let mut network = Network::new();
+    network.set_up(3, 2, &[0, 1], &[6, 4]).unwrap();
+    network
+}
+
+#[test]
+fn the_worked_example() {
+    let mut network = worked();
+    assert_eq!(network.commit(0, &[Operation::write(0, 5)]).unwrap().stamp, stamp(&[(0, 1)]));
+    network.deliver(0, 1).unwrap();
+    let taken = network.schedule(1).unwrap();
+    assert_eq!((taken.parent, taken.stamp), (0, stamp(&[(0, 1)])));
+    let second = network.commit(1, &[Operation::read(0), Operation::write(1, 7)]).unwrap();
+    assert_eq!((second.stamp, second.values), (stamp(&[(0, 1), (1, 1)]), vec![5]));
+    network.deliver(1, 2).unwrap();
+    assert_eq!(network.schedule(2), Err(Refusal::ParentSilent));
+    network.deliver(0, 2).unwrap();
+    assert_eq!(network.schedule(2).unwrap().parent, 0);
+    let third = network.commit(2, &[Operation::read(0), Operation::read(1)]).unwrap();
+    assert_eq!((third.stamp, third.values), (stamp(&[(0, 1), (2, 1)]), vec![5, 0]));
+
+    assert_eq!(network.table(2).unwrap(), [5, 0]);
+    assert_eq!(network.stamp(2).unwrap(), stamp(&[(0, 1), (2, 1)]));
+    assert_eq!(network.line(1, 2).unwrap(), Line { held: 1, arrived: 1 });
+    assert_eq!(network.waiting(2).unwrap(), [1]);
+
+    let file = network.export().unwrap();
+    let lines: Vec<String> = records(&file).unwrap().map(|record| record.to_string()).collect();
+    assert_eq!(lines, ["0 0 0.1 w0=5", "1 0 0.1,1.1 r0=5 w1=7", "2 0 0.1,2.1 r0=5 r1=0"]);
+}
+
+#[test]
+fn refusals_leave_the_words() {
+    let mut network = worked();
+    let before = network.clone();
+    let refusals = [
+        (network.set_up(9, 2, &[0, 1], &[6, 4]).unwrap_err(), 1),
+        (network.set_up(3, 2, &[0], &[6, 4]).unwrap_err(), 2),
+        (network.set_up(3, 2, &[3, 1], &[6, 4]).unwrap_err(), 3),
+        (network.set_up(3, 2, &[0, 1], &[7, 4]).unwrap_err(), 4),
+        (network.set_up(3, 2, &[0, 1], &[6, 1]).unwrap_err(), 5),
+        (network.dummy(3).unwrap_err(), 7),
+        (network.commit(0, &[]).unwrap_err(), 8),
+        (network.commit_lists(0, &[0, 0], &[0, 0], &[0]).unwrap_err(), 8),
+        (network.commit_lists(0, &[2], &[0], &[0]).unwrap_err(), 9),
+        (network.commit(0, &[Operation::read(1)]).unwrap_err(), 10),
+        (network.commit(1, &[Operation::write(0, 1)]).unwrap_err(), 11),
+        (network.epoch(1, 1).unwrap_err(), 15),
+        (network.epoch(0, 0).unwrap_err(), 16),
+        (network.deliver(1, 0).unwrap_err(), 17),
+        (network.line(1, 0).unwrap_err(), 17),
+        (network.deliver(0, 1).unwrap_err(), 18),
+        (network.schedule(0).unwrap_err(), 19),
+        (network.schedule(1).unwrap_err(), 20),
+        (network.table(3).unwrap_err(), 7),
+        (network.stamp(3).unwrap_err(), 7),
+        (network.waiting(3).unwrap_err(), 7),
+        (network.export_to(&mut [0; 15]).unwrap_err(), 25),
+    ];
+    for (refusal, number) in refusals {
+        assert_eq!(refusal.number(), number);
+        assert_eq!(Refusal::from_number(number), Some(refusal));
+    }
+    assert_eq!(network.as_words(), before.as_words());
+    assert_eq!(Refusal::from_number(0), None);
+    assert_eq!(Refusal::from_number(26), None);
+}
+
+#[test]
+fn full_lines_and_histories() {
+    let mut network = worked();
+    for _ in 0..gevrolen::MESSAGES {
+        network.dummy(0).unwrap();
+    }
+    assert_eq!(network.dummy(0), Err(Refusal::LineFull));
+    for _ in 0..gevrolen::RECORDS {
+        network.commit(1, &[Operation::read(1)]).unwrap();
+    }
+    assert_eq!(network.commit(1, &[Operation::read(1)]), Err(Refusal::HistoryFull));
+    assert_eq!(records(&network.export().unwrap()).unwrap().len(), gevrolen::RECORDS);
+}
+
+#[test]
+fn saved_and_loaded() {
+    let mut network = worked();
+    network.commit(0, &[Operation::write(0, -3)]).unwrap();
+    let mut words = *network.as_words();
+    let mut loaded = Network::from_words(&words);
+    assert_eq!(loaded.table(0).unwrap(), [-3, 0]);
+    loaded.epoch(0, 7).unwrap();
+    assert_eq!(network.stamp(0).unwrap().epoch(), 0);
+    words[0] = 9;
+    assert_eq!(Network::from_words(&words).table(0), Err(Refusal::NoState));
+    assert_eq!(Network::from_words(&[u32::MAX; WORDS]).export(), Err(Refusal::NoState));
+}
+
+#[test]
+fn files() {
+    let mut network = worked();
+    network.commit(0, &[Operation::write(0, -2147483648)]).unwrap();
+    let mut buffer = [0xee; 60];
+    assert_eq!(network.export_to(&mut buffer), Ok(40));
+    assert_eq!(buffer[40..], [0xee; 20]);
+
+    // the file may end a longer buffer
+    let longer = [b"in front of it", &buffer[..40]].concat();
+    let file = read(&longer).unwrap();
+    assert_eq!((file.start, file.length, file.records, file.sites, file.items), (14, 24, 1, 3, 2));
+    assert_eq!(file.to_string(), "1 records of 3 sites and 2 items");
+    let first = Record { site: 0, stamp: stamp(&[(0, 1)]), operations: vec![Operation::write(0, -2147483648)] };
+    assert_eq!(record(&longer, 0), Ok(first));
+    assert_eq!(record(&longer, 1), Err(Refusal::NoSuchRecord));
+
+    assert_eq!(read(&[]), Err(Refusal::NoFile));
+    assert_eq!(read(&buffer[24..40]), Err(Refusal::WrongDistance));
+    buffer[3] = 1;
+    assert_eq!(records(&buffer[..40]).err(), Some(Refusal::InvalidFile));
+}
+
+#[test]
+fn in_words() {
+    assert_eq!(compare(&stamp(&[(0, 1), (1, 1)]), &stamp(&[(0, 1), (2, 1)])), Ordering::Greater);
+    assert_eq!(compare(&stamp(&[(0, 1)]), &stamp(&[(0, 1)])), Ordering::Equal);
+    let read = Operation { kind: Kind::Read, item: 3, value: -1 };
+    assert_eq!(format!("{read} {read:?}"), "r3=-1 Operation(r3=-1)");
+    assert_eq!(format!("{:?}", stamp(&[(0, 1), (2, 4)])), "Stamp(0 0.1,2.4)");
+}
+
+#[test]
+fn scripts_longer_than_a_buffer() {
+    let mut network = worked();
+    let lines = 9000;
+    let text = "e 0 4294967295\n".repeat(lines);
+    let told = network.run(text.trim_end().as_bytes());
+    assert_eq!(told, [&b"0\n"[..], &b"16\n".repeat(lines - 1)].concat());
+    let longest = "c 0".to_string() + &" r0".repeat(8) + "\n";
+    network.set_up(1, 1, &[0], &[0]).unwrap();
+    network.commit(0, &[Operation::write(0, i32::MIN)]).unwrap();
+    let told = network.run(longest.repeat(300).as_bytes());
+    assert_eq!(told.split(|&byte| byte == b'\n').count(), 301);
+}

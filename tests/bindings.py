@@ -1,0 +1,174 @@
+#!/usr/bin/env python3
+"""Holds what is written about the library in C, Rust and Python against each other, and runs the code of the documents. The exit status is 1 where something differs.
+
+    bindings.py     after bindings/build; what it built is looked for in target/gevrolen, or in GEVROLEN_FOLDER
+
+- Names, numbers, sentences and sizes are the same in the header, the Python module, the Rust crate and the table of docs/USING.md.
+- The Python module raises for numbers that do not fit and for wrong types, before any call.
+- The Python sessions of the module, of README.md and of docs/USING.md answer as they say; so do the programs in C and Rust, where a block of text follows them.
+- The C example answers as the worked example's script.
+"""
+import doctest
+import os
+import pathlib
+import re
+import subprocess
+import sys
+import tempfile
+
+ROOT = pathlib.Path(__file__).resolve().parent.parent
+FOLDER = pathlib.Path(os.environ.get("GEVROLEN_FOLDER", ROOT / "target" / "gevrolen"))
+os.environ.setdefault("CARGO_TARGET_DIR", str(ROOT / "target" / "cargo"))
+sys.path.insert(0, str(FOLDER))
+import gevrolen  # noqa: E402
+
+DOCUMENTS = [ROOT / "README.md", ROOT / "docs" / "USING.md"]
+SIZES = ["WORDS", "SITES", "ITEMS", "OPERATIONS", "MESSAGES", "RECORDS", "FILE_BYTES"]
+complaints = []
+
+
+def expect(what, found, wanted):
+    if found != wanted:
+        complaints.append("%s: %r, not %r" % (what, found, wanted))
+
+
+def camel(name):
+    return "".join(part.capitalize() for part in name.split("_"))
+
+
+# ---- one set of names, numbers and sentences
+def header_says():
+    text = (ROOT / "bindings" / "c" / "gevrolen.h").read_text()
+    defined = {name: int(number) for name, number in re.findall(r"#define GEVROLEN_(\w+) +(\d+)", text)}
+    sentences = re.findall(r'^ +"(.*)",$', text, re.M)
+    return defined, sentences
+
+
+def compare_names():
+    defined, sentences = header_says()
+    expect("sentences of the header", sentences, [gevrolen.explain(number) for number in gevrolen.Number])
+    for number in gevrolen.Number:
+        expect("GEVROLEN_%s" % number.name, defined.get(number.name), number.value)
+    for name in SIZES + ["READ", "WRITE"]:
+        expect("%s of the module" % name, getattr(gevrolen, name), defined.get(name))
+
+    refusals = re.findall(r'^    (\d+) (\w+) "(.*)"$', (ROOT / "bindings" / "rust" / "src" / "refusal.rs").read_text(), re.M)
+    expected = [(str(n.value), camel(n.name), gevrolen.explain(n)) for n in gevrolen.Number if n]
+    expect("refusals of the crate", refusals, expected)
+    consts = dict(re.findall(r"pub const (\w+): usize = (\d+);", (ROOT / "bindings" / "rust" / "src" / "lib.rs").read_text()))
+    expect("sizes of the crate", consts, {name: str(defined[name]) for name in SIZES})
+
+    rows = re.findall(r"^\| (\d+) \| `(\w+)` \| (.*) \|$", (ROOT / "docs" / "USING.md").read_text(), re.M)
+    expect("table of docs/USING.md", rows, [(str(n.value), n.name, gevrolen.explain(n)) for n in gevrolen.Number if n])
+
+
+# ---- what the Python module refuses itself, since no field of the library could hold it
+def check_arguments():
+    network = gevrolen.Network()
+    network.set_up(3, 2, [0, 1], [6, 4])
+    before = bytes(network)
+    too_large = [
+        lambda: network.dummy(2**32),
+        lambda: network.dummy(-1),
+        lambda: network.epoch(0, 2**32),
+        lambda: network.set_up(3, 2, [0, 2**32], [6, 4]),
+        lambda: network.set_up(3, 2, [0, 1], [256, 4]),
+        lambda: network.commit(0, [(1, 0, 2**31)]),
+        lambda: network.commit(0, [(1, 0, -(2**31) - 1)]),
+        lambda: network.commit(0, [(2**32, 0, 0)]),
+        lambda: network.commit_lists(0, [256], [0], [0]),
+        lambda: network.export(-1),
+        lambda: gevrolen.record(b"", -1),
+        lambda: gevrolen.compare((0, [(0, 0)] * 9), (0, [])),
+    ]
+    wrong_type = [
+        lambda: network.dummy("0"),
+        lambda: network.dummy(0.0),
+        lambda: network.set_up(3, 2, [0, "1"], [6, 4]),
+        lambda: network.commit(0, [(1, 0, None)]),
+        lambda: network.script("d 0"),
+        lambda: gevrolen.read(16),
+    ]
+    for fault, calls in ((OverflowError, too_large), (TypeError, wrong_type)):
+        for k, call in enumerate(calls):
+            try:
+                expect("call %d that should raise %s" % (k, fault.__name__), call(), None)
+            except fault:
+                pass
+    expect("words after calls that raise", bytes(network) == before, True)
+
+
+# ---- code of the documents
+def blocks(path):
+    """The fenced blocks of a document: language and text."""
+    return re.findall(r"^```(\w+)\n(.*?)^```$", path.read_text(), re.M | re.S)
+
+
+def session(path):
+    """The Python blocks of a document, each line at its place, so that a difference is told with its line."""
+    language, lines = None, []
+    for line in path.read_text().splitlines():
+        if line.startswith("```"):
+            language = line[3:]
+            line = ""
+        lines.append(line if language == "python" else "")
+    return "\n".join(lines) + "\n"
+
+
+def output(*command):
+    return subprocess.run(command, check=True, stdout=subprocess.PIPE, text=True).stdout
+
+
+def run_c(source, scratch):
+    program = str(scratch / "program")
+    output("cc", "-std=c99", "-Wall", "-Wextra", "-Werror", "-I", str(FOLDER), str(source), str(FOLDER / "libgevrolen.a"), "-o", program)
+    return output(program)
+
+
+def run_rust(source, scratch):
+    """A crate of its own, as a booking system would have it."""
+    bin = '[[bin]]\nname = "program"\npath = "%s"\n' % source
+    manifest = scratch / "Cargo.toml"
+    manifest.write_text('[package]\nname = "program"\nedition = "2021"\n%s[dependencies]\ngevrolen = { path = "%s" }\n' % (bin, ROOT / "bindings" / "rust"))
+    return output("cargo", "run", "--offline", "--quiet", "--manifest-path", str(manifest))
+
+
+RUN = {"c": run_c, "rust": run_rust}
+
+
+def run_programs(path, scratch):
+    found = blocks(path)
+    for (language, text), (after, wanted) in zip(found, found[1:]):
+        if language in RUN and after == "text":
+            source = scratch / ("program." + {"c": "c", "rust": "rs"}[language])
+            source.write_text(text)
+            expect("%s program of %s" % (language, path.name), RUN[language](source, scratch), wanted)
+
+
+def run_session(name, text):
+    test = doctest.DocTestParser().get_doctest(text, dict(vars(gevrolen), gevrolen=gevrolen), name, name, 0)
+    if doctest.DocTestRunner().run(test).failed or not test.examples:
+        complaints.append("the Python session of %s" % name)
+
+
+def run_example(scratch):
+    expect("bindings/c/example.c", run_c(ROOT / "bindings" / "c" / "example.c", scratch), (ROOT / "crates" / "gevrolen" / "stdout").read_text())
+
+
+def main():
+    compare_names()
+    check_arguments()
+    run_session("gevrolen.py", gevrolen.__doc__)
+    with tempfile.TemporaryDirectory() as name:
+        scratch = pathlib.Path(name)
+        run_example(scratch)
+        for path in DOCUMENTS:
+            run_session(path.name, session(path))
+            run_programs(path, scratch)
+    for text in complaints:
+        print(text)
+    return 1 if complaints else 0
+
+
+if __name__ == "__main__":
+    sys.exit(main())

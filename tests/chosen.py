@@ -1,0 +1,399 @@
+"""Random calls for the differential tests, chosen by looking at the model: most of them are accepted, and every cause of a refusal has its turn.
+
+A call is a tuple of its name and its arguments, plain data, so that a list of calls can be printed, played again and made shorter.
+"""
+import random
+import re
+
+import files
+import layout
+import model
+from limits import HELD, ITEMS, OPERATIONS, RECORDS, SITES, U32
+
+# How often each call stands in a list. A run takes one of these by chance: what it does most decides which corners it reaches.
+BALANCED = dict(
+    commit=8, commit_lists=2, dummy=4, epoch=1, deliver=14, schedule=12, waiting=2, table=2, stamp=2, line=2,
+    export=1, script=4, run=1, poke=2, copy=1, set_up=1, state=0.2, noise=0.1, file=2, record_from=1, compare=2,
+)
+MOODS = [
+    BALANCED,
+    dict(BALANCED, commit=40, dummy=0, set_up=0, state=0, poke=0, noise=0),
+    dict(BALANCED, dummy=20, deliver=8, schedule=4),
+    dict(BALANCED, poke=20),
+    dict(BALANCED, state=5),
+    dict(BALANCED, file=20, record_from=10),
+    dict(BALANCED, script=20, run=5),
+    dict(BALANCED, set_up=20),
+]
+
+EDGES = [0, 1, 2, 7, 8, 9, 15, 16, 17, 63, 64, 65, 255, 256, 257, 2**31 - 1, 2**31, U32 - 1, U32]
+
+
+def value(rng):
+    return rng.choice([0, 1, -1, 2**31 - 1, -(2**31), rng.randint(-(2**31), 2**31 - 1)])
+
+
+def word(rng):
+    return rng.choice(EDGES) if rng.random() < 0.8 else rng.randint(0, U32)
+
+
+def below(rng, count, wrong=0.03):
+    """A number below a count, or by chance one that is not."""
+    return rng.choice([count, count + 1, 8, 64, 255, 256, U32]) if rng.random() < wrong or not count else rng.randrange(count)
+
+
+def stamp(rng, site):
+    """A timestamp that a site made."""
+    before = sorted(rng.sample(range(site), rng.randint(0, site)))
+    count = lambda: rng.choice([0, 1, 2, 3, U32 - 1, U32])
+    return (rng.choice([0, 0, 0, 1, 2, U32]), tuple((s, count()) for s in before + [site]))
+
+
+def any_stamp(rng):
+    """A timestamp that need not be one that a site made; comparing takes any."""
+    if rng.random() < 0.7:
+        return stamp(rng, rng.randrange(SITES))
+    return (rng.choice([0, 1]), tuple((rng.choice([0, 1, 2, U32]), rng.choice([0, 1, U32])) for _ in range(rng.randint(0, SITES))))
+
+
+def record(rng, sites, items):
+    site = rng.randrange(sites)
+    ops = tuple((rng.randrange(2), rng.randrange(items), value(rng)) for _ in range(rng.choice([1, 1, 2, 3, OPERATIONS])))
+    return (site, stamp(rng, site), ops)
+
+
+# ---- set-up
+def placement(rng):
+    sites = rng.choice([1, 2, 3, 3, 4, 5, 8, 8])
+    items = rng.choice([1, 2, 3, 4, 8, 16, 63, 64])
+    primaries = [rng.randrange(sites) for _ in range(items)]
+    density = rng.choice([0.2, 0.5, 0.9])
+    masks = [sum(1 << c for c in range(p + 1, sites) if rng.random() < density) for p in primaries]
+    return sites, items, primaries, masks
+
+
+def faulty(rng, sites, items, primaries, masks):
+    """A set-up with a fault or two."""
+    primaries, masks = list(primaries), list(masks)
+    for _ in range(rng.choice([1, 1, 2, 3])):
+        k = rng.randrange(len(primaries)) if primaries else 0
+        fault = rng.randrange(7)
+        if fault == 0:
+            sites = rng.choice([0, 9, 255, U32])
+        elif fault == 1:
+            items = rng.choice([0, 65, (items + 1) % 2**32, U32])
+        elif fault == 2:
+            primaries = primaries[:-1] if rng.random() < 0.5 else primaries + [0]
+        elif fault == 3:
+            masks = masks[:-1] if rng.random() < 0.5 else masks + [0]
+        elif fault == 4 and k < len(primaries):
+            primaries[k] = rng.choice([sites, 8, 255, U32])
+        elif fault >= 5 and k < len(masks):
+            masks[k] = rng.randrange(256)
+    return sites, items, primaries, masks
+
+
+# ---- states that no set-up need lead to
+def network(seed, records, held):
+    """A network of at most so many records and messages on a line; well shaped, but for a flaw that some have."""
+    rng = random.Random(seed)
+    sites, items, primaries, masks = placement(rng)
+    engine = model.Engine()
+    engine.set_up(sites, items, primaries, masks)
+    n = engine.network
+    n.history = [record(rng, sites, items) for _ in range(records)]
+    n.stamps = [stamp(rng, i) for i in range(sites)]
+    n.tables = [[value(rng) for _ in range(items)] for _ in range(sites)]
+    made = [[k for k, one in enumerate(n.history) if one[0] == i] for i in range(sites)]
+    for p, c in sorted(n.lines):
+        count = rng.randint(0, held)
+        n.held[p, c] = [rng.choice(made[p]) if made[p] and rng.random() < 0.6 else stamp(rng, p) for _ in range(count)]
+        n.arrived[p, c] = rng.randint(0, count)
+    if rng.random() < 0.4:
+        flaw(rng, n)
+    return n
+
+
+def wrong_stamp(rng, site):
+    epoch, tuples = stamp(rng, site)
+    return (epoch, rng.choice([(), tuples[:-1], tuples[-1:] + tuples, tuples + tuples[-1:], tuples + ((site + 1, 0),)])[:SITES])
+
+
+def wrong_record(rng, n, site, made, ops):
+    kind, item, v = ops[-1]
+    return rng.choice(
+        [
+            (n.sites, stamp(rng, min(n.sites, SITES - 1)), ops),
+            (site, wrong_stamp(rng, site), ops),
+            (site, made, ops[:-1] + ((2, item, v),)),
+            (site, made, ops[:-1] + ((kind, len(n.items), v),)),
+        ]
+    )
+
+
+def flaw(rng, n):
+    """One thing, most often, that no well-shaped network has."""
+    p = rng.randrange(SITES)
+    line = (p, rng.randrange(SITES))
+    site, item = rng.randrange(n.sites), rng.randrange(len(n.items))
+    which = rng.randrange(7)
+    if which == 0:
+        n.held[line] = n.held[line][:-1] + [stamp(rng, p)]
+    elif which == 1:
+        n.held[line] = n.held[line][:-1] + [rng.choice([wrong_stamp(rng, p), len(n.history), 0, RECORDS - 1])]
+    elif which == 2:
+        n.arrived[line] = len(n.held[line]) + 1
+    elif which == 3:
+        n.stamps[site] = wrong_stamp(rng, site)
+    elif which == 4:
+        n.items[item] = (rng.choice([n.items[item][0], n.sites]), rng.randrange(512))
+    elif n.history:
+        k = rng.randrange(len(n.history))
+        n.history[k] = wrong_record(rng, n, *n.history[k])
+
+
+def noise(seed):
+    """The bytes of a state, at random."""
+    return random.Random(seed).randbytes(4 * layout.WORDS)
+
+
+# ---- files
+def damaged(rng, data):
+    data = bytearray(data)
+    for _ in range(rng.choice([0, 0, 1, 1, 2])):
+        fault = rng.randrange(5)
+        if fault == 0 and data:
+            data[rng.randrange(len(data))] = rng.choice([0, 1, 2, 8, 9, 255, rng.randrange(256)])
+        elif fault == 1 and len(data) >= files.TRAILER:
+            data[-rng.randint(1, files.TRAILER)] = rng.choice([0, 1, 9, 16, 65, 255])
+        elif fault == 2:
+            del data[rng.randint(0, len(data)) :]
+        elif fault == 3:
+            data += rng.randbytes(rng.choice([1, 8, 16]))
+        elif fault == 4 and len(data) >= files.TRAILER:
+            near = int.from_bytes(data[-8:-4], "little") + rng.choice([-16, -8, -1, 1, 8, 16])
+            data[-8:-4] = files.little(near % 2**32)
+    return bytes(data)
+
+
+def file(rng, engine):
+    """A buffer that a file ends, or nearly one."""
+    exported = engine.export(10**6)[1]
+    if exported and len(exported) < 2000 and rng.random() < 0.5:
+        made = exported
+    else:
+        sites, items = rng.randint(1, SITES), rng.choice([1, 2, ITEMS])
+        count = rng.choice([0, 1, 2, 3, 5, RECORDS, RECORDS + 1]) if rng.random() < 0.05 else rng.choice([0, 1, 2, 3])
+        made = files.file_bytes(sites, items, [record(rng, sites, items) for _ in range(count)])
+    return damaged(rng, rng.choice([b"", b"", b"junk", rng.randbytes(40)]) + made)
+
+
+# ---- the script
+LETTERS = dict(set_up=b"p", commit=b"c", dummy=b"d", epoch=b"e", deliver=b"l", schedule=b"s")
+
+
+def line(call):
+    """The line of a script that makes a call."""
+    name, arguments = call[0], call[1:]
+    if name == "set_up":
+        sites, items, primaries, masks = arguments
+        numbers = [sites, items] + [n for pair in zip(primaries, masks) for n in pair]
+    elif name == "commit":
+        site, ops = arguments
+        texts = [b"r%d" % item if kind == 0 else b"w%d=%d" % (item, v) for kind, item, v in ops]
+        return b" ".join([b"c", b"%d" % site] + texts)
+    else:
+        numbers = arguments
+    return b" ".join([LETTERS[name]] + [b"%d" % n for n in numbers])
+
+
+ODD_NUMBERS = b"0 -0 00 01 +1 -1 255 256 2147483647 2147483648 -2147483648 -2147483649 4294967295 4294967296 99999999999".split(b" ") + [b""]
+
+
+def misspelt(rng, text):
+    text = bytearray(text)
+    for _ in range(rng.choice([1, 1, 2])):
+        at = rng.randint(0, len(text))
+        fault = rng.randrange(6)
+        numbers = list(re.finditer(rb"-?[0-9]+", text))
+        if fault >= 4 and numbers:
+            start, end = rng.choice(numbers).span()
+            text[start:end] = rng.choice(ODD_NUMBERS)
+        elif fault == 0:
+            text[at:at] = rng.choice([b" ", b"0", b"-", b"=", b"-0", b"r", b"w", b",", b"\x00", b"4294967296", b" " * 500])
+        elif fault == 1:
+            del text[at : at + 1]
+        elif fault == 2:
+            text[at : at + 1] = bytes([rng.choice(b" 0129-=rwpcdels\n\r\t\xff")])
+        else:
+            del text[at:]
+    return bytes(text)
+
+
+# ---- calls
+class Chooser:
+    """The next call of a run, by what the model holds."""
+
+    def __init__(self, seed):
+        self.rng = random.Random(seed)
+        mood = self.rng.choice(MOODS)
+        self.names, self.weights = list(mood), list(mood.values())
+        self.left = self.rng.choice([20, 100, 400, 800])
+        self.undo = []
+
+    def first(self):
+        return ("set_up",) + placement(self.rng)
+
+    def next(self, engine, words):
+        """A call, or None at the run's end; `words` gives those of the state, where they are wanted."""
+        self.left -= 1
+        if self.left < 0:
+            return None
+        if self.undo and self.rng.random() < 0.3:
+            return self.undo.pop()
+        if engine.network is None and not self.undo and self.rng.random() < 0.3:
+            return self.first()
+        name = self.rng.choices(self.names, self.weights)[0]
+        if name == "poke":
+            return self.poke(words())
+        return getattr(self, name)(engine)
+
+    def sizes(self, engine):
+        n = engine.network
+        return (n.sites, len(n.items)) if n else (3, 2)
+
+    def site(self, engine):
+        return below(self.rng, self.sizes(engine)[0])
+
+    def pair(self, engine):
+        """A parent and a child: a line, most often."""
+        lines = sorted(engine.network.lines) if engine.network else []
+        return self.rng.choice(lines) if lines and self.rng.random() < 0.95 else (self.site(engine), self.site(engine))
+
+    def set_up(self, engine):
+        made = placement(self.rng)
+        return ("set_up",) + (faulty(self.rng, *made) if self.rng.random() < 0.7 else made)
+
+    def commit(self, engine):
+        rng, n = self.rng, engine.network
+        site, (_, items) = self.site(engine), self.sizes(engine)
+        count = rng.choice([0, 9, 10, 100]) if rng.random() < 0.03 else rng.randint(1, OPERATIONS)
+        held = [x for x in range(items) if n and site < n.sites and n.has(site, x)] or [0]
+        owned = [x for x in held if n and n.items[x][0] == site]
+        ops = []
+        for _ in range(count):
+            if rng.random() < 0.02:
+                ops.append((rng.choice([0, 1, 2, 255, 256, U32]), below(rng, items, 0.5), value(rng)))
+            elif owned and rng.random() < 0.6:
+                ops.append((1, rng.choice(owned), value(rng)))
+            else:
+                ops.append((0, rng.choice(held), value(rng)))
+        return ("commit", site, tuple(ops))
+
+    def commit_lists(self, engine):
+        _, site, ops = self.commit(engine)
+        lists = [[kind % 256 for kind, _, _ in ops], [item for _, item, _ in ops], [v for _, _, v in ops]]
+        if self.rng.random() < 0.1:
+            one = self.rng.choice(lists)
+            one[-1:] = [] if self.rng.random() < 0.5 else [0, 0]
+        return ("commit_lists", site) + tuple(map(tuple, lists))
+
+    def dummy(self, engine):
+        return ("dummy", self.site(engine))
+
+    def epoch(self, engine):
+        n = engine.network
+        free = [i for i in range(n.sites) if not n.parents(i)] if n else []
+        site = self.rng.choice(free) if free and self.rng.random() < 0.8 else self.site(engine)
+        now = n.stamps[site][0] if n and site < n.sites else 0
+        near = [0, now, min(now + 1, U32), min(now + 1, U32), min(now + 7, U32), max(now - 1, 0)]
+        return ("epoch", site, self.rng.choice(near) if self.rng.random() < 0.9 else word(self.rng))
+
+    def likely(self, wanted, otherwise):
+        """One of those that are wanted, most often."""
+        return self.rng.choice(wanted) if wanted and self.rng.random() < 0.7 else otherwise
+
+    def deliver(self, engine):
+        n = engine.network
+        moving = sorted(line for line in n.lines if n.arrived[line] < len(n.held[line])) if n else []
+        return ("deliver",) + self.likely(moving, self.pair(engine))
+
+    def schedule(self, engine):
+        n = engine.network
+        inner = sorted({c for _, c in n.lines}) if n else []
+        ready = [j for j in inner if all(n.arrived[p, j] for p in n.parents(j))]
+        return ("schedule", self.likely(ready, self.likely(inner, self.site(engine))))
+
+    def waiting(self, engine):
+        return ("waiting", self.site(engine))
+
+    def table(self, engine):
+        return ("table", self.site(engine))
+
+    def stamp(self, engine):
+        return ("stamp", self.site(engine))
+
+    def line(self, engine):
+        return ("line",) + self.pair(engine)
+
+    def export(self, engine):
+        length = len(engine.export(10**6)[1])
+        return ("export", self.rng.choice([0, 15, 16, max(length - 1, 0), length, length, length + 7, 40000]))
+
+    def step(self, engine):
+        """A call that a line of a script can make."""
+        name = self.rng.choice(["set_up", "commit", "commit", "dummy", "epoch", "deliver", "deliver", "schedule", "schedule"])
+        return getattr(self, name)(engine)
+
+    def script(self, engine):
+        text = line(self.step(engine))
+        return ("script", misspelt(self.rng, text) if self.rng.random() < 0.4 else text)
+
+    def run(self, engine):
+        lines = [self.script(engine)[1] for _ in range(self.rng.choice([0, 1, 3, 10, 30]))]
+        return ("run", b"\n".join(lines) + self.rng.choice([b"", b"\n", b"\n\n"]))
+
+    def poke(self, words):
+        at, length = self.rng.choice(layout.parts(words))
+        place = at + self.rng.randrange(length)
+        now = words[place]
+        self.undo.append(("poke", place, now))
+        near = [(now + d) % 2**32 for d in (-1, 1, 2, 8)]
+        return ("poke", place, self.rng.choice(near) if self.rng.random() < 0.5 else word(self.rng))
+
+    def copy(self, engine):
+        return ("copy",)
+
+    def state(self, engine):
+        self.undo.clear()
+        rng = self.rng
+        return ("state", rng.randrange(2**32), rng.choice([0, 3, 20, 254, RECORDS]), rng.choice([0, 1, 3, HELD]))
+
+    def noise(self, engine):
+        self.undo.clear()
+        return ("noise", self.rng.randrange(2**32))
+
+    def file(self, engine):
+        data = file(self.rng, engine)
+        name = self.rng.choice(["read", "record", "records"])
+        return (name, data, below(self.rng, files.read(data)[3], 0.2)) if name == "record" else (name, data)
+
+    def record_from(self, engine):
+        data = file(self.rng, engine)
+        number, _, sites, items, found = files.examined(data)
+        if number:
+            part = data[: max(0, len(data) - files.TRAILER)]
+            starts, sites, items = [0], SITES, ITEMS
+        else:
+            part, starts = files.part(data), [0] + [end for _, end in found]
+        place = self.likely(starts, self.rng.choice([8, len(part), len(part) + 1, self.rng.randint(0, len(part))]))
+        return ("record_from", part, place, self.likely([sites], self.rng.choice([0, 1, 3, 9])), self.likely([items], self.rng.choice([0, 1, 2, 65])))
+
+    def compare(self, engine):
+        first = any_stamp(self.rng)
+        second = any_stamp(self.rng)
+        if self.rng.random() < 0.5:
+            # timestamps that share a front
+            cut = self.rng.randint(0, len(first[1]))
+            second = (first[0], (first[1][:cut] + second[1])[:SITES])
+        return ("compare", first, second)

@@ -1,0 +1,362 @@
+#!/usr/bin/env python3
+"""Plays random lists of calls on the compiled library, through the Python module, and on the model, and compares them call by call.
+
+    differential.py SECONDS [SEED]      runs of rising seeds for so many seconds
+    differential.py play FILE           the calls of a file, one to a line as a failure prints them
+
+Compared are: every field of every answer; every byte of the struct or buffer that was lent for it, unused places too; after a call that was refused or only looks, every
+word of the state; after the others, what the words mean. The first difference is printed with its seed and a list of calls that is as short as could be found; the exit
+status is then 1. The module is taken from target/gevrolen, where bindings/build puts it, or from GEVROLEN_FOLDER.
+"""
+import array
+import ast
+import collections
+import ctypes
+import os
+import pathlib
+import sys
+import tempfile
+import time
+
+import chosen
+import files
+import layout
+import model
+
+ROOT = pathlib.Path(__file__).resolve().parent.parent
+sys.path.insert(0, os.environ.get("GEVROLEN_FOLDER", str(ROOT / "target" / "gevrolen")))
+import gevrolen  # noqa: E402
+
+SHRINKING = 30  # seconds
+LOOKS = {"waiting", "table", "stamp", "line", "export", "read", "record", "records", "record_from", "compare"}
+POISON = 0xEE
+GUARD = bytes([POISON]) * 64
+
+
+# ---- what is lent to the library: full of poison, and looked at afterwards
+class Lent:
+    struct = None
+    buffer = None
+
+
+def poisoned(structure):
+    class Poisoned(structure):
+        def __init__(self, *fields):
+            ctypes.memset(ctypes.byref(self), POISON, ctypes.sizeof(self))
+            super().__init__(*fields)
+            Lent.struct = self
+
+    return Poisoned
+
+
+def poisoned_buffer(size):
+    Lent.buffer = (ctypes.c_char * (size + len(GUARD))).from_buffer(bytearray([POISON]) * (size + len(GUARD)))
+    return Lent.buffer
+
+
+for answer in ["_Stamp", "_Committed", "_Scheduled", "_Report", "_Table", "_Line", "_File", "_Record"]:
+    setattr(gevrolen, answer, poisoned(getattr(gevrolen, answer)))
+gevrolen._buffer = poisoned_buffer
+gevrolen._ANSWERS = 1000  # a run of some lines takes several calls then
+
+
+def padded(numbers, count):
+    return list(numbers) + [0] * (count - len(numbers))
+
+
+def stamp_words(stamp):
+    return [stamp[0], len(stamp[1])] + padded([n for one in stamp[1] for n in one], 2 * layout.SITES)
+
+
+# the words of the struct behind each call's answer, by the fields that the module made of it
+STRUCTS = {
+    "commit": lambda number, stamp, values: stamp_words(stamp) + [len(values)] + padded(values, layout.OPERATIONS),
+    "dummy": lambda number, stamp: stamp_words(stamp),
+    "schedule": lambda number, parent, stamp: [parent] + stamp_words(stamp),
+    "waiting": lambda number, items: [len(items)] + padded(items, layout.ITEMS),
+    "table": lambda number, values: [len(values)] + padded(values, layout.ITEMS),
+    "stamp": lambda number, stamp: stamp_words(stamp),
+    "line": lambda number, held, arrived: [held, arrived],
+    "read": lambda number, *fields: [half for n in fields for half in (n, n >> 32)],
+    "record": lambda number, site, stamp, ops: [site, len(ops)] + stamp_words(stamp) + padded([n for o in ops for n in o], 3 * layout.OPERATIONS),
+}
+STRUCTS["commit_lists"] = STRUCTS["commit"]
+
+
+def struct_bytes(name, fields):
+    return array.array("I", [n % 2**32 for n in STRUCTS[name](*fields)]).tobytes()
+
+
+# ---- one state in the library and in the model
+class Difference(Exception):
+    pass
+
+
+def expect(what, library, expected):
+    if library == expected:
+        return
+    if isinstance(expected, (bytes, list)) and isinstance(library, type(expected)):
+        place = next((k for k, pair in enumerate(zip(library, expected)) if pair[0] != pair[1]), min(len(library), len(expected)))
+        what, library, expected = "%s at %d of %d" % (what, place, len(expected)), library[place : place + 40], expected[place : place + 40]
+    raise Difference("%s: the library has %.1000r, the model %.1000r" % (what, library, expected))
+
+
+class Pair:
+    def __init__(self):
+        self.network = gevrolen.Network()
+        self.engine = model.Engine()
+        self.seen = collections.Counter()  # calls by name and number
+        self.count = 0
+
+    def words(self):
+        return array.array("I", bytes(self.network))
+
+    def load(self, data):
+        self.network = gevrolen.Network(data)
+        self.engine.take(layout.load(self.words()))
+
+    def play(self, call, thorough=True):
+        """Makes a call on both and compares; the meaning of the words after an accepted step only where that is asked for."""
+        name, arguments = call[0], call[1:]
+        self.count += 1
+        if name in ("poke", "state", "noise", "copy"):
+            return self.load(getattr(self, name)(*arguments))
+        before = bytes(self.network)
+        answer, expected = getattr(self, name, self.plain)(name, *arguments)
+        number = expected[0] if isinstance(expected, tuple) else 0
+        self.seen[name, number] += 1
+        expect("answer", answer, expected)
+        if name in STRUCTS:
+            expect("struct", bytes(Lent.struct), struct_bytes(name, answer))
+        if name in LOOKS or number:
+            if bytes(self.network) != before:
+                raise Difference("words: the call was refused or only looks, and changed some")
+        elif thorough:
+            self.compare_states()
+
+    def compare_states(self):
+        """What the words mean, part by part; of words that are no state nothing is asked."""
+        if self.engine.network:
+            meant = layout.load(self.words())
+            for part, expected in vars(self.engine.network).items():
+                expect(part, meant and getattr(meant, part), expected)
+
+    # ---- states made otherwise
+    def poke(self, place, word):
+        changed = self.words()
+        changed[place] = word
+        return changed.tobytes()
+
+    def state(self, seed, records, held):
+        laid = array.array("I", chosen.noise(seed))
+        layout.words(chosen.network(seed, records, held), laid)
+        return laid.tobytes()
+
+    def noise(self, seed):
+        return chosen.noise(seed)
+
+    def copy(self):
+        return bytes(self.network.copy())
+
+    # ---- what the library and the model answer
+    def plain(self, name, *arguments):
+        return tuple(getattr(self.network, name)(*arguments)), getattr(self.engine, name)(*arguments)
+
+    def waiting(self, name, site):
+        answer, expected = self.plain(name, site)
+        if len(set(answer[1])) == len(answer[1]) and frozenset(answer[1]) == expected[1]:
+            # the order is left open
+            expected = (expected[0], answer[1])
+        return answer, expected
+
+    def export(self, name, room):
+        answer, expected = self.plain(name, room)
+        after = expected[1] + bytes([POISON]) * (max(1, room) - len(expected[1])) + GUARD
+        expect("buffer", bytes(Lent.buffer), after)
+        return answer, expected
+
+    def script(self, name, text):
+        before = bytes(self.network)
+        answer = self.network.script(text)
+        self.guarded()
+        expected = self.engine.script(text)
+        if expected == b"?" or expected.isdigit() and expected != b"0":
+            expect("words", bytes(self.network) == before, True)
+        return answer, expected
+
+    def run(self, name, text):
+        answer = self.network.run(text)
+        self.guarded()
+        return answer, self.engine.run(text)
+
+    def guarded(self):
+        expect("bytes behind the buffer", bytes(Lent.buffer)[-len(GUARD) :], GUARD)
+
+    def read(self, name, data):
+        return tuple(gevrolen.read(data)), files.read(data)
+
+    def record(self, name, data, k):
+        return tuple(gevrolen.record(data, k)), files.record(data, k)
+
+    def records(self, name, data):
+        return [tuple(one)[1:] for one in gevrolen.records(data)], files.records(data)
+
+    def record_from(self, name, part, place, sites, items):
+        answer, after = gevrolen._Record(), ctypes.c_size_t(POISON)
+        number = gevrolen._library.record_from(part, len(part), place, sites, items, ctypes.byref(answer), ctypes.byref(after))
+        told, found = files.by_place(part, place, sites, items)
+        record, end = found or (files.NO_RECORD, 0)
+        fields = tuple(answer.value(number))
+        expect("struct", bytes(answer), struct_bytes("record", fields))
+        return fields + (after.value,), (told,) + record + (end,)
+
+    def compare(self, name, a, b):
+        return gevrolen.compare(a, b), model.order(a, b)
+
+
+def complaint(calls):
+    """What a list of calls differs in, in words, or None."""
+    pair = Pair()
+    for call in calls:
+        try:
+            pair.play(call)
+        except Difference as difference:
+            return "%s: %s" % (call[0], difference)
+    return None
+
+
+# ---- in a child, so that a library that dies does not take the test with it
+def apart(function, *arguments):
+    """What a function returns, as text, or how the process died in it."""
+    into, out = os.pipe()
+    child = os.fork()
+    if child == 0:
+        os.close(into)
+        try:
+            told = function(*arguments)
+        except BaseException as fault:  # told to the parent in words
+            told = "raised %r" % fault
+        with os.fdopen(out, "w") as pipe:
+            pipe.write(told or "")
+        os._exit(0)
+    os.close(out)
+    with os.fdopen(into) as pipe:
+        told = pipe.read()
+    status = os.waitpid(child, 0)[1]
+    return "the library died of signal %d" % os.WTERMSIG(status) if os.WIFSIGNALED(status) else told
+
+
+# ---- a short list of calls
+def smaller(thing):
+    """Things of the same kind that are simpler than a number, a list or a text."""
+    if isinstance(thing, bool) or isinstance(thing, str):
+        return
+    if isinstance(thing, int):
+        for other in (0, thing // 2, thing - 1):
+            if abs(other) < abs(thing):
+                yield other
+    elif isinstance(thing, (tuple, list, bytes)):
+        size = len(thing) // 2
+        while size:
+            for at in range(0, len(thing), size):
+                yield thing[:at] + thing[at + size :]
+            size //= 2
+        if not isinstance(thing, bytes):
+            for k, part in enumerate(thing):
+                for other in smaller(part):
+                    yield thing[:k] + type(thing)([other]) + thing[k + 1 :]
+
+
+def simpler(calls):
+    """Lists of calls that are shorter, or have a simpler argument."""
+    size = len(calls) // 2
+    while size:
+        for at in range(0, len(calls), size):
+            yield calls[:at] + calls[at + size :]
+        size //= 2
+    for k, call in enumerate(calls):
+        for n, argument in enumerate(call[1:], 1):
+            for other in smaller(argument):
+                yield calls[:k] + [call[:n] + (other,) + call[n + 1 :]] + calls[k + 1 :]
+
+
+def shrunk(calls):
+    """A list as short as could be found in the time, on which library and model still differ, and in what."""
+    until = time.monotonic() + SHRINKING
+    told = apart(complaint, calls)
+    if not told:
+        return calls, None
+    better = True
+    while better:
+        better = False
+        for other in simpler(calls):
+            if time.monotonic() > until:
+                break
+            said = apart(complaint, other)
+            if said and said.startswith("raised") == told.startswith("raised"):
+                calls, told, better = other, said, True
+                break
+    return calls, told
+
+
+# ---- runs
+def run(seed, pair, journal):
+    """The calls of a seed; each is written down before it is made."""
+    chooser = chosen.Chooser(seed)
+    call = chooser.first()
+    while call:
+        journal.write(repr(call) + "\n")
+        journal.flush()
+        pair.play(call, thorough=chooser.rng.random() < 0.1)
+        call = chooser.next(pair.engine, pair.words)
+    pair.compare_states()
+
+
+def runs(seconds, seed, path):
+    """Runs until the time is up. What differs is told in words, else nothing; the last run's seed and calls stand in the file."""
+    until = time.monotonic() + seconds
+    seen, calls, first = collections.Counter(), 0, seed
+    while time.monotonic() < until:
+        pair = Pair()
+        with open(path, "w") as journal:
+            journal.write("%d\n" % seed)
+            try:
+                run(seed, pair, journal)
+            except Difference as difference:
+                return str(difference)
+        seen += pair.seen
+        calls += pair.count
+        seed += 1
+    print("%d calls in %d runs: the library and the model agree" % (calls, seed - first), flush=True)
+    missing = set(range(26)) - {number for _, number in seen}
+    if missing and seconds >= 30:
+        return "no call answered %s: the runs do not reach what they should" % sorted(missing)
+    return None
+
+
+def calls_of(lines):
+    return [ast.literal_eval(line) for line in lines if line.strip()]
+
+
+def main():
+    if sys.argv[1] == "play":
+        told = complaint(calls_of(open(sys.argv[2])))
+        print(told or "no difference")
+        return 1 if told else 0
+    seconds, seed = int(sys.argv[1]), int(sys.argv[2]) if len(sys.argv) > 2 else time.time_ns() % 10**9
+    print("seed %d" % seed, flush=True)
+    with tempfile.NamedTemporaryFile() as journal:
+        told = apart(runs, seconds, seed, journal.name)
+        if not told:
+            return 0
+        last, *calls = open(journal.name).read().splitlines()
+    print("seed %s: %s" % (last, told), flush=True)
+    calls, told = shrunk(calls_of(calls))
+    print("# %s" % (told or "the calls alone show no difference"))
+    for call in calls:
+        print(repr(call))
+    return 1
+
+
+if __name__ == "__main__":
+    sys.exit(main())

@@ -1,0 +1,121 @@
+"""Where things stand in the words of a state: all that tests/ knows of it, as docs/ARCHITECTURE.md says it under 'The state'."""
+from limits import HELD, ITEMS, OPERATIONS, RECORDS, SITES
+from model import Network
+
+STAMP = 2 + 2 * SITES
+ITEM, SITE, MESSAGE, OPERATION = 2, STAMP + ITEMS, 1 + STAMP, 3
+LINE = 2 + HELD * MESSAGE
+RECORD = 2 + STAMP + OPERATIONS * OPERATION
+
+ITEMS_AT = 3
+SITES_AT = ITEMS_AT + ITEMS * ITEM
+LINES_AT = SITES_AT + SITES * SITE
+HISTORY_AT = LINES_AT + SITES * SITES * LINE
+WORDS = HISTORY_AT + RECORDS * RECORD
+
+DUMMY = RECORDS  # the name of a dummy: no record has this number, nor any above
+
+
+class BeyondRoom(Exception):
+    """A number that counts something is more than there is room for."""
+
+
+def counted(count, room):
+    if count > room:
+        raise BeyondRoom
+    return count
+
+
+def signed(word):
+    return word - 2**32 if word >> 31 else word
+
+
+# ---- reading: w are the words, each part is read from its place on
+def stamp_in(w, at):
+    end = at + 2 + 2 * counted(w[at + 1], SITES)
+    return (w[at], tuple(zip(w[at + 2 : end : 2], w[at + 3 : end : 2])))
+
+
+def message_in(w, at):
+    return w[at] if w[at] < DUMMY else stamp_in(w, at + 1)
+
+
+def held_in(w, at):
+    return [message_in(w, at + 2 + MESSAGE * k) for k in range(counted(w[at], HELD))]
+
+
+def record_in(w, at):
+    ops = at + 2 + STAMP
+    end = ops + OPERATION * counted(w[at + 1], OPERATIONS)
+    values = map(signed, w[ops + 2 : end : OPERATION])
+    return (w[at], stamp_in(w, at + 2), tuple(zip(w[ops:end:OPERATION], w[ops + 1 : end : OPERATION], values)))
+
+
+def load(w):
+    """The network that the words hold, well shaped or not; None where a number that counts something is more than there is room for."""
+    try:
+        sites, items, records = counted(w[0], SITES), counted(w[1], ITEMS), counted(w[2], RECORDS)
+        starts = [SITES_AT + SITE * i for i in range(sites)]
+        lines = {(p, c): LINES_AT + LINE * (SITES * p + c) for p in range(SITES) for c in range(SITES)}
+        return Network(
+            sites,
+            [(w[at], w[at + 1]) for at in range(ITEMS_AT, ITEMS_AT + ITEM * items, ITEM)],
+            [stamp_in(w, at) for at in starts],
+            [[signed(v) for v in w[at + STAMP : at + STAMP + items]] for at in starts],
+            {line: held_in(w, at) for line, at in lines.items()},
+            {line: w[at + 1] for line, at in lines.items()},
+            [record_in(w, HISTORY_AT + RECORD * k) for k in range(records)],
+        )
+    except BeyondRoom:
+        return None
+
+
+# ---- writing
+def lay(w, at, numbers):
+    for k, n in enumerate(numbers, at):
+        w[k] = n % 2**32
+
+
+def lay_stamp(w, at, stamp):
+    lay(w, at, [stamp[0], len(stamp[1])] + [n for t in stamp[1] for n in t])
+
+
+def words(network, w=None):
+    """The words of a network; those that mean nothing stay as they were in w, or are 0."""
+    w = [0] * WORDS if w is None else w
+    lay(w, 0, [network.sites, len(network.items), len(network.history)] + [n for item in network.items for n in item])
+    for i in range(network.sites):
+        lay_stamp(w, SITES_AT + SITE * i, network.stamps[i])
+        lay(w, SITES_AT + SITE * i + STAMP, network.tables[i])
+    for (p, c), messages in network.held.items():
+        at = LINES_AT + LINE * (SITES * p + c)
+        lay(w, at, [len(messages), network.arrived[p, c]])
+        for k, message in enumerate(messages):
+            dummy = isinstance(message, tuple)
+            lay(w, at + 2 + MESSAGE * k, [DUMMY if dummy else message])
+            if dummy:
+                lay_stamp(w, at + 3 + MESSAGE * k, message)
+    for k, (site, stamp, ops) in enumerate(network.history):
+        at = HISTORY_AT + RECORD * k
+        lay(w, at, [site, len(ops)])
+        lay_stamp(w, at + 2, stamp)
+        lay(w, at + 2 + STAMP, [n for op in ops for n in op])
+    return w
+
+
+# ---- where words mean something, for tests that change some
+def parts(w):
+    """Starts and lengths of parts that mean something, most of them small, so that one of them at random is often worth a change."""
+    sites, items, records = min(w[0], SITES), min(w[1], ITEMS), min(w[2], RECORDS)
+    found = [(0, 3), (ITEMS_AT, ITEM * items)]
+    found += [(SITES_AT + SITE * i, 2 + 2 * (i + 1)) for i in range(sites)]
+    found += [(SITES_AT + SITE * i + STAMP, items) for i in range(sites)]
+    for k in range(SITES * SITES):
+        at = LINES_AT + LINE * k
+        held = min(w[at], HELD)
+        if held:
+            found += [(at, 2), (at, 2), (at + 2, MESSAGE), (at + 2 + MESSAGE * (held - 1), MESSAGE)]
+    if records:
+        last = HISTORY_AT + RECORD * (records - 1)
+        found += [(HISTORY_AT, 2 + STAMP), (HISTORY_AT, RECORD), (last, 2 + STAMP), (last, RECORD)]
+    return [part for part in found if part[1]] + [(LINES_AT, HISTORY_AT - LINES_AT), (0, WORDS)]
