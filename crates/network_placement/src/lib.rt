@@ -41,7 +41,7 @@ pub fn is_site(state: &[u32], i: u32) -> bool
 }
 
 // ---- the items
-// Its words, two for each item.
+// Their words, two for each.
 pub fn placed(state: &[u32]) -> &[u32]
     requires { ⌜ length (now state) ≡ stateSize ⌝ }
     ensures { λ r. ⌜ now r ≡ part (now (state .entry)) itemsAt itemsSize ⌝ }
