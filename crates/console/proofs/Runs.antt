@@ -9,16 +9,16 @@ use lib.ListN.{length, take, drop, length-take, length-drop}
 use lib.Seq.{take-all, take-add}
 use borrow.Author.Tests.{le-leb}
 use Rattle.protocol.specs.Network.{Network}
-use Rattle.network_layout.specs.InWords.{meaning}
-use Rattle.console_lines.specs.declared.Held.{Held}
-use Rattle.console_lines.specs.declared.Progress.{Progress}
-use Rattle.console_lines.specs.Lines.{ending, clipMost, lineMost, Told, told, used}
-use Rattle.console_lines.specs.Promises.{heldOf, Fed}
-use Rattle.console_lines.proofs.Cutting.{andThen, told-append, told-none}
-use Rattle.console_lines.proofs.Feeding.{used-some, used-within, used-ending}
-use Rattle.console_lines.proofs.Steps.{partFrom, part-from}
+use Rattle.network_layout.specs.InWords.{shaped, meaning}
+use Rattle.console_blocks.specs.declared.Held.{Held}
+use Rattle.console_blocks.specs.declared.Progress.{Progress}
+use Rattle.console_notation.specs.Lines.{ending, clipMost, lineMost, Told, told, used}
+use Rattle.console_blocks.specs.Promises.{heldOf, Fed}
+use Rattle.console_notation.proofs.Cutting.{andThen, told-append, told-none}
+use Rattle.console_notation.proofs.Feeding.{used-some, used-within, used-ending}
+use Rattle.console_blocks.proofs.Steps.{partFrom, part-from}
 use Rattle.console.specs.declared.Run.{Run}
-use Rattle.console.specs.Runs.{Ran, Went, Passed, Closed}
+use Rattle.console.specs.Runs.{Ran, Began, Went, Passed, Closed}
 
 -- where a run has ended nothing is asked of what is held
 ended : {A : Type 0} → false ≡ true → A
@@ -64,31 +64,31 @@ module _ {block line entry mid exit out₀ out : List ℕ} {u : ℕ} {h : Held} 
       }
 
 -- it ends there
-pub reached-end : {block line entry exit : List ℕ} {u : ℕ} {h : Held} {well : Bool} → Reached block line entry exit u h → Passed block line entry exit (record { held = h; more = false; well = well })
-reached-end {block} {u = u} w = record { went = record { bytes = take u block; after-is = w .after-is; held-is = λ e. w .held-is }; whole = ended }
+pub reached-end : {block line entry exit : List ℕ} {u : ℕ} {h : Held} {formed well : Bool} → Reached block line entry exit u h → Passed block line entry exit (record { held = h; formed = formed; more = false; well = well })
+reached-end {block} {u = u} w = record { went = record { bytes = take u block; after-is = w .after-is; held-is = λ e. w .held-is; formed-is = ended }; whole = ended }
 
 -- all of it
-pub reached-all : {block line entry exit : List ℕ} {u : ℕ} {h : Held} {well : Bool} → length block ≤ u → Reached block line entry exit u h → Passed block line entry exit (record { held = h; more = true; well = well })
-reached-all {block} {u = u} g w = record { went = record { bytes = take u block; after-is = w .after-is; held-is = λ e. w .held-is }; whole = λ e. take-all u block g }
+pub reached-all : {block line entry exit : List ℕ} {u : ℕ} {h : Held} {formed well : Bool} → length block ≤ u → formed ≡ shaped exit → Reached block line entry exit u h → Passed block line entry exit (record { held = h; formed = formed; more = true; well = well })
+reached-all {block} {u = u} g f w = record { went = record { bytes = take u block; after-is = w .after-is; held-is = λ e. w .held-is; formed-is = λ e. f }; whole = λ e. take-all u block g }
 
 -- ---- the end of a script
-pub closed : {line entry exit out₀ out : List ℕ} {r : Progress} {h : Held} {well : Bool} → lineMost ≤ length out₀ → Fed (ending line) line entry exit out₀ out 0 r → Closed line entry exit (record { held = h; more = false; well = well })
+pub closed : {line entry exit out₀ out : List ℕ} {r : Progress} {h : Held} {formed well : Bool} → lineMost ≤ length out₀ → Fed (ending line) line entry exit out₀ out 0 r → Closed line entry exit (record { held = h; formed = formed; more = false; well = well })
 closed {line} {entry} {exit} {out₀} {out} {r} k f =
     let all : take (r .used) (ending line) ≡ ending line
     = take-all (r .used) (ending line) (omega (arith, f .used-is, used-ending (meaning entry) (length out₀) 0 (le-leb (0 + lineMost) (length out₀) (omega arith)) line)) in
     record {
-      went = record { bytes = ending line; after-is = f .effect .after-is ∙ ap (λ (l : List ℕ). told (meaning entry) line l .after) all; held-is = ended };
+      went = record { bytes = ending line; after-is = f .effect .after-is ∙ ap (λ (l : List ℕ). told (meaning entry) line l .after) all; held-is = ended; formed-is = ended };
       whole = refl;
     }
 
 -- ---- one turn behind another
 pub went-none : {line entry : List ℕ} {r : Run} → r .more ≡ false → Went line entry entry r
-went-none {line} {entry} e = record { bytes = []; after-is = ap (λ (o : Told). o .after) (sym (told-none (meaning entry) line)); held-is = λ f. ended (sym e ∙ f) }
+went-none {line} {entry} e = record { bytes = []; after-is = ap (λ (o : Told). o .after) (sym (told-none (meaning entry) line)); held-is = λ f. ended (sym e ∙ f); formed-is = λ f. ended (sym e ∙ f) }
 
-pub went-first : {entry : List ℕ} {r : Run} → heldOf (r .held) ≡ [] → Went [] entry entry r
-went-first {entry} e =
+pub went-first : {entry : List ℕ} {r : Run} → Began entry r → Went [] entry entry r
+went-first {entry} b =
     let t = told-none (meaning entry) [] in
-    record { bytes = []; after-is = ap (λ (o : Told). o .after) (sym t); held-is = λ f. e ∙ ap (λ (o : Told). o .held) (sym t) }
+    record { bytes = []; after-is = ap (λ (o : Told). o .after) (sym t); held-is = λ f. b .held-is ∙ ap (λ (o : Told). o .held) (sym t); formed-is = λ f. b .formed-is }
 
 pub went-then : {line entry mid exit : List ℕ} {r q : Run} → Went line entry mid r → r .more ≡ true → Went (heldOf (r .held)) mid exit q → Went line entry exit q
 went-then {line} {entry} {mid} {exit} {r} {q} w o v =
@@ -100,6 +100,7 @@ went-then {line} {entry} {mid} {exit} {r} {q} w o v =
       bytes = w .bytes ++ v .bytes;
       after-is = v .after-is ∙ ap (λ (z : Told). z .after) (sym all);
       held-is = λ e. v .held-is e ∙ ap (λ (z : Told). z .held) (sym all);
+      formed-is = v .formed-is;
     }
 
 pub ran : {entry exit : List ℕ} {r : Run} → Went [] entry exit r → Ran entry exit

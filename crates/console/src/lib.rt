@@ -1,21 +1,24 @@
 // Scripts from a file descriptor, their answers to another: a block is read, its lines are answered, and the answers are written before the next is read.
-pub use console_lines::Held;
-pub use console_lines::Progress;
-pub use console_lines::feed;
-pub use console_lines::finish;
-pub use console_lines::nothing;
+pub use console_blocks::Held;
+pub use console_blocks::Progress;
+pub use console_blocks::feed;
+pub use console_blocks::finish;
+pub use console_blocks::nothing;
 use network::WORDS;
 ghost use mathlib.Core.Path.{_≡_};
 ghost use mathlib.Core.List.{[]};
 ghost use Prim.Native.Nat.{_≤_};
 ghost use lib.ListN.{length};
-ghost use Rattle.console_lines.specs.Lines.{lineMost};
-ghost use Rattle.console_lines.specs.Promises.{heldOf};
-ghost use Rattle.console.specs.Runs.{Ran, Went, Passed, Closed};
+ghost use Rattle.network_layout.specs.InWords.{shaped};
+ghost use Rattle.console_notation.specs.Lines.{lineMost};
+ghost use Rattle.console_blocks.specs.Promises.{heldOf};
+ghost use Rattle.console.specs.Runs.{Ran, Began, Went, Passed, Closed, Replying};
 
-// What is held of a line where the run goes on, whether it does, and whether everything was read and written so far.
+// What is held of a line where the run goes on, whether the words are then those of a network, whether it goes on, and whether everything was read and
+// written so far.
 pub struct Run {
     pub held: Held,
+    pub formed: bool,
     pub more: bool,
     pub well: bool,
 }
@@ -27,7 +30,7 @@ pub fn run_on(state: &mut [u32; WORDS], from: i32, out: i32) -> bool
 {
     let mut block = [0u8; 65536];
     let mut answers = [0u8; 65536];
-    let mut at = begun();
+    let mut at = begun(state);
     // Nothing says that an input ends, so the turns are counted down, from a number that no run uses up.
     let mut turns = u64::MAX;
     while turns > 0 {
@@ -35,17 +38,19 @@ pub fn run_on(state: &mut [u32; WORDS], from: i32, out: i32) -> bool
             return at.well;
         }
         let held = at.held;
-        at = turn(held, state, &mut block, &mut answers, from, out);
+        at = turn(held, at.formed, state, &mut block, &mut answers, from, out);
         turns -= 1;
     }
     false
 }
 
-fn begun() -> Run
-    ensures { λ r. ⌜ heldOf (r .held) ≡ [] ⌝ }
+// The state is tested here, and nowhere else in a run but at its end.
+fn begun(state: &[u32; WORDS]) -> Run
+    ensures { λ r. ⌜ Began (now (state .entry)) r ⌝ }
 {
     Run {
         held: nothing(),
+        formed: network::well_shaped(state),
         more: true,
         well: true,
     }
@@ -54,19 +59,21 @@ fn begun() -> Run
 // A block is read and answered; where the input ends, the line that is held.
 fn turn(
     held: Held,
+    formed: bool,
     state: &mut [u32; WORDS],
     block: &mut [u8],
     answers: &mut [u8],
     from: i32,
     out: i32,
 ) -> Run
-    requires { ⌜ lineMost ≤ length (now answers) ⌝ }
+    requires { ⌜ Replying (now state) formed (now answers) ⌝ }
     ensures { λ r. ⌜ Went (heldOf held) (now (state .entry)) (now (state .exit)) r ⌝ }
 {
     let got = fetch(from, block);
     if got < 0 {
         return Run {
             held,
+            formed,
             more: false,
             well: false,
         };
@@ -75,7 +82,7 @@ fn turn(
     if n == 0 {
         return last(held, state, answers, out);
     }
-    reply(&block[..n], held, state, answers, out)
+    reply(&block[..n], held, formed, state, answers, out)
 }
 
 // A line that is cut off by a failure is not answered: its first bytes may stand for another call.
@@ -88,20 +95,30 @@ fn fetch(from: i32, block: &mut [u8]) -> isize {
 }
 
 // The lines of a block; where the answers fill their buffer, they are written and it goes on.
-fn reply(block: &[u8], held: Held, state: &mut [u32; WORDS], answers: &mut [u8], out: i32) -> Run
-    requires { ⌜ lineMost ≤ length (now answers) ⌝ }
+fn reply(
+    block: &[u8],
+    held: Held,
+    formed: bool,
+    state: &mut [u32; WORDS],
+    answers: &mut [u8],
+    out: i32,
+) -> Run
+    requires { ⌜ Replying (now state) formed (now answers) ⌝ }
     ensures { λ r. ⌜ Passed (now (block .entry)) (heldOf held) (now (state .entry)) (now (state .exit)) r ⌝ }
 {
     let mut line = held;
+    let mut known = formed;
     let mut used = 0;
     while used < block.len() {
-        let r = feed(&block[used..], line, state, answers, 0);
+        let r = console_blocks::feed_on(&block[used..], line, state, known, answers, 0);
         line = r.held;
+        known = r.formed;
         used += r.used;
         let n = r.filled;
         if !written(out, &answers[..n]) {
             return Run {
                 held: line,
+                formed: known,
                 more: false,
                 well: false,
             };
@@ -109,6 +126,7 @@ fn reply(block: &[u8], held: Held, state: &mut [u32; WORDS], answers: &mut [u8],
     }
     Run {
         held: line,
+        formed: known,
         more: true,
         well: true,
     }
@@ -124,6 +142,7 @@ fn last(held: Held, state: &mut [u32; WORDS], answers: &mut [u8], out: i32) -> R
     let n = r.filled;
     Run {
         held: line,
+        formed: false,
         more: false,
         well: written(out, &answers[..n]),
     }

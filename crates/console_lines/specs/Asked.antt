@@ -1,16 +1,12 @@
--- What the functions that print answers into a buffer ask.
+-- What is asked where a line is answered: that it is known whether the words are those of a network, and room for the longest answer and its newline.
+use mathlib.Core.Path.{_≡_}
+use mathlib.Core.Bool.{Bool}
 use mathlib.Core.List.{List}
 use Prim.Native.Nat.{ℕ, _+_, _≤_}
 use lib.ListN.{length}
-use Rattle.console_lines.specs.declared.Held.{Held}
-use Rattle.console_lines.specs.Lines.{clipMost, lineMost}
+use Rattle.network_layout.specs.InWords.{shaped}
+use Rattle.console_notation.specs.Lines.{lineMost}
 
--- a line that is held whole, and room for the longest answer
-pub record HeldWithRoom (held : Held) (out : List ℕ) (at : ℕ) : Type 0 where
-  pub whole : held .count ≤ clipMost
+pub record Collecting (w : List ℕ) (formed : Bool) (out : List ℕ) (at : ℕ) : Type 0 where
+  pub formed-is : formed ≡ shaped w
   pub room : at + lineMost ≤ length out
-
--- n bytes that are there, and room for them
-pub record RoomFor (from : List ℕ) (n : ℕ) (out : List ℕ) (at : ℕ) : Type 0 where
-  pub there : n ≤ length from
-  pub room : at + n ≤ length out

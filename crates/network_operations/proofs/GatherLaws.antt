@@ -17,7 +17,7 @@ use Rattle.network_operations.specs.declared.Gathered.{Gathered}
 use Rattle.protocol.specs.Network.{Network}
 use Rattle.lists.specs.Numbers.{numberIf}
 use Rattle.protocol.specs.Steps.{noSuchSite, wrongLists, commitCauses, commitNumber, opsOf}
-use Rattle.protocol.specs.Calls.{Outcome, commit, refused, perform}
+use Rattle.protocol.specs.Calls.{Call, Outcome, commit, refused, perform}
 use Rattle.network_layout.specs.InWords.{meaning}
 use Rattle.network_operations.specs.Gathered.{kindFields, itemFields, valueFields, operationsCall, gatheredMost, Gathers}
 use Rattle.network_layout.specs.Promises.{Performed}
@@ -74,25 +74,30 @@ long-outcome : (s : Option Network) → ℕ → Outcome
 long-outcome none i = refused 6 none
 long-outcome (some n) i = refused (long-number n i) (some n)
 
-performs-long : (s : Option Network) (i : ℕ) (os : List Operation) → 8 < length os → perform s (operationsCall i os) ≡ long-outcome s i
-unfolding perform long-outcome
-performs-long none i os h = refl
-performs-long (some n) i os h =
-    let e = long-refused n i (kindFields os) (itemFields os) (valueFields os) (omega (arith, h, length-map os (λ (o : Operation). o .kind))) in
-    rw (e, ne-eqb (long-number n i) 0 (not-none (noSuchSite n i)))
-  where
-    not-none : (b : Bool) → _≡_ {A = ℕ} (cond b 7 8) 0 → ⊥
-    not-none true z = omega (arith, z)
-    not-none false z = omega (arith, z)
+-- of elements of any type, by their three fields
+module _ {A : Type 0} (kind item : A → ℕ) (value : A → ℤ) where
+  abbrev callOf : ℕ → List A → Call
+  callOf i os = commit i (map kind os) (map item os) (map value os)
 
-nine-for-all : (s : Option Network) (i : ℕ) (os : List Operation) → perform s (operationsCall i (take gatheredMost os)) ≡ perform s (operationsCall i os)
-nine-for-all s i os = go (ltb 8 (length os)) refl
-  where
-    go : (b : Bool) → ltb 8 (length os) ≡ b → perform s (operationsCall i (take gatheredMost os)) ≡ perform s (operationsCall i os)
-    go true e =
-        let h : 8 < length os = ltb-true 8 (length os) e in
-        performs-long s i (take gatheredMost os) (omega (arith, h, length-take gatheredMost os)) ∙ sym (performs-long s i os h)
-    go false e = let h : length os ≤ 8 = ltb-false 8 (length os) e in ap (λ (xs : List Operation). perform s (operationsCall i xs)) (take-all gatheredMost os (omega (arith, h)))
+  performs-long : (s : Option Network) (i : ℕ) (os : List A) → 8 < length os → perform s (callOf i os) ≡ long-outcome s i
+  unfolding perform long-outcome
+  performs-long none i os h = refl
+  performs-long (some n) i os h =
+      let e = long-refused n i (map kind os) (map item os) (map value os) (omega (arith, h, length-map os kind)) in
+      rw (e, ne-eqb (long-number n i) 0 (not-none (noSuchSite n i)))
+    where
+      not-none : (b : Bool) → _≡_ {A = ℕ} (cond b 7 8) 0 → ⊥
+      not-none true z = omega (arith, z)
+      not-none false z = omega (arith, z)
+
+  pub nine-for-all : (s : Option Network) (i : ℕ) (os : List A) → perform s (callOf i (take gatheredMost os)) ≡ perform s (callOf i os)
+  nine-for-all s i os = go (ltb 8 (length os)) refl
+    where
+      go : (b : Bool) → ltb 8 (length os) ≡ b → perform s (callOf i (take gatheredMost os)) ≡ perform s (callOf i os)
+      go true e =
+          let h : 8 < length os = ltb-true 8 (length os) e in
+          performs-long s i (take gatheredMost os) (omega (arith, h, length-take gatheredMost os)) ∙ sym (performs-long s i os h)
+      go false e = let h : length os ≤ 8 = ltb-false 8 (length os) e in ap (λ (xs : List A). perform s (callOf i xs)) (take-all gatheredMost os (omega (arith, h)))
 
 module _ (site : ℕ) (os : List Operation) (g : Gathered) (e : Gathers (take gatheredMost os) g) where
   -- the commit of what is gathered is that of all operations
@@ -108,4 +113,4 @@ module _ (site : ℕ) (os : List Operation) (g : Gathered) (e : Gathers (take ga
   }
     where
       same : perform (meaning w) (commit site (take (g .count) (g .kinds)) (take (g .count) (g .items)) (take (g .count) (g .values))) ≡ perform (meaning w) (operationsCall site os)
-      same = (λ i. perform (meaning w) (commit site (e .kinds-are i) (e .items-are i) (e .values-are i))) ∙ nine-for-all (meaning w) site os
+      same = (λ i. perform (meaning w) (commit site (e .kinds-are i) (e .items-are i) (e .values-are i))) ∙ nine-for-all (λ (o : Operation). o .kind) (λ (o : Operation). o .item) (λ (o : Operation). o .value) (meaning w) site os

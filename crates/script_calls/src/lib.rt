@@ -1,67 +1,132 @@
-// The calls by their letters: the fields behind the letter parsed, the call made, its answer printed.
-use network::WORDS;
-use script_notation::ANSWER;
+// The calls by their letters: the fields behind the letter parsed, the call made, its answer printed. No words are tested: whether they are those of a
+// network is known before a call, and answered for the words after it.
+use network_layout::WORDS;
+use script_notation::Reply;
+use script_parsing::KEPT;
+ghost use mathlib.Core.Path.{_≡_};
+ghost use mathlib.Core.Bool.{true, cond};
+ghost use mathlib.Core.List.{_∷_, []};
 ghost use mathlib.Core.Option.{some};
-ghost use Prim.Native.Nat.{_≤_};
+ghost use Prim.Native.Nat.{_+_, _≤_};
+ghost use lib.Dec.{eqb};
 ghost use lib.ListN.{length};
-ghost use Rattle.decimal.specs.Decimal.{natural};
-ghost use Rattle.protocol.specs.Calls.{dummy as dummyCall, epoch as epochCall, deliver as deliverCall, schedule as scheduleCall};
+ghost use Rattle.decimal.specs.Decimal.{natural, digits};
+ghost use Rattle.protocol.specs.Network.{noStamp};
+ghost use Rattle.network_layout.specs.InWords.{shaped};
+ghost use Rattle.network_layout.specs.Promises.{Performed};
 ghost use Rattle.script_notation.specs.Fields.{fieldsFrom};
-ghost use Rattle.script_notation.specs.Parse.{all, on, one, two, setUpOf, commitOf, commitWith, operation, longest};
-ghost use Rattle.script_notation.specs.Answers.{Replied};
-ghost use Rattle.script_calls.specs.Asked.{SetUpNumbers, BehindSite};
+ghost use Rattle.script_notation.specs.Print.{answerMost};
+ghost use Rattle.script_notation.specs.Parse.{all, on, one, two, setUpOf, commitOf, commitWith, operation};
+ghost use Rattle.script_notation.specs.Answers.{RepliedAt, Calling, Answered, Said};
+ghost use Rattle.script_calls.specs.Chosen.{siteCall, pairCall};
+ghost use Rattle.script_calls.specs.Asked.{SettingUp, OnNetwork};
 
-pub fn set_up(text: &[u8], state: &mut [u32; WORDS], out: &mut [u8; ANSWER]) -> usize
-    requires { ⌜ length (now text) ≤ longest ⌝ }
-    ensures { λ r. ⌜ Replied (on (all natural (fieldsFrom (now (text .entry)) 2)) setUpOf) (now (state .entry)) (now (state .exit)) (now (out .entry)) (now (out .exit)) r ⌝ }
+// A question mark, for what is no call.
+pub fn question(formed: bool, out: &mut [u8], at: usize) -> Reply
+    requires { ⌜ at + answerMost ≤ length (now out) ⌝ }
+    ensures { λ r. ⌜ Said (63 ∷ []) formed (now (out .entry)) (now (out .exit)) at r ⌝ }
+{
+    Reply {
+        end: script_printing::question(out, at),
+        formed,
+    }
+}
+
+// The number of a call that needs a network, on the words of none.
+fn no_network(formed: bool, out: &mut [u8], at: usize) -> Reply
+    requires { ⌜ at + answerMost ≤ length (now out) ⌝ }
+    ensures { λ r. ⌜ Said (digits 6) formed (now (out .entry)) (now (out .exit)) at r ⌝ }
+{
+    Reply {
+        end: script_printing::number(out, at, 6),
+        formed,
+    }
+}
+
+// ---- set-up
+pub fn set_up(
+    text: &[u8],
+    state: &mut [u32; WORDS],
+    formed: bool,
+    out: &mut [u8],
+    at: usize,
+) -> Reply
+    requires { ⌜ Calling (now text) (now state) formed (now out) at ⌝ }
+    ensures { λ r. ⌜ Answered (on (all natural (fieldsFrom (now (text .entry)) 2)) setUpOf) (now (state .entry)) (now (state .exit)) (now (out .entry)) (now (out .exit)) at r ⌝ }
 {
     let mut list = [0u32; 256];
     let n = script_parsing::numbers(text, 2, &mut list);
     if !n.ok {
-        return script_printing::question(out);
+        return question(formed, out, at);
     }
     let count = n.count;
     if count < 2 {
-        return script_printing::question(out);
+        return question(formed, out, at);
     }
-    set_up_numbers(&list[..count], state, out)
+    set_up_numbers(&list[..count], state, formed, out, at)
 }
 
 // A set-up of the numbers of its line.
-fn set_up_numbers(list: &[u32], state: &mut [u32; WORDS], out: &mut [u8; ANSWER]) -> usize
-    requires { ⌜ SetUpNumbers (now list) ⌝ }
-    ensures { λ r. ⌜ Replied (setUpOf (now (list .entry))) (now (state .entry)) (now (state .exit)) (now (out .entry)) (now (out .exit)) r ⌝ }
+fn set_up_numbers(
+    list: &[u32],
+    state: &mut [u32; WORDS],
+    formed: bool,
+    out: &mut [u8],
+    at: usize,
+) -> Reply
+    requires { ⌜ SettingUp (now list) (now state) formed (now out) at ⌝ }
+    ensures { λ r. ⌜ Answered (setUpOf (now (list .entry))) (now (state .entry)) (now (state .exit)) (now (out .entry)) (now (out .exit)) at r ⌝ }
 {
     let mut primaries = [0u32; 128];
     let mut masks = [0u8; 128];
     let n = script_parsing::items(&list[2..], &mut primaries, &mut masks);
     if !n.ok {
-        return script_printing::question(out);
+        return question(formed, out, at);
     }
     let count = n.count;
-    let number = network::set_up(
+    let number = network_set_up::set_up(
         state,
         list[0],
         list[1],
         &primaries[..count],
         &masks[..count],
     );
-    script_printing::number(out, number)
+    Reply {
+        end: script_printing::number(out, at, number),
+        formed: formed_then(number, formed),
+    }
 }
 
-pub fn commit(text: &[u8], state: &mut [u32; WORDS], out: &mut [u8; ANSWER]) -> usize
-    requires { ⌜ length (now text) ≤ longest ⌝ }
-    ensures { λ r. ⌜ Replied (commitOf (fieldsFrom (now (text .entry)) 2)) (now (state .entry)) (now (state .exit)) (now (out .entry)) (now (out .exit)) r ⌝ }
+// An accepted set-up makes the words those of a network.
+fn formed_then(number: u32, formed: bool) -> bool
+    ensures { λ r. ⌜ r ≡ cond (eqb number 0) true formed ⌝ }
+{
+    if number == 0 {
+        return true;
+    }
+    formed
+}
+
+// ---- commit
+pub fn commit(
+    text: &[u8],
+    state: &mut [u32; WORDS],
+    formed: bool,
+    out: &mut [u8],
+    at: usize,
+) -> Reply
+    requires { ⌜ Calling (now text) (now state) formed (now out) at ⌝ }
+    ensures { λ r. ⌜ Answered (commitOf (fieldsFrom (now (text .entry)) 2)) (now (state .entry)) (now (state .exit)) (now (out .entry)) (now (out .exit)) at r ⌝ }
 {
     if text.len() < 2 {
-        return script_printing::question(out);
+        return question(formed, out, at);
     }
     let end = script_parsing::find(text, 2, 32);
     let site = decimal::natural(&text[2..end]);
     if !site.ok {
-        return script_printing::question(out);
+        return question(formed, out, at);
     }
-    commit_at(site.value, text, end + 1, state, out)
+    commit_at(site.value, text, end + 1, state, formed, out, at)
 }
 
 // A commit at a site, its operations from a place on.
@@ -70,73 +135,116 @@ fn commit_at(
     text: &[u8],
     from: usize,
     state: &mut [u32; WORDS],
-    out: &mut [u8; ANSWER],
-) -> usize
-    requires { ⌜ BehindSite (now text) from ⌝ }
-    ensures { λ r. ⌜ Replied (on (all operation (fieldsFrom (now (text .entry)) from)) (λ os. some (commitWith site os))) (now (state .entry)) (now (state .exit)) (now (out .entry)) (now (out .exit)) r ⌝ }
+    formed: bool,
+    out: &mut [u8],
+    at: usize,
+) -> Reply
+    requires { ⌜ Calling (now text) (now state) formed (now out) at ⌝ }
+    ensures { λ r. ⌜ Answered (on (all operation (fieldsFrom (now (text .entry)) from)) (λ os. some (commitWith site os))) (now (state .entry)) (now (state .exit)) (now (out .entry)) (now (out .exit)) at r ⌝ }
 {
-    let mut kinds = [0u8; 170];
-    let mut items = [0u32; 170];
-    let mut values = [0i32; 170];
+    let mut kinds = [0u8; KEPT];
+    let mut items = [0u32; KEPT];
+    let mut values = [0i32; KEPT];
     let n = script_parsing::operations(text, from, &mut kinds, &mut items, &mut values);
     if !n.ok {
-        return script_printing::question(out);
+        return question(formed, out, at);
+    }
+    if !formed {
+        return no_network(formed, out, at);
     }
     let count = n.count;
-    let answer = network::commit(
+    let answer = network_commit::commit_on(
         state,
         site,
         &kinds[..count],
         &items[..count],
         &values[..count],
     );
-    script_printing::committed(out, answer)
+    Reply {
+        end: script_printing::committed(out, at, answer),
+        formed,
+    }
 }
 
-pub fn dummy(text: &[u8], state: &mut [u32; WORDS], out: &mut [u8; ANSWER]) -> usize
-    requires { ⌜ length (now text) ≤ longest ⌝ }
-    ensures { λ r. ⌜ Replied (on (all natural (fieldsFrom (now (text .entry)) 2)) (one dummyCall)) (now (state .entry)) (now (state .exit)) (now (out .entry)) (now (out .exit)) r ⌝ }
+// ---- calls of one number
+// A schedule, or a dummy, at the site behind the letter.
+pub fn at_site(
+    schedules: bool,
+    text: &[u8],
+    state: &mut [u32; WORDS],
+    formed: bool,
+    out: &mut [u8],
+    at: usize,
+) -> Reply
+    requires { ⌜ Calling (now text) (now state) formed (now out) at ⌝ }
+    ensures { λ r. ⌜ Answered (on (all natural (fieldsFrom (now (text .entry)) 2)) (one (siteCall schedules))) (now (state .entry)) (now (state .exit)) (now (out .entry)) (now (out .exit)) at r ⌝ }
 {
-    let mut list = [0u32; 256];
-    if !script_parsing::exactly(text, 1, &mut list) {
-        return script_printing::question(out);
+    let site = script_parsing::one_number(text);
+    if !site.ok {
+        return question(formed, out, at);
     }
-    let answer = network::dummy(state, list[0]);
-    script_printing::dummied(out, answer)
+    if !formed {
+        return no_network(formed, out, at);
+    }
+    Reply {
+        end: at_site_on(schedules, site.value, state, out, at),
+        formed,
+    }
 }
 
-pub fn schedule(text: &[u8], state: &mut [u32; WORDS], out: &mut [u8; ANSWER]) -> usize
-    requires { ⌜ length (now text) ≤ longest ⌝ }
-    ensures { λ r. ⌜ Replied (on (all natural (fieldsFrom (now (text .entry)) 2)) (one scheduleCall)) (now (state .entry)) (now (state .exit)) (now (out .entry)) (now (out .exit)) r ⌝ }
+// The call on the words of a network.
+fn at_site_on(
+    schedules: bool,
+    site: u32,
+    state: &mut [u32; WORDS],
+    out: &mut [u8],
+    at: usize,
+) -> usize
+    requires { ⌜ OnNetwork (now state) (now out) at ⌝ }
+    ensures { λ r. ⌜ RepliedAt (some (siteCall schedules site)) (now (state .entry)) (now (state .exit)) (now (out .entry)) (now (out .exit)) at r ⌝ }
 {
-    let mut list = [0u32; 256];
-    if !script_parsing::exactly(text, 1, &mut list) {
-        return script_printing::question(out);
+    if schedules {
+        let scheduled = network_schedule::schedule_on(state, site);
+        return script_printing::scheduled(out, at, scheduled);
     }
-    let answer = network::schedule(state, list[0]);
-    script_printing::scheduled(out, answer)
+    let dummied = network_dummy::dummy_on(state, site);
+    script_printing::dummied(out, at, dummied)
 }
 
-pub fn epoch(text: &[u8], state: &mut [u32; WORDS], out: &mut [u8; ANSWER]) -> usize
-    requires { ⌜ length (now text) ≤ longest ⌝ }
-    ensures { λ r. ⌜ Replied (on (all natural (fieldsFrom (now (text .entry)) 2)) (two epochCall)) (now (state .entry)) (now (state .exit)) (now (out .entry)) (now (out .exit)) r ⌝ }
+// ---- calls of two numbers
+// A deliver, or an epoch, of the two numbers behind the letter.
+pub fn of_two(
+    delivers: bool,
+    text: &[u8],
+    state: &mut [u32; WORDS],
+    formed: bool,
+    out: &mut [u8],
+    at: usize,
+) -> Reply
+    requires { ⌜ Calling (now text) (now state) formed (now out) at ⌝ }
+    ensures { λ r. ⌜ Answered (on (all natural (fieldsFrom (now (text .entry)) 2)) (two (pairCall delivers))) (now (state .entry)) (now (state .exit)) (now (out .entry)) (now (out .exit)) at r ⌝ }
 {
-    let mut list = [0u32; 256];
-    if !script_parsing::exactly(text, 2, &mut list) {
-        return script_printing::question(out);
+    let pair = script_parsing::two_numbers(text);
+    if !pair.ok {
+        return question(formed, out, at);
     }
-    let number = network::epoch(state, list[0], list[1]);
-    script_printing::number(out, number)
+    if !formed {
+        return no_network(formed, out, at);
+    }
+    let number = of_two_on(delivers, pair.first, pair.second, state);
+    Reply {
+        end: script_printing::number(out, at, number),
+        formed,
+    }
 }
 
-pub fn deliver(text: &[u8], state: &mut [u32; WORDS], out: &mut [u8; ANSWER]) -> usize
-    requires { ⌜ length (now text) ≤ longest ⌝ }
-    ensures { λ r. ⌜ Replied (on (all natural (fieldsFrom (now (text .entry)) 2)) (two deliverCall)) (now (state .entry)) (now (state .exit)) (now (out .entry)) (now (out .exit)) r ⌝ }
+// The call on the words of a network.
+fn of_two_on(delivers: bool, first: u32, second: u32, state: &mut [u32; WORDS]) -> u32
+    requires { ⌜ shaped (now state) ≡ true ⌝ }
+    ensures { λ r. ⌜ Performed (pairCall delivers first second) (now (state .entry)) (now (state .exit)) r 0 noStamp [] ⌝ }
 {
-    let mut list = [0u32; 256];
-    if !script_parsing::exactly(text, 2, &mut list) {
-        return script_printing::question(out);
+    if delivers {
+        return network_deliver::deliver_on(state, first, second);
     }
-    let number = network::deliver(state, list[0], list[1]);
-    script_printing::number(out, number)
+    network_epoch::epoch_on(state, first, second)
 }

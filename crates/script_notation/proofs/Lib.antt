@@ -1,3 +1,5 @@
+pub mod Numbers
+pub mod Shapes
 pub mod Examples
 pub mod Places
 pub mod Walks

@@ -7,8 +7,8 @@ use Prim.Native.Nat.{ℕ, suc, _+_, _-_, _≤_, _<_, min}
 use native.Mathlib.Omega.{arith}
 use native.Mathlib.Numerals.{add-one}
 use lib.IntN.{ℤ, pos}
-use lib.ListN.{length, getD, take, drop, set, drop-of-length-le}
-use lib.Seq.{drop-cons, length-take-le}
+use lib.ListN.{length, getD, take, drop, set, drop-of-length-le, length-append, length-map}
+use lib.Seq.{drop-cons, length-take-le, take-all, take-at}
 use lib.Dec.{eqb}
 use borrow.Author.Tests.{eq-eqb, ne-eqb, le-leb, lt-leb}
 use Rattle.decimal.specs.Decimal.{natural, signed}
@@ -122,6 +122,25 @@ values-of [] is (v ∷ vs) e f = absurd (omega arith)
 values-of (k ∷ ks) [] vs e f = absurd (omega arith)
 values-of (k ∷ ks) (i ∷ is) [] e f = absurd (omega arith)
 values-of (k ∷ ks) (i ∷ is) (v ∷ vs) e f = ap {B = List ℤ} (λ l. v ∷ l) (values-of ks is vs (omega arith) (omega arith))
+
+-- ---- operations of which the first m are kept
+-- one more is kept while there is room, and where there is none those that are kept stay
+module _ (m : ℕ) (ks is : List ℕ) (vs : List ℤ) (hk : length ks ≡ m) (hi : length is ≡ m) (hv : length vs ≡ m) (n : ℕ) (o : Op) where
+  kept-length : n ≤ m → length (firstOperations n ks is vs) ≡ n
+  kept-length h =
+      let k : length (take n ks) ≡ n = length-take-le n ks (omega arith) in
+      let i : length (take n is) ≡ n = length-take-le n is (omega arith) in
+      let v : length (take n vs) ≡ n = length-take-le n vs (omega arith) in
+      sym (length-map (firstOperations n ks is vs) (λ (x : Op). x .kind)) ∙ ap length (kinds-of (take n ks) (take n is) (take n vs) (i ∙ sym k) (v ∙ sym k)) ∙ k
+
+  pub kept-more : n < m → firstOperations (n + 1) (set ks n (o .kind)) (set is n (o .item)) (set vs n (o .value)) ≡ take m (firstOperations n ks is vs ++ (o ∷ []))
+  kept-more h =
+      let size = kept-length (omega arith) in
+      ops-more ks is vs n (omega arith) (omega arith) (omega arith) (o .kind) (o .item) (o .value)
+      ∙ sym (take-all m (firstOperations n ks is vs ++ (o ∷ [])) (omega (arith, length-append (firstOperations n ks is vs) (o ∷ []))))
+
+  pub kept-full : n ≡ m → firstOperations n ks is vs ≡ take m (firstOperations n ks is vs ++ (o ∷ []))
+  kept-full h = sym (take-at (firstOperations n ks is vs) (o ∷ []) m (kept-length (omega arith) ∙ h))
 
 items-snoc : (ps ms : List ℕ) (p m : ℕ) → length ms ≡ length ps → itemsOf (ps ++ (p ∷ [])) (ms ++ (m ∷ [])) ≡ itemsOf ps ms ++ (record { primary = p; mask = m } ∷ [])
 items-snoc [] [] p m e = refl

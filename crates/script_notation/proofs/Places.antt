@@ -46,7 +46,7 @@ first-step : (x : ℕ) (xs : List ℕ) (t : Bool) → fields xs ≡ take (positi
 first-step x xs true e = rw (le-leb 1 (suc (length xs)) (omega arith))
 first-step x xs false e = ap (inFront x) e ∙ (rw (leb·suc-suc (suc (position space xs)) (length xs)))
 
-fields-first : (l : List ℕ) → fields l ≡ take (position space l) l ∷ fieldsFrom l (suc (position space l))
+pub fields-first : (l : List ℕ) → fields l ≡ take (position space l) l ∷ fieldsFrom l (suc (position space l))
 unfolding position fields
 fields-first [] = refl
 fields-first (x ∷ xs) = first-step x xs (eqb x space) (fields-first xs)

@@ -10,36 +10,47 @@ use lib.ListN.{length, getD, take, drop}
 use lib.Seq.{length-take-le}
 use borrow.Author.Tests.{not-true, not-false, eqb-true, eqb-false, ne-eqb, le-leb, lt-leb}
 use lib.Dec.{eqb}
-use Rattle.decimal.specs.Decimal.{natural}
+use Rattle.decimal.specs.Decimal.{natural, digits}
 use Rattle.timestamp.specs.Timestamp.{Stamp}
 use Rattle.site.specs.Operations.{Op}
 use Rattle.placement.specs.Placement.{Item}
-use Rattle.protocol.specs.Calls.{Call, setUp, commit, Outcome, perform}
-use Rattle.network_layout.specs.InWords.{meaning}
+use Rattle.protocol.specs.Network.{noStamp}
+use Rattle.protocol.specs.Calls.{Call, setUp, commit, Outcome, refused, perform}
+use Rattle.network_layout.specs.InWords.{shaped, meaning}
 use Rattle.network_layout.specs.Promises.{Performed}
+use Rattle.network_layout.proofs.OnNetwork.{unshaped}
+use Rattle.script_notation.specs.declared.Reply.{Reply}
 use Rattle.script_notation.specs.Fields.{space, position, fields, fieldsFrom}
-use Rattle.script_notation.specs.Parse.{on, one, two, setUpWith, setUpOf, commitWith, commitOf, called, byLetter, longest, parse, all, operation, placed, listed, exact, firstOperations, firstItems}
+use Rattle.script_notation.specs.Parse.{on, setUpWith, setUpOf, commitWith, commitOf, called, byLetter, longest, parse, all, operation, placed, listed, firstOperations, firstItems}
 use Rattle.script_notation.specs.Print.{print, fieldsOf, answerMost, Put}
-use Rattle.script_notation.specs.Answers.{replied, Replied}
+use Rattle.script_notation.specs.Answers.{replied, RepliedAt, Answered, Said}
 use Rattle.script_notation.proofs.Places.{field-next, fields-end}
-use Rattle.script_notation.proofs.Putting.{put-as, print-fields}
+use Rattle.script_notation.proofs.Putting.{put-as, print-fields, print-refused, print-number}
+use Rattle.script_notation.proofs.Shapes.{shape-stays, shape-set-up}
 use Rattle.script_notation.proofs.Parsing.{kinds-of, items-of, values-of, primaries-of, masks-of}
 
 -- ---- no call, and a call
-pub replied-none : {out₀ out : List ℕ} {r : ℕ} (call : Option Call) (w : List ℕ) → none ≡ call → Put answerMost out₀ out 0 r (63 ∷ []) → Replied call w w out₀ out r
-replied-none call w e p =
+pub replied-as : {entry exit out₀ out : List ℕ} {at end : ℕ} {a b : Option Call} → a ≡ b → RepliedAt a entry exit out₀ out at end → RepliedAt b entry exit out₀ out at end
+replied-as {entry} {exit} {out₀} {out} {at} {end} e p = subst (λ (o : Option Call). RepliedAt o entry exit out₀ out at end) e p
+
+pub answered-as : {entry exit out₀ out : List ℕ} {at : ℕ} {r : Reply} {a b : Option Call} → a ≡ b → Answered a entry exit out₀ out at r → Answered b entry exit out₀ out at r
+answered-as e p = record { replied-at = replied-as e (p .replied-at); formed-is = p .formed-is }
+
+pub answered-none : {out₀ out : List ℕ} {at : ℕ} {formed : Bool} {r : Reply} (call : Option Call) (w : List ℕ) → none ≡ call → formed ≡ shaped w → Said (63 ∷ []) formed out₀ out at r → Answered call w w out₀ out at r
+answered-none call w e f p =
     record {
-      printed = put-as (omega arith) (ap (λ (o : Option Call). replied (meaning w) o .bytes) e) p;
-      after-is = ap (λ (o : Option Call). replied (meaning w) o .after) e;
-      kept = λ h. refl;
+      replied-at =
+          record {
+            printed = put-as (omega arith) (ap (λ (o : Option Call). replied (meaning w) o .bytes) e) (p .printed);
+            after-is = ap (λ (o : Option Call). replied (meaning w) o .after) e;
+            kept = λ h. refl;
+          };
+      formed-is = p .formed-is ∙ f;
     }
 
-pub replied-as : {entry exit out₀ out : List ℕ} {r : ℕ} {a b : Option Call} → a ≡ b → Replied a entry exit out₀ out r → Replied b entry exit out₀ out r
-replied-as {entry} {exit} {out₀} {out} {r} e p = subst (λ (o : Option Call). Replied o entry exit out₀ out r) e p
-
-pub replied-some : {entry exit out₀ out : List ℕ} {r number parent : ℕ} {stamp : Stamp} {values : List ℤ} (call : Call) → Performed call entry exit number parent stamp values
-    → Put answerMost out₀ out 0 r (print call (fieldsOf number parent stamp values)) → Replied (some call) entry exit out₀ out r
-replied-some {entry} {exit} {out₀} {out} {r} {number} {parent} {stamp} {values} call p q =
+pub replied-some : {entry exit out₀ out : List ℕ} {at end number parent : ℕ} {stamp : Stamp} {values : List ℤ} (call : Call) → Performed call entry exit number parent stamp values
+    → Put answerMost out₀ out at end (print call (fieldsOf number parent stamp values)) → RepliedAt (some call) entry exit out₀ out at end
+replied-some {entry} {exit} {out₀} {out} {at} {end} {number} {parent} {stamp} {values} call p q =
     record {
       printed =
           put-as
@@ -56,6 +67,32 @@ replied-some {entry} {exit} {out₀} {out} {r} {number} {parent} {stamp} {values
     o : Outcome
     o = perform (meaning entry) call
 
+-- a call that needs a network, on the words of none
+pub answered-unformed : {out₀ out : List ℕ} {at : ℕ} {formed : Bool} {r : Reply} (call : Call) (w : List ℕ) → perform none call ≡ refused 6 none → formed ≡ shaped w → not formed ≡ true
+    → Said (digits 6) formed out₀ out at r → Answered (some call) w w out₀ out at r
+answered-unformed call w n f h p =
+    record {
+      replied-at =
+          replied-some call (unshaped call n w (sym f ∙ not-true _ h))
+          (put-as (omega arith) (print-refused call (fieldsOf 6 0 noStamp []) (λ z. omega (arith, z))) (p .printed));
+      formed-is = p .formed-is ∙ f;
+    }
+
+-- one that has it
+pub answered-formed : {entry exit out₀ out : List ℕ} {at end : ℕ} {formed : Bool} (call : Call) → formed ≡ shaped entry → not formed ≡ false → RepliedAt (some call) entry exit out₀ out at end
+    → Answered (some call) entry exit out₀ out at (record { end = end; formed = formed })
+answered-formed {entry} {exit} {formed = formed} call f h p = record { replied-at = p; formed-is = not-false formed h ∙ sym (shape-stays entry exit call (sym f ∙ not-false formed h) (p .after-is)) }
+
+-- a set-up, which needs none
+pub answered-set-up : {entry exit out₀ out : List ℕ} {at end number : ℕ} {formed after : Bool} (sites items : ℕ) (ps ms : List ℕ) → formed ≡ shaped entry → after ≡ cond (eqb number 0) true formed
+    → Performed (setUp sites items ps ms) entry exit number 0 noStamp [] → Put answerMost out₀ out at end (digits number)
+    → Answered (some (setUp sites items ps ms)) entry exit out₀ out at (record { end = end; formed = after })
+answered-set-up {number = number} sites items ps ms f g p q =
+    record {
+      replied-at = replied-some (setUp sites items ps ms) p (put-as (omega arith) (print-number (setUp sites items ps ms) (fieldsOf number 0 noStamp []) refl) q);
+      formed-is = g ∙ shape-set-up sites items ps ms f p;
+    }
+
 -- ---- the call that a list of numbers stands for
 module _ {A B : Type 0} (ok : Bool) (xs : List A) (o : Option (List A)) (g : List A → Option B) (e : listed ok xs ≡ o) where
   pub on-none : not ok ≡ true → none ≡ on o g
@@ -63,59 +100,6 @@ module _ {A B : Type 0} (ok : Bool) (xs : List A) (o : Option (List A)) (g : Lis
 
   pub on-is : not ok ≡ false → g xs ≡ on o g
   on-is h = ap (λ (b : Bool). on (listed b xs) g) (sym (not-false ok h)) ∙ ap (λ (z : Option (List A)). on z g) e
-
--- so many numbers, of a list of which the first n are used
-pub exact-none : (k : ℕ) (ok : Bool) (xs : List ℕ) (o : Option (List ℕ)) → listed ok xs ≡ o → not ok ≡ true → none ≡ exact k o
-exact-none k ok xs o e h = ap (λ (b : Bool). exact k (listed b xs)) (sym (not-true ok h)) ∙ ap (exact k) e
-
-exact-size : (k n : ℕ) (l : List ℕ) → n ≤ length l → (b : Bool) → eqb n k ≡ b → listed b (take k l) ≡ cond b (some (take n l)) none
-exact-size k n l h true e = ap (λ (m : ℕ). some (take m l)) (sym (eqb-true n k e))
-exact-size k n l h false e = refl
-
-pub exact-is : (k n : ℕ) (ok : Bool) (l : List ℕ) (o : Option (List ℕ)) → listed ok (take n l) ≡ o → not ok ≡ false → n ≤ length l → listed (eqb n k) (take k l) ≡ exact k o
-exact-is k n ok l o e h g =
-    exact-size k n l g (eqb n k) refl
-    ∙ ap (λ (m : ℕ). cond (eqb m k) (some (take n l)) none) (sym (length-take-le n l g))
-    ∙ ap (λ (b : Bool). exact k (listed b (take n l))) (sym (not-false ok h))
-    ∙ ap (exact k) e
-
-module _ (f : ℕ → Call) where
-  one-exact : (o : Option (List ℕ)) → on (exact 1 o) (one f) ≡ on o (one f)
-  one-exact none = refl
-  one-exact (some []) = refl
-  one-exact (some (a ∷ [])) = refl
-  one-exact (some (a ∷ (b ∷ xs))) = rw (ne-eqb (suc (suc (length xs))) 1 (λ e. omega arith))
-
-  is-first : (l : List ℕ) → 1 ≤ length l → some (f (getD l 0 0)) ≡ one f (take 1 l)
-  is-first [] h = absurd (omega arith)
-  is-first (a ∷ l) h = refl
-
-  module _ (ok : Bool) (l : List ℕ) (o : Option (List ℕ)) (e : listed ok (take 1 l) ≡ exact 1 o) where
-    pub not-one : not ok ≡ true → none ≡ on o (one f)
-    not-one h = on-none ok (take 1 l) (exact 1 o) (one f) e h ∙ one-exact o
-
-    pub is-one : not ok ≡ false → 1 ≤ length l → some (f (getD l 0 0)) ≡ on o (one f)
-    is-one h g = is-first l g ∙ on-is ok (take 1 l) (exact 1 o) (one f) e h ∙ one-exact o
-
-module _ (f : ℕ → ℕ → Call) where
-  two-exact : (o : Option (List ℕ)) → on (exact 2 o) (two f) ≡ on o (two f)
-  two-exact none = refl
-  two-exact (some []) = refl
-  two-exact (some (a ∷ [])) = refl
-  two-exact (some (a ∷ (b ∷ []))) = refl
-  two-exact (some (a ∷ (b ∷ (c ∷ xs)))) = rw (ne-eqb (suc (suc (suc (length xs)))) 2 (λ e. omega arith))
-
-  are-first : (l : List ℕ) → 2 ≤ length l → some (f (getD l 0 0) (getD l 1 0)) ≡ two f (take 2 l)
-  are-first [] h = absurd (omega arith)
-  are-first (a ∷ []) h = absurd (omega arith)
-  are-first (a ∷ (b ∷ l)) h = refl
-
-  module _ (ok : Bool) (l : List ℕ) (o : Option (List ℕ)) (e : listed ok (take 2 l) ≡ exact 2 o) where
-    pub not-two : not ok ≡ true → none ≡ on o (two f)
-    not-two h = on-none ok (take 2 l) (exact 2 o) (two f) e h ∙ two-exact o
-
-    pub is-two : not ok ≡ false → 2 ≤ length l → some (f (getD l 0 0) (getD l 1 0)) ≡ on o (two f)
-    is-two h g = are-first l g ∙ on-is ok (take 2 l) (exact 2 o) (two f) e h ∙ two-exact o
 
 -- ---- set-up
 pub few-numbers : (l : List ℕ) → length l < 2 → none ≡ setUpOf l

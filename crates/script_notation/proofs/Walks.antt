@@ -3,7 +3,7 @@ use mathlib.Core.Path.{_≡_, refl, sym, ap, _∙_}
 use mathlib.Core.List.{List, [], _∷_, _++_, append-nil, append-assoc}
 use mathlib.Core.Option.{Option, none, some}
 use mathlib.Core.Bool.{Bool, true, false, cond, not}
-use Prim.Native.Nat.{ℕ, _+_, _-_, _≤_, _<_, min}
+use Prim.Native.Nat.{ℕ, zero, suc, _+_, _-_, _≤_, _<_, min}
 use native.Mathlib.Omega.{arith}
 use native.Mathlib.Numerals.{add-one}
 use lib.ListN.{length, getD, take, drop, set, length-drop}
@@ -80,3 +80,9 @@ take-next {A} l i d v h e = ap (λ (k : ℕ). take k l) (add-one i) ∙ take-suc
 -- the first n, of a list of so many
 pub take-least : {A : Type 0} (l : List A) (i n m : ℕ) → i ≡ min n m → length l ≡ m → take i l ≡ take n l
 take-least l i n m e h = ap (λ (k : ℕ). take k l) (e ∙ ap (min n) (sym h)) ∙ take-min n l
+
+-- the first n, behind the first n of what was there
+pub take-front : {A : Type 0} (n : ℕ) (l b : List A) → take n (take n l ++ b) ≡ take n (l ++ b)
+take-front zero l b = refl
+take-front (suc n) [] b = refl
+take-front (suc n) (x ∷ l) b = ap (λ (z : List _). x ∷ z) (take-front n l b)

@@ -106,10 +106,6 @@ longest = 512
 unfoldable pub parse : List ℕ → Option Call
 parse text = cond (leb (length text) longest) (byLetter (fields text)) none
 
--- a list of so many elements
-abbrev pub exact : {A : Type 0} → ℕ → Option (List A) → Option (List A)
-exact k o = on o (λ xs. cond (eqb (length xs) k) (some xs) none)
-
 -- ---- what lists of which the first n are used mean
 abbrev pub listed : {A : Type 0} → Bool → List A → Option (List A)
 listed ok xs = cond ok (some xs) none

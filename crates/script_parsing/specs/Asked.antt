@@ -5,25 +5,27 @@ use Prim.Native.Nat.{ℕ, _≤_}
 use lib.IntN.{ℤ}
 use lib.ListN.{length}
 use Rattle.script_notation.specs.Parse.{longest}
+use Rattle.script_parsing.specs.Parsed.{keptMost}
 
--- a line, and a list for its numbers
-pub record ToNumbers (text list : List ℕ) : Type 0 where
-  pub short : length text ≤ longest
-  pub sized : length list ≡ 256
-
--- the same, read from a place behind the letter and its space
+-- a line, read from a place behind the letter and its space, and a list for its numbers
 pub record ToNumbersFrom (text : List ℕ) (from : ℕ) (list : List ℕ) : Type 0 where
   pub short : length text ≤ longest
   pub behind : 2 ≤ from
   pub sized : length list ≡ 256
 
--- a line, read from a place behind the letter, a site and their spaces, and lists for the fields of its operations
-pub record ToOperations (text : List ℕ) (from : ℕ) (kinds items : List ℕ) (values : List ℤ) : Type 0 where
+-- a line, and lists for the fields of the operations that are kept of it
+pub record ToOperations (text kinds items : List ℕ) (values : List ℤ) : Type 0 where
   pub short : length text ≤ longest
-  pub behind : 4 ≤ from
-  pub kinds-sized : length kinds ≡ 170
-  pub items-sized : length items ≡ 170
-  pub values-sized : length values ≡ 170
+  pub kinds-sized : length kinds ≡ keptMost
+  pub items-sized : length items ≡ keptMost
+  pub values-sized : length values ≡ keptMost
+
+-- lists in which so many are kept
+pub record ToKeep (count : ℕ) (kinds items : List ℕ) (values : List ℤ) : Type 0 where
+  pub few : count ≤ keptMost
+  pub kinds-sized : length kinds ≡ keptMost
+  pub items-sized : length items ≡ keptMost
+  pub values-sized : length values ≡ keptMost
 
 -- numbers, and lists for the fields of the items that they stand for
 pub record ToItems (list primaries masks : List ℕ) : Type 0 where

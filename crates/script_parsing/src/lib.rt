@@ -3,14 +3,18 @@ use decimal::Integer;
 use decimal::Number;
 ghost use mathlib.Core.Path.{_≡_};
 ghost use mathlib.Core.Bool.{false};
+ghost use mathlib.Core.List.{[], _∷_, _++_};
 ghost use Prim.Native.Nat.{_+_, _≤_};
 ghost use lib.ListN.{take, drop};
 ghost use Rattle.decimal.specs.Decimal.{natural, numberOf, integerOf};
 ghost use Rattle.script_notation.specs.Fields.{position, fieldsFrom};
-ghost use Rattle.script_notation.specs.Parse.{all, listed, exact, reading as readingOf, writing as writingOf, assigned as assignedIn, operation as operationIn, firstOperations, placed, firstItems};
+ghost use Rattle.script_notation.specs.Parse.{on, all, listed, reading as readingOf, writing as writingOf, assigned as assignedIn, operation as operationIn, firstOperations, placed, firstItems};
 ghost use mathlib.Core.Option.{none};
-ghost use Rattle.script_parsing.specs.Asked.{ToNumbers, ToNumbersFrom, ToOperations, ToItems};
-ghost use Rattle.script_parsing.specs.Parsed.{operationOf};
+ghost use Rattle.script_parsing.specs.Asked.{ToNumbersFrom, ToOperations, ToKeep, ToItems};
+ghost use Rattle.script_parsing.specs.Parsed.{OneNumber, TwoNumbers, Both, keptMost, keptOf, operationOf};
+
+// A commit takes eight operations at most: nine stand for more.
+pub const KEPT: usize = 9;
 
 // How many things there are in a list, where it is one.
 pub struct Listed {
@@ -30,6 +34,66 @@ pub fn find(text: &[u8], from: usize, byte: u8) -> usize
         i += 1;
     }
     i
+}
+
+// The number behind the letter, where it is all that stands there.
+pub fn one_number(text: &[u8]) -> Number
+    ensures { λ r. ⌜ OneNumber (now (text .entry)) r ⌝ }
+{
+    if text.len() < 2 {
+        return Number {
+            ok: false,
+            value: 0,
+        };
+    }
+    decimal::natural(&text[2..])
+}
+
+// Two numbers, where `ok` says so.
+pub struct Two {
+    pub ok: bool,
+    pub first: u32,
+    pub second: u32,
+}
+
+// The two numbers behind the letter, where they are all that stands there.
+pub fn two_numbers(text: &[u8]) -> Two
+    ensures { λ r. ⌜ TwoNumbers (now (text .entry)) r ⌝ }
+{
+    let end = find(text, 2, 32);
+    if text.len() <= end {
+        return no_two();
+    }
+    let from = end + 1;
+    let first = decimal::natural(&text[2..end]);
+    let second = decimal::natural(&text[from..]);
+    both(first, second)
+}
+
+fn both(first: Number, second: Number) -> Two
+    ensures { λ r. ⌜ Both first second r ⌝ }
+{
+    if !first.ok {
+        return no_two();
+    }
+    if !second.ok {
+        return no_two();
+    }
+    Two {
+        ok: true,
+        first: first.value,
+        second: second.value,
+    }
+}
+
+fn no_two() -> Two
+    ensures { λ r. ⌜ r .ok ≡ false ⌝ }
+{
+    Two {
+        ok: false,
+        first: 0,
+        second: 0,
+    }
 }
 
 // The fields from a position on as numbers, from the front of a list.
@@ -52,18 +116,6 @@ pub fn numbers(text: &[u8], from: usize, list: &mut [u32]) -> Listed
     Listed { ok: true, count }
 }
 
-// The fields behind the letter as k numbers, from the front of a list; false where they are not.
-pub fn exactly(text: &[u8], k: usize, list: &mut [u32]) -> bool
-    requires { ⌜ ToNumbers (now text) (now list) ⌝ }
-    ensures { λ r. ⌜ listed r (take k (now (list .exit))) ≡ exact k (all natural (fieldsFrom (now (text .entry)) 2)) ⌝ }
-{
-    let n = numbers(text, 2, list);
-    if !n.ok {
-        return false;
-    }
-    n.count == k
-}
-
 // What is no list.
 pub fn no_list() -> Listed
     ensures { λ r. ⌜ (r .ok ≡ false) × (r .count ≡ 0) ⌝ }
@@ -82,7 +134,7 @@ pub struct Parsed {
     pub value: i32,
 }
 
-// The operations in the fields from a position on, from the front of the lists.
+// The operations in the fields from a position on, the first nine of them from the front of the lists.
 pub fn operations(
     text: &[u8],
     from: usize,
@@ -90,8 +142,8 @@ pub fn operations(
     items: &mut [u32],
     values: &mut [i32],
 ) -> Listed
-    requires { ⌜ ToOperations (now text) from (now kinds) (now items) (now values) ⌝ }
-    ensures { λ r. ⌜ (listed (r .ok) (firstOperations (r .count) (now (kinds .exit)) (now (items .exit)) (now (values .exit))) ≡ all operationIn (fieldsFrom (now (text .entry)) from)) × (r .count ≤ 170) ⌝ }
+    requires { ⌜ ToOperations (now text) (now kinds) (now items) (now values) ⌝ }
+    ensures { λ r. ⌜ (listed (r .ok) (firstOperations (r .count) (now (kinds .exit)) (now (items .exit)) (now (values .exit))) ≡ on (all operationIn (fieldsFrom (now (text .entry)) from)) keptOf) × (r .count ≤ keptMost) ⌝ }
 {
     let mut at = from;
     let mut count = 0usize;
@@ -101,14 +153,25 @@ pub fn operations(
         if !o.ok {
             return no_list();
         }
-        kinds[count] = o.kind;
-        items[count] = o.item;
-        let v = o.value;
-        values[count] = v;
-        count += 1;
+        count = keep(o, count, kinds, items, values);
         at = end + 1;
     }
     Listed { ok: true, count }
+}
+
+// An operation behind the first `count`, where these are not nine. It answers how many there are now.
+fn keep(o: Parsed, count: usize, kinds: &mut [u8], items: &mut [u32], values: &mut [i32]) -> usize
+    requires { ⌜ ToKeep count (now kinds) (now items) (now values) ⌝ }
+    ensures { λ r. ⌜ (firstOperations r (now (kinds .exit)) (now (items .exit)) (now (values .exit)) ≡ take keptMost (firstOperations count (now (kinds .entry)) (now (items .entry)) (now (values .entry)) ++ (record { kind = o .kind; item = o .item; value = o .value } ∷ []))) × (r ≤ keptMost) ⌝ }
+{
+    if KEPT <= count {
+        return count;
+    }
+    let v = o.value;
+    kinds[count] = o.kind;
+    items[count] = o.item;
+    values[count] = v;
+    count + 1
 }
 
 // The operation in a field.

@@ -31,7 +31,7 @@ pub fn entry(
 ) -> usize
     ensures { λ r. ⌜ Put recordMost (now (out .entry)) (now (out .exit)) 0 r (recordText (record { site = site; stamp = stampOf t; ops = firstOperations count (now (kinds .entry)) (now (items .entry)) (now (values .entry)) })) ⌝ }
 {
-    let end = number(out, site);
+    let end = number(out, 0, site);
     let behind = stamp(out, end, t);
     operations(out, behind, count, kinds, items, values)
 }
@@ -77,44 +77,44 @@ fn letter(kind: u8) -> u8
     119
 }
 
-// A question mark.
-pub fn question(out: &mut [u8]) -> usize
-    requires { ⌜ 1 ≤ length (now out) ⌝ }
-    ensures { λ r. ⌜ Put answerMost (now (out .entry)) (now (out .exit)) 0 r (63 ∷ []) ⌝ }
+// A question mark, from a place of the buffer on.
+pub fn question(out: &mut [u8], at: usize) -> usize
+    requires { ⌜ at < length (now out) ⌝ }
+    ensures { λ r. ⌜ Put answerMost (now (out .entry)) (now (out .exit)) at r (63 ∷ []) ⌝ }
 {
-    out[0] = 63;
-    1
+    out[at] = 63;
+    at + 1
 }
 
 // A number alone: what a set-up, an epoch and a deliver print, and every refusal.
-pub fn number(out: &mut [u8], n: u32) -> usize
-    requires { ⌜ 10 ≤ length (now out) ⌝ }
-    ensures { λ r. ⌜ Put 10 (now (out .entry)) (now (out .exit)) 0 r (digits n) ⌝ }
+pub fn number(out: &mut [u8], at: usize, n: u32) -> usize
+    requires { ⌜ at + 10 ≤ length (now out) ⌝ }
+    ensures { λ r. ⌜ Put 10 (now (out .entry)) (now (out .exit)) at r (digits n) ⌝ }
 {
-    decimal::put(out, 0, n)
+    decimal::put(out, at, n)
 }
 
-pub fn dummied(out: &mut [u8], answer: Dummied) -> usize
-    requires { ⌜ answerMost ≤ length (now out) ⌝ }
-    ensures { λ r. ⌜ Put answerMost (now (out .entry)) (now (out .exit)) 0 r (print (dummyCall 0) (fieldsOf (answer .number) 0 (stampOf (answer .stamp)) [])) ⌝ }
+pub fn dummied(out: &mut [u8], at: usize, answer: Dummied) -> usize
+    requires { ⌜ at + answerMost ≤ length (now out) ⌝ }
+    ensures { λ r. ⌜ Put answerMost (now (out .entry)) (now (out .exit)) at r (print (dummyCall 0) (fieldsOf (answer .number) 0 (stampOf (answer .stamp)) [])) ⌝ }
 {
     let n = answer.number;
     let t = answer.stamp;
-    let end = number(out, n);
+    let end = number(out, at, n);
     if n != 0 {
         return end;
     }
     stamp(out, end, t)
 }
 
-pub fn scheduled(out: &mut [u8], answer: Scheduled) -> usize
-    requires { ⌜ answerMost ≤ length (now out) ⌝ }
-    ensures { λ r. ⌜ Put answerMost (now (out .entry)) (now (out .exit)) 0 r (print (scheduleCall 0) (fieldsOf (answer .number) (answer .parent) (stampOf (answer .stamp)) [])) ⌝ }
+pub fn scheduled(out: &mut [u8], at: usize, answer: Scheduled) -> usize
+    requires { ⌜ at + answerMost ≤ length (now out) ⌝ }
+    ensures { λ r. ⌜ Put answerMost (now (out .entry)) (now (out .exit)) at r (print (scheduleCall 0) (fieldsOf (answer .number) (answer .parent) (stampOf (answer .stamp)) [])) ⌝ }
 {
     let n = answer.number;
     let parent = answer.parent;
     let t = answer.stamp;
-    let end = number(out, n);
+    let end = number(out, at, n);
     if n != 0 {
         return end;
     }
@@ -122,15 +122,15 @@ pub fn scheduled(out: &mut [u8], answer: Scheduled) -> usize
     stamp(out, behind, t)
 }
 
-pub fn committed(out: &mut [u8], answer: Committed) -> usize
-    requires { ⌜ answerMost ≤ length (now out) ⌝ }
-    ensures { λ r. ⌜ Put answerMost (now (out .entry)) (now (out .exit)) 0 r (print (commitCall 0 [] [] []) (fieldsOf (answer .number) 0 (stampOf (answer .stamp)) (take (answer .count) (answer .values)))) ⌝ }
+pub fn committed(out: &mut [u8], at: usize, answer: Committed) -> usize
+    requires { ⌜ at + answerMost ≤ length (now out) ⌝ }
+    ensures { λ r. ⌜ Put answerMost (now (out .entry)) (now (out .exit)) at r (print (commitCall 0 [] [] []) (fieldsOf (answer .number) 0 (stampOf (answer .stamp)) (take (answer .count) (answer .values)))) ⌝ }
 {
     let n = answer.number;
     let t = answer.stamp;
     let count = answer.count;
     let read = answer.values;
-    let end = number(out, n);
+    let end = number(out, at, n);
     if n != 0 {
         return end;
     }

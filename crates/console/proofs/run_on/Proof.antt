@@ -32,7 +32,10 @@ slice-aggregate-turn-2 : tie.Need-slice-aggregate-turn-2 Inv-loop μ-loop
 slice-aggregate-turn-2 c = let head = c .before .before .before .before .before .before .before in sym (head .loop .inv .2)
 
 turn-requires : tie.Need-turn-requires Inv-loop μ-loop
-turn-requires c κs = let head = c .before .before .before .before .before .before .before in omega (arith, head .loop .inv .2)
+turn-requires c κs =
+    let head = c .before .before .before .before .before .before .before in
+    let going = c .before .before .before .before .if1 .left in
+    record { formed-is = head .loop .inv .0 .formed-is (not-false (head .loop .at .more) going); room = omega (arith, head .loop .inv .2) }
 
 sub-turns : tie.Need-sub-turns Inv-loop μ-loop
 sub-turns c = omega arith
@@ -45,7 +48,7 @@ loop-again c =
     let head = c .before .before .before .before .before .before .before .before .before .before .loop in
     let going = c .before .before .before .before .before .before .before .if1 .left in
     let q = c .before .before .turn in
-    (went-then (head .inv .0) (not-false (head .at .more) going) (q .ensures), q .kept .1 .1 .0 ∙ head .inv .1, q .kept .1 .1 .1 .0 ∙ head .inv .2)
+    (went-then (head .inv .0) (not-false (head .at .more) going) (q .ensures), q .kept .1 .1 .1 .0 ∙ head .inv .1, q .kept .1 .1 .1 .1 .0 ∙ head .inv .2)
 
 returns-2 : tie.Need-returns-2 Inv-loop μ-loop
 returns-2 c = ran (c .before .loop .inv .0)

@@ -3,7 +3,7 @@ use native.Mathlib.Omega.{arith}
 use borrow.Author.Tests.{le-ltb, lt-ltb, lt-leb}
 use Prim.Native.Nat.{_+_}
 use Rattle.decimal.proofs.Printing.{room-test}
-use Rattle.console_lines.specs.Lines.{lineMost}
+use Rattle.console_notation.specs.Lines.{lineMost}
 use Rattle.console_lines.proofs.goes_on.Statement.{statement}
 use Rattle.console_lines.proofs.goes_on.Tie as tie
 

@@ -8,19 +8,20 @@ use borrow.Author.Tests.{ltb-true, leb-true}
 use Rattle.lists.proofs.Every.{and-true}
 use native.Mathlib.Omega.{arith}
 use lib.ListN.{length, drop}
-use borrow.Author.Needs.{needs}
+use Rattle.network_layout.specs.InWords.{shaped}
 use Rattle.script_notation.specs.Fields.{position}
-use Rattle.console_lines.specs.Lines.{newline, lineMost}
+use Rattle.console_notation.specs.Lines.{newline, lineMost}
 use Rattle.console_lines.specs.Promises.{Walked}
 use Rattle.console_lines.proofs.Steps.{walked-none, walked-next, walked-ends}
+use borrow.Author.Needs.{needs}
 use Rattle.console_lines.proofs.lines.Statement.{statement}
 use Rattle.console_lines.proofs.lines.Tie as tie
 
 abbrev Inv-loop : tie.InvT-loop
-Inv-loop block state₀ out₀ at space₀ from₀ filled₀ end₀ state out space from filled end = Walked block state₀ state out₀ out at from filled × (end ≡ from + position newline (drop from block)) × (length out ≡ length out₀)
+Inv-loop block state₀ formed out₀ at from₀ filled₀ known₀ end₀ state out from filled known end = Walked block state₀ state out₀ out at from filled × (end ≡ from + position newline (drop from block)) × (length out ≡ length out₀) × (known ≡ shaped state)
 
 abbrev μ-loop : tie.MeasureT-loop
-μ-loop block state₀ out₀ at space₀ from₀ filled₀ end₀ state out space from filled end = length block - from
+μ-loop block state₀ formed out₀ at from₀ filled₀ known₀ end₀ state out from filled known end = length block - from
 
 -- in a turn: the block, and the loop's head
 abbrev blockOf : tie.Then1 Inv-loop μ-loop → List ℕ
@@ -44,7 +45,7 @@ find-requires : tie.Need-find-requires Inv-loop μ-loop
 find-requires c κs = search needs
 
 loop-holds : tie.Need-loop-holds Inv-loop μ-loop
-loop-holds c = (walked-none, c .find .ensures, refl)
+loop-holds c = (walked-none, c .find .ensures, refl, c .before .before .before .pre)
 
 goes-on-requires : tie.Need-goes-on-requires Inv-loop μ-loop
 goes-on-requires c κs = search needs
@@ -59,31 +60,31 @@ part-collect-end : tie.Need-part-collect-end Inv-loop μ-loop
 part-collect-end c = omega (arith, ahead c .0)
 
 collect-requires : tie.Need-collect-requires Inv-loop μ-loop
-collect-requires c κs = let d = c .before .before .before .before in ahead d .1
+collect-requires c κs = let d = c .before .before .before in record { formed-is = headOf d .loop .inv .3; room = ahead d .1 }
 
 add-from : tie.Need-add-from Inv-loop μ-loop
-add-from c = let d = c .before .before .before .before .before .before .before in omega (arith, ahead d .0)
+add-from c = let d = c .before .before .before .before .before .before in omega (arith, ahead d .0)
 
 find-requires-2 : tie.Need-find-requires-2 Inv-loop μ-loop
 find-requires-2 c κs = search needs
 
 loop-less : tie.Need-loop-less Inv-loop μ-loop
-loop-less c = let d = c .before .before .before .before .before .before .before .before in omega (arith, ahead d .0, headOf d .loop .inv .1)
+loop-less c = let d = c .before .before .before .before .before .before .before in omega (arith, ahead d .0, headOf d .loop .inv .1)
 
 loop-again : tie.Need-loop-again Inv-loop μ-loop
 loop-again c =
-    let d = c .before .before .before .before .before .before .before .before in
+    let d = c .before .before .before .before .before .before .before in
     let L = headOf d .loop in
     let q = c .before .before .before .collect in
-    (walked-next (L .inv .0) (L .inv .1) (L .inv .2) (test d) (q .ensures), c .find2 .ensures, q .kept .1 .1 .1 .0 ∙ L .inv .2)
+    (walked-next (L .inv .0) (L .inv .1) (L .inv .2) (test d) (q .ensures .effect), c .find2 .ensures, q .kept .1 .1 .1 .0 ∙ L .inv .2, q .ensures .formed-is)
 
 same-length : tie.Need-same-length Inv-loop μ-loop
-same-length c = search needs
+same-length c = c .before .before .loop .inv .2
 
 returns : tie.Need-returns Inv-loop μ-loop
 returns c =
     let L = c .before .before .loop in
-    walked-ends (L .inv .0) (L .inv .1) (L .inv .2) (sym (c .before .goes-on .ensures) ∙ c .if1 .left)
+    walked-ends (L .inv .0) (L .inv .1) (L .inv .2) (L .inv .3) (sym (c .before .goes-on .ensures) ∙ c .if1 .left)
 
 pub lines-spec : {M : Type 1} → statement M
 lines-spec =

@@ -1,18 +1,51 @@
--- `commit_at` takes the operations from a place on.
-use mathlib.Core.Path.{_≡_, sym, _∙_}
+-- `commit_at` takes the operations from a place on, of which those that are kept stand for all.
+use mathlib.Core.Path.{_≡_, refl, sym, _∙_}
 use mathlib.Core.List.{List}
-use mathlib.Core.Option.{some}
+use Prim.Native.Nat.{ℕ}
 use native.Mathlib.Omega.{arith}
+use lib.IntN.{ℤ}
 use lib.ListN.{length, take}
 use lib.Seq.{length-take-le}
+use borrow.Author.Tests.{not-false}
 use Rattle.site.specs.Operations.{Op}
-use Rattle.protocol.specs.Calls.{commit}
-use Rattle.script_notation.specs.Parse.{commitWith, firstOperations}
+use Rattle.protocol.specs.Calls.{commit, perform}
+use Rattle.script_notation.specs.Fields.{fieldsFrom}
+use Rattle.script_notation.specs.Parse.{all, operation, commitWith, firstOperations}
 use Rattle.script_notation.specs.Print.{print}
-use Rattle.script_notation.proofs.Replying.{replied-none, replied-as, replied-some, on-none, on-is, commit-with}
+use Rattle.script_notation.proofs.Walks.{is-some, is-none}
+use Rattle.script_notation.proofs.Replying.{answered-none, answered-as, answered-unformed, answered-formed, replied-some, commit-with}
+use Rattle.script_parsing.specs.Parsed.{keptMost}
+use Rattle.script_calls.proofs.Kept.{answered-kept, no-commit}
 use borrow.Author.Needs.{needs}
 use Rattle.script_calls.proofs.commit_at.Statement.{statement}
 use Rattle.script_calls.proofs.commit_at.Tie as tie
+
+-- behind the parsing: the lists, the operations that they hold, and all of the line
+abbrev kindsIn : tie.After-operations → List ℕ
+kindsIn d = d .operations .last .1 .1 .0
+
+abbrev itemsIn : tie.After-operations → List ℕ
+itemsIn d = d .operations .last .1 .1 .1 .0
+
+abbrev valuesIn : tie.After-operations → List ℤ
+valuesIn d = d .operations .last .1 .1 .1 .1 .0
+
+abbrev keptIn : tie.After-operations → List Op
+keptIn d = firstOperations (d .operations .result .count) (kindsIn d) (itemsIn d) (valuesIn d)
+
+abbrev startOf : tie.After-operations → tie.Start
+startOf d = d .before .before .before .before .before .before
+
+-- the part of each that is used
+parts : (d : tie.After-operations) → let k = d .operations .result .count in (length (take k (kindsIn d)) ≡ k) × (length (take k (itemsIn d)) ≡ k) × (length (take k (valuesIn d)) ≡ k)
+parts d =
+    let q = d .operations in
+    let k = q .result .count in
+    let few = q .ensures .1 in
+    let ks : length (kindsIn d) ≡ keptMost = q .kept .1 .1 .0 in
+    let is : length (itemsIn d) ≡ keptMost = q .kept .1 .1 .1 .0 in
+    let vs : length (valuesIn d) ≡ keptMost = q .kept .1 .1 .1 .1 .0 in
+    (length-take-le k (kindsIn d) (omega arith), length-take-le k (itemsIn d) (omega arith), length-take-le k (valuesIn d) (omega arith))
 
 slice-aggregate-operations : tie.Need-slice-aggregate-operations
 slice-aggregate-operations c = search needs
@@ -29,65 +62,71 @@ operations-requires c κs = search needs
 question-requires : tie.Need-question-requires
 question-requires c κs = search needs
 
+same-length : tie.Need-same-length
+same-length c = search needs
+
 returns : tie.Need-returns
 returns c =
-    let q = c .before .before .before .before .before .before .before .operations in
-    replied-none _ (c .before .before .before .before .before .before .before .before .before .before .before .before .args .state .now)
-    (on-none (q .result .ok) (firstOperations (q .result .count) (q .last .1 .1 .0) (q .last .1 .1 .1 .0) (q .last .1 .1 .1 .1 .0)) _ (λ (os : List Op). some (commitWith (c .before .before .before .before .before .before .before .before .before .before .before .before .args .site) os)) (q .ensures .0) (c .before .before .if1 .taken))
-    (c .question .ensures)
+    let d = c .before .before .before .before .before .before .before .before .before in
+    let S = startOf d in
+    let q = d .operations in
+    answered-none _ (S .args .state .now) (no-commit (S .args .site) (all operation (fieldsFrom (S .args .text .now) (S .args .from))) (is-none (q .result .ok) (keptIn d) (c .before .before .before .before .if1 .taken) ∙ q .ensures .0)) (S .pre .formed-is) (c .before .before .question .ensures)
+
+no-network-requires : tie.Need-no-network-requires
+no-network-requires c κs = search needs
+
+same-length-2 : tie.Need-same-length-2
+same-length-2 c = search needs
+
+returns-2 : tie.Need-returns-2
+unfolding perform
+returns-2 c =
+    let d = c .before .before .before .before .before .before .before .before .before .before in
+    let S = startOf d in
+    let q = d .operations in
+    answered-kept (S .args .site) (all operation (fieldsFrom (S .args .text .now) (S .args .from))) (keptIn d) (is-some (q .result .ok) (keptIn d) (c .before .before .before .before .before .if1 .left) ∙ q .ensures .0)
+    (answered-unformed (commitWith (S .args .site) (keptIn d)) (S .args .state .now) refl (S .pre .formed-is) (c .before .before .before .before .if2 .taken) (c .before .before .no-network .ensures))
 
 array-share-prefix-kinds : tie.Need-array-share-prefix-kinds
 array-share-prefix-kinds c = search needs
 
-slice-aggregate-commit : tie.Need-slice-aggregate-commit
-slice-aggregate-commit c =
-    let q = c .before .before .before .before .before .before .before .operations in
-    let size : length (q .last .1 .1 .0) ≡ 170 = q .kept .1 .1 .0 in
-    sym (length-take-le (q .result .count) (q .last .1 .1 .0) (omega (arith, q .ensures .1)))
+slice-aggregate-commit-on : tie.Need-slice-aggregate-commit-on
+slice-aggregate-commit-on c = sym (parts (c .before .before .before .before .before .before .before .before) .0)
 
 array-share-prefix-items : tie.Need-array-share-prefix-items
 array-share-prefix-items c = search needs
 
-slice-aggregate-commit-2 : tie.Need-slice-aggregate-commit-2
-slice-aggregate-commit-2 c =
-    let q = c .before .before .before .before .before .before .before .before .operations in
-    let size : length (q .last .1 .1 .1 .0) ≡ 170 = q .kept .1 .1 .1 .0 in
-    sym (length-take-le (q .result .count) (q .last .1 .1 .1 .0) (omega (arith, q .ensures .1)))
+slice-aggregate-commit-on-2 : tie.Need-slice-aggregate-commit-on-2
+slice-aggregate-commit-on-2 c = sym (parts (c .before .before .before .before .before .before .before .before .before) .1)
 
 array-share-prefix-values : tie.Need-array-share-prefix-values
 array-share-prefix-values c = search needs
 
-slice-aggregate-commit-3 : tie.Need-slice-aggregate-commit-3
-slice-aggregate-commit-3 c =
-    let q = c .before .before .before .before .before .before .before .before .before .operations in
-    let size : length (q .last .1 .1 .1 .1 .0) ≡ 170 = q .kept .1 .1 .1 .1 .0 in
-    sym (length-take-le (q .result .count) (q .last .1 .1 .1 .1 .0) (omega (arith, q .ensures .1)))
+slice-aggregate-commit-on-3 : tie.Need-slice-aggregate-commit-on-3
+slice-aggregate-commit-on-3 c = sym (parts (c .before .before .before .before .before .before .before .before .before .before) .2)
 
-commit-requires : tie.Need-commit-requires
-commit-requires c κs = search needs
+commit-on-requires : tie.Need-commit-on-requires
+commit-on-requires c κs = let S = c .before .before .before .before .before .before .before .before .before .before .before .before .before .before .before .before in record { sized = search needs; formed = sym (S .pre .formed-is) ∙ not-false (S .args .formed) (c .before .before .before .before .if2 .left) }
 
 committed-requires : tie.Need-committed-requires
 committed-requires c κs = search needs
 
-returns-2 : tie.Need-returns-2
+same-length-3 : tie.Need-same-length-3
+same-length-3 c = search needs
+
+returns-3 : tie.Need-returns-3
 unfolding print
-returns-2 c =
-    let q = c .before .before .before .before .before .before .before .before .before .before .before .before .operations in
+returns-3 c =
+    let d = c .before .before .before .before .before .before .before .before .before .before .before .before .before .before .before in
+    let S = startOf d in
+    let q = d .operations in
     let k = q .result .count in
-    let K = q .last .1 .1 .0 in
-    let I = q .last .1 .1 .1 .0 in
-    let W = q .last .1 .1 .1 .1 .0 in
-    let sizeK : length K ≡ 170 = q .kept .1 .1 .0 in
-    let sizeI : length I ≡ 170 = q .kept .1 .1 .1 .0 in
-    let sizeV : length W ≡ 170 = q .kept .1 .1 .1 .1 .0 in
-    let few = q .ensures .1 in
-    let takenK : length (take k K) ≡ k = length-take-le k K (omega arith) in
-    let takenI : length (take k I) ≡ k = length-take-le k I (omega arith) in
-    let takenV : length (take k W) ≡ k = length-take-le k W (omega arith) in
-    replied-as
-    (commit-with (c .before .before .before .before .before .before .before .before .before .before .before .before .before .before .before .before .before .args .site) k K I W (takenI ∙ sym takenK) (takenV ∙ sym takenK)
-    ∙ on-is (q .result .ok) (firstOperations k K I W) _ (λ (os : List Op). some (commitWith (c .before .before .before .before .before .before .before .before .before .before .before .before .before .before .before .before .before .args .site) os)) (q .ensures .0) (c .before .before .before .before .before .before .before .if1 .left))
-    (replied-some (commit (c .before .before .before .before .before .before .before .before .before .before .before .before .before .before .before .before .before .args .site) (take k K) (take k I) (take k W)) (c .before .before .commit .ensures .0) (c .committed .ensures))
+    let size = parts d in
+    let call = commit (S .args .site) (take k (kindsIn d)) (take k (itemsIn d)) (take k (valuesIn d)) in
+    answered-kept (S .args .site) (all operation (fieldsFrom (S .args .text .now) (S .args .from))) (keptIn d) (is-some (q .result .ok) (keptIn d) (c .before .before .before .before .before .before .before .before .before .before .if1 .left) ∙ q .ensures .0)
+    (answered-as
+    (commit-with (S .args .site) k (kindsIn d) (itemsIn d) (valuesIn d) (size .1 ∙ sym (size .0)) (size .2 ∙ sym (size .0)))
+    (answered-formed call (S .pre .formed-is) (c .before .before .before .before .before .before .before .before .before .if2 .left) (replied-some call (c .before .before .before .before .commit-on .ensures .0) (c .before .before .committed .ensures))))
 
 pub commit-at-spec : {M : Type 1} → statement M
 commit-at-spec =
@@ -98,13 +137,18 @@ commit-at-spec =
     slice-aggregate-operations-3
     operations-requires
     question-requires
+    same-length
     returns
+    no-network-requires
+    same-length-2
+    returns-2
     array-share-prefix-kinds
-    slice-aggregate-commit
+    slice-aggregate-commit-on
     array-share-prefix-items
-    slice-aggregate-commit-2
+    slice-aggregate-commit-on-2
     array-share-prefix-values
-    slice-aggregate-commit-3
-    commit-requires
+    slice-aggregate-commit-on-3
+    commit-on-requires
     committed-requires
-    returns-2)
+    same-length-3
+    returns-3)

@@ -1,4 +1,4 @@
--- `number` prints a number at the front.
+-- `number` prints a number, for which there is room.
 use native.Mathlib.Omega.{arith}
 use Rattle.decimal.proofs.Digits.{digits-short}
 use borrow.Author.Needs.{needs}

@@ -1,4 +1,4 @@
--- `question` prints one byte at the front.
+-- `question` prints one byte.
 use native.Mathlib.Omega.{arith}
 use mathlib.Core.Path.{refl}
 use Rattle.script_notation.proofs.Putting.{put-as, put-byte}
@@ -9,11 +9,14 @@ use Rattle.script_printing.proofs.question.Tie as tie
 slice-write-out : tie.Need-slice-write-out
 slice-write-out c = search needs
 
+add-result : tie.Need-add-result
+add-result c = search needs
+
 same-length : tie.Need-same-length
 same-length c = search needs
 
 returns : tie.Need-returns
-returns c = put-as (omega arith) refl (put-byte (c .args .out .now) 0 63 (omega arith))
+returns c = put-as (omega arith) refl (put-byte (c .args .out .now) (c .args .at) 63 (omega arith))
 
 pub question-spec : {M : Type 1} → statement M
-question-spec = tie.close (tie.spec slice-write-out same-length returns)
+question-spec = tie.close (tie.spec slice-write-out add-result same-length returns)
