@@ -23,7 +23,7 @@ returns c =
       performed = waiting-refused (A .state .now) (A .site) (n .result) (n .ensures) (c .if1 .taken);
       each-once = λ z. absurd (c .if1 .taken z);
       none-refused = λ _. refl;
-      filled = record { fits = omega arith; rest-is = refl };
+      filled = record { fits = omega arith; sized = refl; rest-is = refl };
     }
 
 collect-requires : tie.Need-collect-requires

@@ -87,7 +87,7 @@ returns-2 c =
     replied-as
     (commit-with (c .before .before .before .before .before .before .before .before .before .before .before .before .before .before .before .before .before .args .site) k K I W (takenI ∙ sym takenK) (takenV ∙ sym takenK)
     ∙ on-is (q .result .ok) (firstOperations k K I W) _ (λ (os : List Op). some (commitWith (c .before .before .before .before .before .before .before .before .before .before .before .before .before .before .before .before .before .args .site) os)) (q .ensures .0) (c .before .before .before .before .before .before .before .if1 .left))
-    (replied-some (commit (c .before .before .before .before .before .before .before .before .before .before .before .before .before .before .before .before .before .args .site) (take k K) (take k I) (take k W)) (c .before .before .commit .ensures .0) (c .committed .ensures))
+    (replied-some (commit (c .before .before .before .before .before .before .before .before .before .before .before .before .before .before .before .before .before .args .site) (take k K) (take k I) (take k W)) (c .before .before .commit .ensures .performed) (c .committed .ensures))
 
 pub commit-at-spec : {M : Type 1} → statement M
 commit-at-spec =

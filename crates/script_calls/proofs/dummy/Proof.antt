@@ -39,7 +39,7 @@ returns-2 c =
     let q = c .before .before .before .before .before .before .exactly in
     let L = q .last .1 .1 .0 in
     let size : length L ≡ 256 = q .kept .1 .1 .0 in
-    replied-as (is-one dummy (q .result) L (all natural (fieldsFrom (c .before .before .before .before .before .before .before .before .before .args .text .now) 2)) (q .ensures) (c .before .before .before .before .if1 .left) (omega arith)) (replied-some (dummy (getD L 0 0)) (c .before .before .dummy .ensures .0) (c .dummied .ensures))
+    replied-as (is-one dummy (q .result) L (all natural (fieldsFrom (c .before .before .before .before .before .before .before .before .before .args .text .now) 2)) (q .ensures) (c .before .before .before .before .if1 .left) (omega arith)) (replied-some (dummy (getD L 0 0)) (c .before .before .dummy .ensures .performed) (c .dummied .ensures))
 
 pub dummy-spec : {M : Type 1} → statement M
 dummy-spec =

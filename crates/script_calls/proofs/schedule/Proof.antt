@@ -39,7 +39,7 @@ returns-2 c =
     let q = c .before .before .before .before .before .before .exactly in
     let L = q .last .1 .1 .0 in
     let size : length L ≡ 256 = q .kept .1 .1 .0 in
-    replied-as (is-one schedule (q .result) L (all natural (fieldsFrom (c .before .before .before .before .before .before .before .before .before .args .text .now) 2)) (q .ensures) (c .before .before .before .before .if1 .left) (omega arith)) (replied-some (schedule (getD L 0 0)) (c .before .before .schedule .ensures .0) (c .scheduled .ensures))
+    replied-as (is-one schedule (q .result) L (all natural (fieldsFrom (c .before .before .before .before .before .before .before .before .before .args .text .now) 2)) (q .ensures) (c .before .before .before .before .if1 .left) (omega arith)) (replied-some (schedule (getD L 0 0)) (c .before .before .schedule .ensures .performed) (c .scheduled .ensures))
 
 pub schedule-spec : {M : Type 1} → statement M
 schedule-spec =
