@@ -8,7 +8,7 @@ use timestamp::Timestamp;
 ghost use mathlib.Core.Path.{_≡_};
 ghost use Prim.Native.Nat.{_+_, _*_, _≤_};
 ghost use lib.ListN.{length};
-ghost use Rattle.timestamp.specs.Timestamp.{stampOf};
+ghost use Rattle.timestamp.specs.Value.{stampOf};
 ghost use Rattle.site.specs.InWords.{opsIn};
 ghost use Rattle.limits.specs.Limits.{opsMost};
 ghost use Rattle.network_layout.specs.InWords.{networkIn, meaning};

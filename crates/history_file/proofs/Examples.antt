@@ -1,10 +1,10 @@
 -- The worked example of the file, as a fact of the definitions.
 use mathlib.Core.Path.{_≡_, refl}
 use Rattle.words.specs.Words.{chunks}
-use Rattle.timestamp.specs.Made.{rising, madeBy}
+use Rattle.timestamp_order.specs.Made.{rising, madeBy}
 use Rattle.records.specs.Records.{recordFits}
 use Rattle.site.specs.Operations.{work}
-use Rattle.timestamp.specs.Timestamp.{raisedOrSame}
+use Rattle.timestamp_order.specs.Timestamp.{raisedOrSame}
 use Rattle.placement.specs.Placement.{itemNumber, isLine}
 use Rattle.protocol.specs.Steps.{setUpNumber, setUpNetwork, commitNumber, commitNetwork}
 use Rattle.protocol.specs.Calls.{perform}

@@ -8,7 +8,6 @@ use lib.ListN.{length, getD, take, drop, length-append, drop-of-length-le, take-
 use borrow.Author.Tests.{lt-ltb, le-ltb}
 use Rattle.words.specs.Words.{part, put}
 use Rattle.words.proofs.Parts.{part-length, put-length}
-use Rattle.timestamp.specs.Timestamp.{stampOf}
 use Rattle.limits.specs.Limits.{recordsMost}
 use Rattle.records.specs.Records.{Record}
 use Rattle.network_layout.specs.declared.Entry.{Entry}
@@ -23,11 +22,11 @@ use Rattle.history_file.specs.Entries.{entryOf}
 use Rattle.history_file.specs.Promises.{exportOf}
 use Rattle.history_file.proofs.Written.{put-next, joined-append, joined-next, joined-all}
 
-pub entered-is : (r : Record) (e : Entry) → Entered r (e .site) (stampOf (e .stamp)) (e .count) (e .ops) → entryOf e ≡ r
-entered-is r e h = λ t. record { site = h .site-is t; stamp = h .stamp-is t; ops = h .ops-are t }
+pub entered-is : (r : Record) (e : Entry) → Entered r e → entryOf e ≡ r
+entered-is r e h = λ t. record { site = h .site-is t; stamp = h .stamp-is .means t; ops = h .laid .ops-are t }
 
 -- ---- the records
-module _ (hs : List Record) (i : ℕ) (less : i < length hs) (e : Entry) (is : Entered (getD hs i noRecord) (e .site) (stampOf (e .stamp)) (e .count) (e .ops)) where
+module _ (hs : List Record) (i : ℕ) (less : i < length hs) (e : Entry) (is : Entered (getD hs i noRecord) e) where
   pub body-next : joined recordBytes (take (i + 1) hs) ≡ joined recordBytes (take i hs) ++ recordBytes (entryOf e)
   body-next = joined-next recordBytes hs i noRecord less ∙ ap (λ (r : Record). joined recordBytes (take i hs) ++ recordBytes r) (sym (entered-is (getD hs i noRecord) e is))
 

@@ -5,7 +5,7 @@ use mathlib.Core.List.{List, [], map}
 use Prim.Native.Nat.{ℕ, _+_, _-_, _*_, _≤_, _<_}
 use native.Mathlib.Omega.{arith}
 use lib.IntN.{ℤ}
-use lib.ListN.{length, getD, take, drop, length-map, List·getD-map, List·getD-eq-default}
+use lib.ListN.{length, getD, drop, length-map, List·getD-map, List·getD-eq-default}
 use borrow.Author.Tests.{leb-true, le-leb, lt-leb}
 use lib.Dec.{leb}
 use mir.Val.{toZ, ofZ, SFits}
@@ -14,11 +14,13 @@ use mir.Syntax.{w32}
 use Rattle.words.specs.Words.{part, chunks}
 use Rattle.words.proofs.Parts.{part-getD}
 use Rattle.words.proofs.Chunks.{chunks-length, chunks-at}
-use Rattle.lists.proofs.Lists.{map-take, spell, spelled}
+use Rattle.lists.specs.Lists.{spell}
 use Rattle.lists.proofs.Every.{and-true}
 use Rattle.timestamp.specs.declared.Tuple.{Tuple}
-use Rattle.timestamp.specs.Timestamp.{Pair, Stamp, pairOf, stampOf, noPair, room}
-use Rattle.timestamp.specs.Order.{byNumber}
+use Rattle.timestamp_order.specs.Timestamp.{Pair, noPair, room}
+use Rattle.timestamp.specs.Value.{pairOf, PlainValue}
+use Rattle.timestamp.proofs.Plain.{plain-places, plain-as}
+use Rattle.timestamp_order.specs.Order.{byNumber}
 use Rattle.site.specs.Operations.{Op, noOp}
 use Rattle.limits.specs.Limits.{opsMost}
 use Rattle.records.specs.Records.{recordFits}
@@ -56,11 +58,8 @@ module _ (b : List ℕ) (n i : ℕ) where
 
 -- eight places, of which n are tuples
 pub stamped : (b : List ℕ) (n epoch : ℕ) (l : List Tuple) → n ≤ room → map pairOf l ≡ spell noPair 0 room (pairsOf b n)
-    → _≡_ {A = Stamp} (record { epoch = epoch; tuples = map pairOf (take n l) }) (record { epoch = epoch; tuples = pairsOf b n })
-stamped b n epoch l h e =
-    let few : length (pairsOf b n) ≤ room = omega (arith, pairs-length b n) in
-    ap {B = Stamp} (λ (ps : List Pair). record { epoch = epoch; tuples = ps })
-    (map-take pairOf n l ∙ ap₂ (λ (k : ℕ) (ps : List Pair). take k ps) (sym (pairs-length b n)) e ∙ spelled noPair room (pairsOf b n) few)
+    → PlainValue (record { epoch = epoch; tuples = pairsOf b n }) (record { epoch = record { 0 = epoch }; len = n; tuples = l })
+stamped b n epoch l h e = plain-places (record { 0 = epoch }) n l (pairsOf b n) (sym (pairs-length b n)) (omega (arith, pairs-length b n)) e
 
 -- ---- operations
 module _ (b : List ℕ) (n : ℕ) where
@@ -98,7 +97,7 @@ module _ (b : List ℕ) (t o a : ℕ) (ts : t ≡ tupleCount b) (os : o ≡ opCo
   ops-same = ap₂ (λ (x : List ℕ) (k : ℕ). opsOf x k) (rest-part b a ∙ ap (λ (k : ℕ). drop k b) (from ∙ ap (λ (k : ℕ). unitSize + unitSize * k) ts)) os
 
   pub held : (next : ℕ) (r : Found) (epoch : ℕ) → r .number ≡ 0 → r .next ≡ next → r .site ≡ getD b 0 0 → epoch ≡ numberAt b 4
-      → stampOf (r .stamp) ≡ record { epoch = epoch; tuples = pairsOf (part b unitSize (length b - unitSize)) t }
+      → PlainValue (record { epoch = epoch; tuples = pairsOf (part b unitSize (length b - unitSize)) t }) (r .stamp)
       → r .count ≡ o
       → r .kinds ≡ placesFrom (λ x. x .kind) (opsOf (part b a (length b - a)) o) 0 opsMost
       → r .items ≡ placesFrom (λ x. x .item) (opsOf (part b a (length b - a)) o) 0 opsMost
@@ -111,7 +110,7 @@ module _ (b : List ℕ) (t o a : ℕ) (ts : t ≡ tupleCount b) (os : o ≡ opCo
         number-is = n;
         next-is = x;
         site-is = s;
-        stamp-is = st ∙ (λ t. record { epoch = e t; tuples = tuples t });
+        stamp-is = plain-as (λ t. record { epoch = e t; tuples = tuples t }) st;
         count-is = c ∙ os ∙ sym (length-map (opUnits b) opRead ∙ chunks-length unitSize (opCount b) (drop (unitSize + unitSize * tupleCount b) b));
         kinds-are = ks ∙ ap (λ (l : List Op). placesFrom (λ x. x .kind) l 0 opsMost) ops-same;
         items-are = is ∙ ap (λ (l : List Op). placesFrom (λ x. x .item) l 0 opsMost) ops-same;

@@ -14,11 +14,11 @@ use mir.Syntax.{w32}
 use Rattle.words.specs.Words.{part, chunks}
 use Rattle.lists.specs.Lists.{every, everyFrom}
 use Rattle.lists.proofs.Every.{and-true}
-use Rattle.timestamp.specs.Timestamp.{Pair, Stamp, lastPair, room}
-use Rattle.timestamp.specs.Order.{byNumber}
+use Rattle.timestamp_order.specs.Timestamp.{Pair, Stamp, lastPair, room}
+use Rattle.timestamp_order.specs.Order.{byNumber}
 use Rattle.timestamp.specs.InWords.{pairsAt, stampIn, stampSize, stampRange}
-use Rattle.timestamp.specs.Made.{rising as risingOf, madeBy}
-use Rattle.timestamp.proofs.Made.{made-parts, made-length}
+use Rattle.timestamp_order.specs.Made.{rising as risingOf, madeBy}
+use Rattle.timestamp_order.proofs.Made.{made-parts, made-length}
 use Rattle.site.specs.InWords.{opIn, opsIn, opSize, opsSize}
 use Rattle.limits.specs.Limits.{opsMost}
 use Rattle.site.proofs.Laws.{ops-length}

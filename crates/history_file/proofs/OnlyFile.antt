@@ -15,7 +15,7 @@ use Rattle.lists.specs.Lists.{every, isEmpty}
 use Rattle.words.proofs.Parts.{part-length, part-getD}
 use Rattle.words.proofs.Chunks.{chunks-length}
 use Rattle.lists.proofs.Every.{and-true, every-at}
-use Rattle.timestamp.specs.Order.{byNumber}
+use Rattle.timestamp_order.specs.Order.{byNumber}
 use Rattle.records.specs.Records.{recordFits}
 use Rattle.history_file.specs.Bytes.{isByte, byte, little, unitSize, unit, joined, numberAt, allZero, padded}
 use Rattle.history_file.specs.File.{pairBytes, opBytes, recordBytes, mark, trailer, trailerSize, fileOf}

@@ -13,8 +13,8 @@ use mir.ValLaws.{toZ-ofZ, ofZ-fits}
 use mir.Syntax.{w32}
 use Rattle.words.specs.Words.{part, chunks}
 use Rattle.lists.specs.Lists.{every}
-use Rattle.timestamp.specs.Timestamp.{Pair, room}
-use Rattle.timestamp.specs.Order.{byNumber}
+use Rattle.timestamp_order.specs.Timestamp.{Pair, room}
+use Rattle.timestamp_order.specs.Order.{byNumber}
 use Rattle.site.specs.Operations.{Op}
 use Rattle.limits.specs.Limits.{opsMost}
 use Rattle.records.specs.Records.{Record, recordFits}

@@ -13,8 +13,8 @@ use Rattle.lists.specs.Lists.{every}
 use Rattle.words.proofs.Parts.{part-getD, part-part}
 use Rattle.words.proofs.Chunks.{chunks-length, chunks-at}
 use Rattle.lists.proofs.Every.{every-false, every-next, every-done}
-use Rattle.timestamp.specs.Timestamp.{Pair, noPair, lastPair}
-use Rattle.timestamp.proofs.Value.{last-at}
+use Rattle.timestamp_order.specs.Timestamp.{Pair, noPair, lastPair}
+use Rattle.timestamp_order.proofs.Timestamp.{last-at}
 use Rattle.records.specs.Records.{opFits}
 use Rattle.history_file.specs.Bytes.{unitSize, byte, unit, numberAt, padded, allZero}
 use Rattle.history_file.specs.Reading.{pairRead, opRead, countsFit}

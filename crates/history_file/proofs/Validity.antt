@@ -11,9 +11,9 @@ use borrow.Author.Tests.{lt-ltb, le-ltb, le-leb, lt-leb, eq-eqb, ne-eqb, leb-tru
 use Rattle.words.specs.Words.{part, chunks}
 use Rattle.lists.specs.Lists.{every, isEmpty}
 use Rattle.lists.proofs.Every.{and-true}
-use Rattle.timestamp.specs.Timestamp.{Stamp}
-use Rattle.timestamp.specs.Order.{byNumber}
-use Rattle.timestamp.specs.Made.{madeBy, rising as risingOf}
+use Rattle.timestamp_order.specs.Timestamp.{Stamp}
+use Rattle.timestamp_order.specs.Order.{byNumber}
+use Rattle.timestamp_order.specs.Made.{madeBy, rising as risingOf}
 use Rattle.records.specs.Records.{opFits, recordFits}
 use Rattle.history_file.specs.Bytes.{unitSize, padded}
 use Rattle.history_file.specs.Reading.{opRead, tupleCount, opCount, tupleUnits, opUnits, recordRead, sizeRead, countsFit, padsZero, recordValid, recordsFill}

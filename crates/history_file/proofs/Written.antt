@@ -12,7 +12,7 @@ use mir.Val.{toZ, ofZ}
 use mir.ValLaws.{ofZ-toZ}
 use mir.Syntax.{w32}
 use Rattle.words.proofs.Parts.{lent-length}
-use Rattle.timestamp.specs.Timestamp.{Pair}
+use Rattle.timestamp_order.specs.Timestamp.{Pair}
 use Rattle.site.specs.Operations.{Op}
 use Rattle.site.specs.InWords.{opIn, opsIn}
 use Rattle.site.proofs.Laws.{op-word, ops-at}

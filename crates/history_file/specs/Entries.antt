@@ -1,5 +1,5 @@
 -- The record that a value of the code stands for.
-use Rattle.timestamp.specs.Timestamp.{stampOf}
+use Rattle.timestamp.specs.Value.{stampOf}
 use Rattle.site.specs.InWords.{opsIn}
 use Rattle.records.specs.Records.{Record}
 use Rattle.network_layout.specs.declared.Entry.{Entry}

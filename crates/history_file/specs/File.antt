@@ -4,7 +4,7 @@ use Prim.Native.Nat.{ℕ, _+_}
 use lib.ListN.{length}
 use mir.Val.{ofZ}
 use mir.Syntax.{w32}
-use Rattle.timestamp.specs.Timestamp.{Pair}
+use Rattle.timestamp_order.specs.Timestamp.{Pair}
 use Rattle.site.specs.Operations.{Op}
 use Rattle.records.specs.Records.{Record}
 use Rattle.protocol.specs.Network.{Network}

@@ -6,7 +6,7 @@ use mathlib.Core.Option.{Option, none, some}
 use Prim.Native.Nat.{ℕ, zero, suc, _+_}
 use lib.ListN.{length, getD, drop}
 use lib.Dec.{eqb, ltb, leb}
-use Rattle.timestamp.specs.Timestamp.{stampOf}
+use Rattle.timestamp.specs.Value.{PlainValue}
 use Rattle.site.specs.Operations.{Op, noOp}
 use Rattle.limits.specs.Limits.{opsMost}
 use Rattle.lists.specs.Numbers.{firstNumber, numberIf}
@@ -51,12 +51,12 @@ pub record Step : Type 0 where
 abbrev pub noStep : ℕ → Step
 noStep k = record { number = k; next = 0; found = noRecord }
 
--- the fields of the code's value are those of the answer; its operations stand at eight places
+-- the fields of the code's value are those of the answer, its timestamp plain; its operations stand at eight places
 pub record Gives (s : Step) (r : Found) : Type 0 where
   pub number-is : r .number ≡ s .number
   pub next-is : r .next ≡ s .next
   pub site-is : r .site ≡ s .found .site
-  pub stamp-is : stampOf (r .stamp) ≡ s .found .stamp
+  pub stamp-is : PlainValue (s .found .stamp) (r .stamp)
   pub count-is : r .count ≡ length (s .found .ops)
   pub kinds-are : r .kinds ≡ placesFrom (λ o. o .kind) (s .found .ops) 0 opsMost
   pub items-are : r .items ≡ placesFrom (λ o. o .item) (s .found .ops) 0 opsMost

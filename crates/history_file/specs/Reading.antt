@@ -8,8 +8,8 @@ use mir.Val.{toZ}
 use mir.Syntax.{w32}
 use Rattle.words.specs.Words.{part, chunks}
 use Rattle.lists.specs.Lists.{every, isEmpty}
-use Rattle.timestamp.specs.Timestamp.{Pair, room}
-use Rattle.timestamp.specs.Order.{byNumber}
+use Rattle.timestamp_order.specs.Timestamp.{Pair, room}
+use Rattle.timestamp_order.specs.Order.{byNumber}
 use Rattle.site.specs.Operations.{Op}
 use Rattle.limits.specs.Limits.{opsMost, sitesMost, itemsMost, recordsMost}
 use Rattle.lists.specs.Numbers.{firstNumber, numberIf, outside}

@@ -2,7 +2,7 @@
 use mathlib.Core.List.{List}
 use Prim.Native.Nat.{ℕ, _*_, _≤_, _<_}
 use lib.ListN.{length}
-use Rattle.timestamp.specs.Timestamp.{room}
+use Rattle.timestamp_order.specs.Timestamp.{room}
 use Rattle.limits.specs.Limits.{opsMost}
 use Rattle.history_file.specs.Bytes.{unitSize}
 use Rattle.history_file.specs.Reading.{tupleCount, opCount, sizeRead}

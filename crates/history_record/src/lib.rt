@@ -9,7 +9,8 @@ ghost use mathlib.Core.List.{map};
 ghost use Prim.Native.Nat.{_+_, _*_, _≤_};
 ghost use lib.ListN.{length, getD};
 ghost use Rattle.words.specs.Words.{part, chunks};
-ghost use Rattle.timestamp.specs.Timestamp.{stampOf, pairOf, noPair, room};
+ghost use Rattle.timestamp.specs.Value.{pairOf, PlainValue};
+ghost use Rattle.timestamp_order.specs.Timestamp.{noPair, room};
 ghost use Rattle.limits.specs.Limits.{opsMost};
 ghost use Rattle.history_file.specs.Bytes.{unitSize};
 ghost use Rattle.history_file.specs.Reading.{pairRead, opRead, recordRead};
@@ -52,7 +53,7 @@ fn tuple_at(b: &[u8], n: usize, i: usize) -> Tuple
 // The timestamp of n tuples.
 fn stamp(b: &[u8], n: usize, epoch: u32) -> Timestamp
     requires { ⌜ Units (now b) n room ⌝ }
-    ensures { λ r. ⌜ stampOf r ≡ record { epoch = epoch; tuples = map pairRead (chunks unitSize n (now (b .entry))) } ⌝ }
+    ensures { λ r. ⌜ PlainValue (record { epoch = epoch; tuples = map pairRead (chunks unitSize n (now (b .entry))) }) r ⌝ }
 {
     Timestamp {
         epoch: Epoch(epoch),
@@ -135,19 +136,11 @@ fn found(b: &[u8], next: usize) -> Found
 pub fn refused(number: u32) -> Found
     ensures { λ r. ⌜ Gives (noStep number) r ⌝ }
 {
-    let noPair = Tuple {
-        site: 0,
-        count: Count(0),
-    };
     Found {
         number,
         next: 0,
         site: 0,
-        stamp: Timestamp {
-            epoch: Epoch(0),
-            len: 0,
-            tuples: [noPair; 8],
-        },
+        stamp: timestamp::zero(),
         count: 0,
         kinds: [0; 8],
         items: [0; 8],

@@ -16,12 +16,15 @@ use Rattle.words.proofs.Steps.{step-same}
 use Rattle.lists.proofs.Lists.{take-min, take-rest}
 use Rattle.words.proofs.Walks.{overlaid-same}
 use Rattle.lists.proofs.Every.{and-true, every-snoc, every-rest}
-use Rattle.timestamp.specs.Timestamp.{Stamp, room}
+use Rattle.timestamp_order.specs.Timestamp.{Stamp, noStamp, room}
+use Rattle.timestamp.specs.declared.Timestamp.{Timestamp}
+use Rattle.timestamp.specs.Value.{PlainValue}
 use Rattle.timestamp.specs.InWords.{stampIn, stampSize, stampRange, stampWords}
 use Rattle.timestamp.proofs.Words.{words-back, words-length}
+use Rattle.lines.specs.declared.Message.{Message as MessageValue}
 use Rattle.lines.specs.Lines.{Message, commit, dummy, nameOf, Line, sent, delivered, taken, sentOrSame, deliveredOrSame, takenOrSame}
 use Rattle.limits.specs.Limits.{heldMost, recordsMost}
-use Rattle.lines.specs.InWords.{messageSize, messageIn, messageRange, boxesAt, boxesSize, lineSize, boxesIn, lineFrom, lineIn, lineRange, lineCounted, First}
+use Rattle.lines.specs.InWords.{messageSize, messageIn, messageRange, PlainMessage, boxesAt, boxesSize, lineSize, boxesIn, lineFrom, lineIn, lineRange, lineCounted, First}
 
 -- ---- how many there are
 pub boxes-length : (w : List ℕ) → length (boxesIn w) ≡ min (getD w 0 0) heldMost
@@ -316,21 +319,32 @@ module _ (w : List ℕ) (i : ℕ) where
       let is : x ≡ getD own 0 0 = e ∙ ap (λ (j : ℕ). getD w j 0) place ∙ sym (part-getD w at messageSize 0 (omega arith)) in
       ap (λ (y : ℕ). min y recordsMost) is ∙ named-by (getD own 0 0) (stampIn (part own 1 stampSize)) ∙ sym (ap nameOf (message-at w i h))
 
+-- ---- a message as a value
+pub commit-value : (k : ℕ) (t : Timestamp) → k < recordsMost → PlainValue noStamp t → PlainMessage (commit k) (record { name = k; stamp = t })
+commit-value k t h v = record { means = rw (lt-ltb k recordsMost h); name-is = refl; stamp-is = v }
+
+module _ (w : List ℕ) (name : ℕ) (is : name ≡ getD w 0 0) where
+  pub value-commit : name < recordsMost → (v : MessageValue) → PlainMessage (commit name) v → PlainMessage (messageIn w) v
+  value-commit h v p = rw (lt-ltb (getD w 0 0) recordsMost (omega arith), ← is) p
+
+  pub value-dummy : recordsMost ≤ name → (t : Timestamp) → PlainValue (stampIn (part w 1 stampSize)) t → PlainMessage (messageIn w) (record { name = recordsMost; stamp = t })
+  value-dummy h t p = rw (le-ltb (getD w 0 0) recordsMost (omega arith)) (record { means = ap dummy (p .means); name-is = refl; stamp-is = p })
+
 -- ---- the oldest message
 module _ (w : List ℕ) (size : length w ≡ lineSize) where
-  pub first-none : (n : ℕ) → n ≡ min (getD w 0 0) heldMost → n ≡ 0 → (m : Message) → m ≡ commit 0 → First w m
-  first-none n is z m e =
+  pub first-none : (n : ℕ) → n ≡ min (getD w 0 0) heldMost → n ≡ 0 → (v : MessageValue) → PlainMessage (commit 0) v → First w v
+  first-none n is z v e =
       record {
-        sized = λ s. e ∙ sym (List·getD-eq-default (lineIn w .messages) (commit 0) {n = 0} (omega (arith, messages-length w)));
+        sized = λ s. subst (λ (m : Message). PlainMessage m v) (sym (List·getD-eq-default (lineIn w .messages) (commit 0) {n = 0} (omega (arith, messages-length w)))) e;
         unsized = λ no-size. absurd (no-size size);
       }
 
-  pub first-some : (n : ℕ) → n ≡ min (getD w 0 0) heldMost → (n ≡ 0 → ⊥) → (m : Message) → m ≡ messageIn (part w boxesAt messageSize) → First w m
-  first-some n is some m e =
+  pub first-some : (n : ℕ) → n ≡ min (getD w 0 0) heldMost → (n ≡ 0 → ⊥) → (v : MessageValue) → PlainMessage (messageIn (part w boxesAt messageSize)) v → First w v
+  first-some n is some v e =
       record {
-        sized = λ s. e ∙ sym (message-at w 0 (omega (arith, messages-length w)));
+        sized = λ s. subst (λ (m : Message). PlainMessage m v) (sym (message-at w 0 (omega (arith, messages-length w)))) e;
         unsized = λ no-size. absurd (no-size size);
       }
 
-pub first-unsized : (w : List ℕ) (m : Message) → (length w ≡ lineSize → ⊥) → m ≡ commit 0 → First w m
-first-unsized w m no-size e = record { sized = λ s. absurd (no-size s); unsized = λ n. e }
+pub first-unsized : (w : List ℕ) (v : MessageValue) → (length w ≡ lineSize → ⊥) → PlainMessage (commit 0) v → First w v
+first-unsized w v no-size e = record { sized = λ s. absurd (no-size s); unsized = λ n. e }

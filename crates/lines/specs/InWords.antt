@@ -7,10 +7,10 @@ use lib.ListN.{length, take, getD}
 use lib.Dec.{ltb, leb}
 use Rattle.words.specs.Words.{part, chunks}
 use Rattle.lists.specs.Lists.{every}
-use Rattle.timestamp.specs.Timestamp.{stampOf}
+use Rattle.timestamp.specs.Value.{stampOf, PlainValue}
 use Rattle.timestamp.specs.InWords.{stampIn, stampSize, stampRange}
 use Rattle.lines.specs.declared.Message.{Message as MessageValue}
-use Rattle.lines.specs.Lines.{Message, commit, dummy, Line}
+use Rattle.lines.specs.Lines.{Message, commit, dummy, nameOf, ownStamp, Line}
 use Rattle.limits.specs.Limits.{heldMost, recordsMost}
 
 abbrev pub messageSize : ℕ
@@ -26,6 +26,12 @@ messageRange w = ltb (getD w 0 0) recordsMost || stampRange (part w 1 stampSize)
 -- what a value of the code means
 abbrev pub messageOf : MessageValue → Message
 messageOf m = cond (ltb (m .name) recordsMost) (commit (m .name)) (dummy (stampOf (m .stamp)))
+
+-- the value of a message: its name, 256 of every dummy, and its own timestamp, plain
+pub record PlainMessage (m : Message) (v : MessageValue) : Type 0 where
+  pub means : messageOf v ≡ m
+  pub name-is : v .name ≡ nameOf m
+  pub stamp-is : PlainValue (ownStamp m) (v .stamp)
 
 -- ---- the line
 -- where its messages start, and the words of all of them
@@ -57,6 +63,6 @@ unfoldable pub lineCounted : List ℕ → Bool
 lineCounted w = leb (getD w 0 0) heldMost && leb (getD w 1 0) (getD w 0 0)
 
 -- the oldest message of a line; the commit of number 0 where there is none, or the words are no line
-pub record First (w : List ℕ) (m : Message) : Type 0 where
-  pub sized : length w ≡ lineSize → m ≡ getD (lineIn w .messages) 0 (commit 0)
-  pub unsized : (length w ≡ lineSize → ⊥) → m ≡ commit 0
+pub record First (w : List ℕ) (v : MessageValue) : Type 0 where
+  pub sized : length w ≡ lineSize → PlainMessage (getD (lineIn w .messages) 0 (commit 0)) v
+  pub unsized : (length w ≡ lineSize → ⊥) → PlainMessage (commit 0) v

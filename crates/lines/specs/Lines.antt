@@ -5,7 +5,7 @@ use Prim.Native.Nat.{ℕ, _+_, _-_}
 use lib.ListN.{length, drop}
 use lib.Dec.{ltb}
 use Rattle.limits.specs.Limits.{heldMost, recordsMost}
-use Rattle.timestamp.specs.Timestamp.{Stamp}
+use Rattle.timestamp_order.specs.Timestamp.{Stamp, noStamp}
 
 -- a message names a recorded commit by its number, or is a dummy with its own timestamp
 pub data Message : Type 0 where
@@ -16,6 +16,11 @@ pub data Message : Type 0 where
 abbrev pub nameOf : Message → ℕ
 nameOf (commit k) = k
 nameOf (dummy t) = recordsMost
+
+-- the timestamp of a dummy; a message that names a commit has none of its own
+abbrev pub ownStamp : Message → Stamp
+ownStamp (commit k) = noStamp
+ownStamp (dummy t) = t
 
 pub record Line : Type 0 where
   pub messages : List Message

@@ -1,19 +1,16 @@
 // A line of messages in words of a lent slice: sent at its end, delivered in order, taken off at its front.
 use limits::MESSAGES;
 use limits::MESSAGES_WIDE;
-use limits::SITES_WIDE;
-use timestamp::Count;
-use timestamp::Epoch;
+use limits::RECORDS;
 use timestamp::Timestamp;
-use timestamp::Tuple;
 ghost use mathlib.Core.Path.{_≡_};
 ghost use mathlib.Core.Bool.{true};
-ghost use Prim.Native.Nat.{min, _-_, _≤_};
+ghost use Prim.Native.Nat.{min, _-_, _≤_, _<_};
 ghost use lib.ListN.{length, getD};
 ghost use Rattle.words.specs.Words.{Stepped};
 ghost use Rattle.lines.specs.Lines.{commit, nameOf, sentOrSame, deliveredOrSame, takenOrSame};
 ghost use Rattle.limits.specs.Limits.{heldMost, recordsMost};
-ghost use Rattle.lines.specs.InWords.{messageIn, messageRange, messageOf, messageSize, lineIn, lineRange, lineSize, lineCounted, First};
+ghost use Rattle.lines.specs.InWords.{messageIn, messageRange, messageOf, messageSize, PlainMessage, lineIn, lineRange, lineSize, lineCounted, First};
 
 // A message: the number of the record that it names, or 256 and more for a dummy, which has its own timestamp.
 pub struct Message {
@@ -64,27 +61,27 @@ pub fn counted(l: &[u32]) -> bool
     words::word(l, ARRIVED) <= n
 }
 
-// The oldest message; the name 0 where there is none, or the slice is no line.
+// The oldest message, its name 256 where it is a dummy; the name 0 where there is none, or the slice is no line.
 pub fn first(l: &[u32]) -> Message
-    ensures { λ r. ⌜ First (now (l .entry)) (messageOf r) ⌝ }
+    ensures { λ r. ⌜ First (now (l .entry)) r ⌝ }
 {
     if l.len() != WORDS {
-        return nameless();
+        return named(0);
     }
     if held_word(l) == 0 {
-        return nameless();
+        return named(0);
     }
     message_in(&l[BOXES..SECOND])
 }
 
-// The name of message i: 256 and more where it is a dummy, 0 where there is none.
+// The name of message i: 256 where it is a dummy, 0 where there is none.
 pub fn name(l: &[u32], i: usize) -> u32
-    ensures { λ r. ⌜ min r recordsMost ≡ nameOf (getD (lineIn (now (l .entry)) .messages) i (commit 0)) ⌝ }
+    ensures { λ r. ⌜ r ≡ nameOf (getD (lineIn (now (l .entry)) .messages) i (commit 0)) ⌝ }
 {
     if held(l) <= i {
         return 0;
     }
-    words::word(l, BOXES + i * MESSAGE)
+    clipped(words::word(l, BOXES + i * MESSAGE))
 }
 
 // A message sent, where the line holds less than 16.
@@ -136,10 +133,14 @@ pub fn take(l: &mut [u32])
 // ---- one message
 fn message_in(w: &[u32]) -> Message
     requires { ⌜ length (now w) ≡ messageSize ⌝ }
-    ensures { λ r. ⌜ messageOf r ≡ messageIn (now (w .entry)) ⌝ }
+    ensures { λ r. ⌜ PlainMessage (messageIn (now (w .entry))) r ⌝ }
 {
+    let name = words::word(w, NAME);
+    if name < RECORDS {
+        return named(name);
+    }
     Message {
-        name: words::word(w, NAME),
+        name: RECORDS,
         stamp: timestamp::from_words(&w[STAMP..MESSAGE]),
     }
 }
@@ -153,20 +154,25 @@ fn put_message(w: &mut [u32], m: Message)
     t.write_to(&mut w[STAMP..MESSAGE]);
 }
 
-// The message of name 0.
-fn nameless() -> Message
-    ensures { λ r. ⌜ messageOf r ≡ commit 0 ⌝ }
+// The message that names a commit.
+fn named(name: u32) -> Message
+    requires { ⌜ name < recordsMost ⌝ }
+    ensures { λ r. ⌜ PlainMessage (commit name) r ⌝ }
 {
-    let none = Tuple {
-        site: 0,
-        count: Count(0),
-    };
-    let t = Timestamp {
-        epoch: Epoch(0),
-        len: 0,
-        tuples: [none; SITES_WIDE],
-    };
-    Message { name: 0, stamp: t }
+    Message {
+        name,
+        stamp: timestamp::zero(),
+    }
+}
+
+// A name: 256 of every dummy.
+fn clipped(name: u32) -> u32
+    ensures { λ r. ⌜ r ≡ min name recordsMost ⌝ }
+{
+    if name < RECORDS {
+        return name;
+    }
+    RECORDS
 }
 
 // The number of messages held, as a word.

@@ -1,4 +1,5 @@
 pub mod Lists
+pub mod Filled
 pub mod Every
 pub mod Some
 pub mod Numbers

@@ -6,6 +6,7 @@ use native.Mathlib.Omega.{arith}
 use native.Mathlib.Nat.{zero-min, suc-min-suc}
 use lib.ListN.{length, getD, set, take, drop, drop-of-length-le}
 use lib.Seq.{drop-cons, take-nil, drop-nil}
+use Rattle.lists.specs.Lists.{spell}
 
 module _ {A : Type 0} where
   pub take-min : (n : ℕ) (l : List A) → take (min n (length l)) l ≡ take n l
@@ -47,23 +48,18 @@ module _ {A B : Type 0} (f : A → B) where
 
 -- ---- a list of a known length, written out
 module _ {A : Type 0} (d : A) where
-  -- n elements from place i on, d past the end
-  abbrev pub spell : ℕ → ℕ → List A → List A
-  spell i zero l = []
-  spell i (suc n) l = getD l i d ∷ spell (suc i) n l
-
-  spelled-from : (i n : ℕ) (l : List A) → length l ≤ i + n → take (length l - i) (spell i n l) ≡ drop i l
+  spelled-from : (i n : ℕ) (l : List A) → length l ≤ i + n → take (length l - i) (spell d i n l) ≡ drop i l
   spelled-from i zero l h = take-nil (length l - i) ∙ sym (drop-of-length-le l {i = i} (omega arith))
   spelled-from i (suc n) l h = go (length l - i) refl (λ g. spelled-from (suc i) n l g)
     where
-      go : (m : ℕ) → length l - i ≡ m → (length l ≤ suc i + n → take (length l - suc i) (spell (suc i) n l) ≡ drop (suc i) l) → take (length l - i) (spell i (suc n) l) ≡ drop i l
-      go zero e rest = ap (λ (k : ℕ). take k (spell i (suc n) l)) e ∙ sym (drop-of-length-le l {i = i} (omega arith))
+      go : (m : ℕ) → length l - i ≡ m → (length l ≤ suc i + n → take (length l - suc i) (spell d (suc i) n l) ≡ drop (suc i) l) → take (length l - i) (spell d i (suc n) l) ≡ drop i l
+      go zero e rest = ap (λ (k : ℕ). take k (spell d i (suc n) l)) e ∙ sym (drop-of-length-le l {i = i} (omega arith))
       go (suc m) e rest =
           let f : length l - suc i ≡ m = omega arith in
-          ap (λ (k : ℕ). take k (spell i (suc n) l)) e
-          ∙ ap {B = List A} (λ r. getD l i d ∷ r) (ap (λ (k : ℕ). take k (spell (suc i) n l)) (sym f) ∙ rest (omega arith))
+          ap (λ (k : ℕ). take k (spell d i (suc n) l)) e
+          ∙ ap {B = List A} (λ r. getD l i d ∷ r) (ap (λ (k : ℕ). take k (spell d (suc i) n l)) (sym f) ∙ rest (omega arith))
           ∙ sym (drop-cons l i d (omega arith))
 
   -- the elements of a list of at most n, among n written out
-  pub spelled : (n : ℕ) (l : List A) → length l ≤ n → take (length l) (spell 0 n l) ≡ l
-  spelled n l h = let z : length l - 0 ≡ length l = omega arith in ap (λ (k : ℕ). take k (spell 0 n l)) (sym z) ∙ spelled-from 0 n l (omega arith)
+  pub spelled : (n : ℕ) (l : List A) → length l ≤ n → take (length l) (spell d 0 n l) ≡ l
+  spelled n l h = let z : length l - 0 ≡ length l = omega arith in ap (λ (k : ℕ). take k (spell d 0 n l)) (sym z) ∙ spelled-from 0 n l (omega arith)

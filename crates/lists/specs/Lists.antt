@@ -1,7 +1,9 @@
--- Tests over the elements of a list, and the elements that pass one.
+-- Tests over the elements of a list, the elements that pass one, and places of which the first are used.
+use mathlib.Core.Path.{_≡_}
 use mathlib.Core.Bool.{Bool, true, false, cond, _&&_, _||_}
 use mathlib.Core.List.{List, [], _∷_}
-use Prim.Native.Nat.{ℕ, zero, suc}
+use Prim.Native.Nat.{ℕ, zero, suc, _-_, _≤_}
+use lib.ListN.{length, getD, drop, replicate}
 
 abbrev pub isEmpty : {A : Type 0} → List A → Bool
 isEmpty [] = true
@@ -36,3 +38,14 @@ keep p (x ∷ xs) = cond (p x) (x ∷ keep p xs) (keep p xs)
 abbrev pub upTo : ℕ → ℕ → List ℕ
 upTo k zero = []
 upTo k (suc n) = k ∷ upTo (suc k) n
+
+-- n elements from place i on, d past the end
+abbrev pub spell : {A : Type 0} → A → ℕ → ℕ → List A → List A
+spell d i zero l = []
+spell d i (suc n) l = getD l i d ∷ spell d (suc i) n l
+
+-- of so many places the first `count` are used, and the rest are z
+pub record Filled {A : Type 0} (z : A) (places count : ℕ) (vs : List A) : Type 0 where
+  pub fits : count ≤ places
+  pub sized : length vs ≡ places
+  pub rest-is : drop count vs ≡ replicate (places - count) z

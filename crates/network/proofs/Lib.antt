@@ -1,1 +1,2 @@
 pub mod RecordWords
+pub mod Refusals

@@ -25,7 +25,6 @@ pub use network_waiting::waiting;
 use site::OPERATIONS;
 ghost use mathlib.Core.Path.{_≡_};
 ghost use lib.ListN.{length, getD};
-ghost use Rattle.timestamp.specs.Timestamp.{stampOf};
 ghost use Rattle.network_layout.specs.Layout.{stateSize};
 ghost use Rattle.protocol.specs.Network.{noRecord};
 ghost use Rattle.network_layout.specs.InWords.{networkIn, shaped as shapedWords};
@@ -50,16 +49,16 @@ pub fn holdings(state: &[u32; WORDS]) -> Totals
     }
 }
 
-// The record of a number; all zero where there is none.
+// The record of a number, its operations' words 0 past the last; all zero where there is none.
 pub fn record(state: &[u32; WORDS], k: usize) -> Entry
-    ensures { λ r. ⌜ Entered (getD (networkIn (now (state .entry)) .history) k noRecord) (r .site) (stampOf (r .stamp)) (r .count) (r .ops) ⌝ }
+    ensures { λ r. ⌜ Entered (getD (networkIn (now (state .entry)) .history) k noRecord) r ⌝ }
 {
     record_in(state, k)
 }
 
 fn record_in(state: &[u32], k: usize) -> Entry
     requires { ⌜ length (now state) ≡ stateSize ⌝ }
-    ensures { λ r. ⌜ Entered (getD (networkIn (now (state .entry)) .history) k noRecord) (r .site) (stampOf (r .stamp)) (r .count) (r .ops) ⌝ }
+    ensures { λ r. ⌜ Entered (getD (networkIn (now (state .entry)) .history) k noRecord) r ⌝ }
 {
     if words::wide(network_access::record_count(state)) <= k {
         return no_entry();
@@ -72,7 +71,7 @@ fn record_in(state: &[u32], k: usize) -> Entry
 
 fn entry_in(state: &[u32], k: usize) -> Entry
     requires { ⌜ HasRecord (now state) k ⌝ }
-    ensures { λ r. ⌜ Entered (getD (networkIn (now (state .entry)) .history) k noRecord) (r .site) (stampOf (r .stamp)) (r .count) (r .ops) ⌝ }
+    ensures { λ r. ⌜ Entered (getD (networkIn (now (state .entry)) .history) k noRecord) r ⌝ }
 {
     Entry {
         site: network_access::record_site(state, k),
@@ -83,12 +82,11 @@ fn entry_in(state: &[u32], k: usize) -> Entry
 }
 
 fn no_entry() -> Entry
-    ensures { λ r. ⌜ Entered noRecord (r .site) (stampOf (r .stamp)) (r .count) (r .ops) ⌝ }
+    ensures { λ r. ⌜ Entered noRecord r ⌝ }
 {
-    let none = network_access::no_stamp();
     Entry {
         site: 0,
-        stamp: none,
+        stamp: timestamp::zero(),
         count: 0,
         ops: [0u32; OPERATIONS],
     }

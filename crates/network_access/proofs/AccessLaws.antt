@@ -1,16 +1,17 @@
 -- A site, a line or a record lent as a part of the state: what is read of it, and what a step on it does to the network.
-use mathlib.Core.Path.{_≡_, sym, ap, _∙_}
+use mathlib.Core.Path.{_≡_, sym, ap, ap₂, subst, _∙_}
 use mathlib.Core.Bool.{true}
 use mathlib.Core.List.{List}
 use Prim.Native.Nat.{ℕ, _+_, _-_, _*_, _≤_, _<_, min}
 use native.Mathlib.Omega.{arith}
-use lib.ListN.{length, getD, set}
+use lib.ListN.{length, getD, set, take, replicate}
 use Rattle.words.specs.Words.{part, put, overlaid, Stepped}
 use Rattle.words.proofs.Parts.{part-length, lent-part, lent-put, lent-size}
-use Rattle.words.proofs.Walks.{overlaid-same}
-use Rattle.timestamp.specs.Timestamp.{Stamp}
+use Rattle.timestamp_order.specs.Timestamp.{Stamp}
+use Rattle.site.specs.Operations.{Op}
 use Rattle.site.specs.Site.{Site}
-use Rattle.site.specs.InWords.{siteIn, siteRange, siteSize, opsIn, opsSize}
+use Rattle.site.specs.InWords.{siteIn, siteRange, siteSize, opsIn, opSize, opsSize, OpsLaid}
+use Rattle.site.proofs.Laws.{front-laid}
 use Rattle.limits.specs.Limits.{opsMost, sitesMost}
 use Rattle.lines.specs.Lines.{Line, noLine}
 use Rattle.lines.specs.InWords.{lineIn, lineRange, lineSize}
@@ -58,15 +59,15 @@ module _ (w : List ℕ) (k : ℕ) where
         meant = ap recordIn (lent-part w (recordStart k) recordSize) ∙ sym (record-read w size k (h .there) (h .few));
       }
 
-  -- its operations' words, copied over as many others
-  pub record-copied : (ys : List ℕ) → Lent recordSize recordIn (getD (networkIn w .history) k noRecord) ys → (d out : List ℕ) → length d ≡ opsSize → out ≡ overlaid d (opsWords ys)
-      → opsIn (length (getD (networkIn w .history) k noRecord .ops)) out ≡ getD (networkIn w .history) k noRecord .ops
-  record-copied ys l d out long is =
+  -- the words of its operations, copied over zeros
+  pub record-copied : (ys : List ℕ) → Lent recordSize recordIn (getD (networkIn w .history) k noRecord) ys → (n : ℕ) → n ≡ length (getD (networkIn w .history) k noRecord .ops) → n ≤ opsMost → (out : List ℕ) → out ≡ overlaid (replicate opsSize 0) (take (n * opSize) (opsWords ys))
+      → OpsLaid (length (getD (networkIn w .history) k noRecord .ops)) (getD (networkIn w .history) k noRecord .ops) out
+  record-copied ys l n count few out is =
       let size = l .sized in
-      ap (λ (r : Record). opsIn (length (r .ops)) out) (sym (l .meant))
-      ∙ ap (opsIn (length (recordIn ys .ops))) (is ∙ overlaid-same d (opsWords ys) (part-length ys opsAt opsSize (omega arith) ∙ sym long))
-      ∙ ops-whole ys
-      ∙ ap (λ (r : Record). r .ops) (l .meant)
+      let all : n ≡ length (recordIn ys .ops) = count ∙ ap (λ (r : Record). length (r .ops)) (sym (l .meant)) in
+      let front = front-laid n (opsWords ys) (part-length ys opsAt opsSize (omega arith)) few in
+      let own : OpsLaid n (recordIn ys .ops) out = rw is (subst (λ (os : List Op). OpsLaid n os (overlaid (replicate opsSize 0) (take (n * opSize) (opsWords ys)))) (ap (λ (j : ℕ). opsIn j (opsWords ys)) all ∙ ops-whole ys) front) in
+      subst (λ (r : Record). OpsLaid (length (r .ops)) (r .ops) out) (l .meant) (subst (λ (j : ℕ). OpsLaid j (recordIn ys .ops) out) all own)
 
   few-sites : AtSite w k → siteCount w ≤ sitesMost
   unfolding partsOf

@@ -8,29 +8,26 @@ use network_layout::RECORD;
 use network_layout::RECORD_COUNT;
 use network_layout::SITE;
 use network_layout::SITES;
+use site::OPERATION;
 use site::OPERATIONS;
-use timestamp::Count;
-use timestamp::Epoch;
 use timestamp::GREATEST;
 use timestamp::Timestamp;
-use timestamp::Tuple;
 ghost use mathlib.Core.Path.{_≡_};
 ghost use Prim.Native.Nat.{min, _≤_};
 ghost use lib.ListN.{length, getD};
-ghost use Rattle.timestamp.specs.Timestamp.{stampOf};
+ghost use Rattle.timestamp.specs.Value.{stampOf, PlainValue};
 ghost use Rattle.site.specs.Operations.{worked};
 ghost use Rattle.site.specs.Site.{committed, dummied, atEpoch, received};
-ghost use Rattle.site.specs.InWords.{siteIn, siteSize, opsIn};
+ghost use Rattle.site.specs.InWords.{siteIn, siteSize, opsIn, OpsLaid};
 ghost use Rattle.limits.specs.Limits.{opsMost, heldMost};
 ghost use Rattle.lines.specs.Lines.{commit, noLine, sentOrSame, deliveredOrSame, takenOrSame};
-ghost use Rattle.lines.specs.InWords.{messageOf, lineIn, lineSize};
+ghost use Rattle.lines.specs.InWords.{messageOf, PlainMessage, lineIn, lineSize};
 ghost use Rattle.records.specs.InWords.{recordIn, recordSize};
 ghost use Rattle.network_layout.specs.Layout.{stateSize, recordCount};
-ghost use Rattle.protocol.specs.Network.{lineNumber, siteAt, noRecord, noStamp};
+ghost use Rattle.protocol.specs.Network.{lineNumber, siteAt, noRecord};
 ghost use Rattle.protocol.specs.Steps.{countAtMost};
 ghost use Rattle.network_layout.specs.InWords.{networkIn, SiteStep, LineStep, RecordStep};
 ghost use Rattle.network_layout.specs.At.{AtSite, AtLine, AtRoom, HasLine, HasRecord};
-ghost use Rattle.network_layout.specs.Promises.{Blank};
 ghost use Rattle.network_access.specs.Lent.{Lent};
 
 // ---- lines
@@ -67,7 +64,7 @@ pub fn line_arrived(state: &[u32], k: usize) -> usize
 
 pub fn line_first(state: &[u32], k: usize) -> Message
     requires { ⌜ HasLine (now state) k ⌝ }
-    ensures { λ r. ⌜ messageOf r ≡ getD (getD (networkIn (now (state .entry)) .lines) k noLine .messages) 0 (commit 0) ⌝ }
+    ensures { λ r. ⌜ PlainMessage (getD (getD (networkIn (now (state .entry)) .lines) k noLine .messages) 0 (commit 0)) r ⌝ }
 {
     lines::first(line_at(state, k))
 }
@@ -112,7 +109,7 @@ pub fn site_at(state: &[u32], i: usize) -> &[u32]
 
 pub fn site_stamp(state: &[u32], i: usize) -> Timestamp
     requires { ⌜ AtSite (now state) i ⌝ }
-    ensures { λ r. ⌜ stampOf r ≡ siteAt (networkIn (now (state .entry))) i .stamp ⌝ }
+    ensures { λ r. ⌜ PlainValue (siteAt (networkIn (now (state .entry))) i .stamp) r ⌝ }
 {
     site::stamp(site_at(state, i))
 }
@@ -157,7 +154,7 @@ pub fn site_receive(state: &mut [u32], i: usize, ops: &[u32], n: usize, t: Times
 pub fn site_commit(state: &mut [u32], i: usize, ops: &[u32], n: usize) -> [u32; OPERATIONS]
     requires { ⌜ AtSite (now state) i ⌝ }
     ensures { λ r. ⌜ SiteStep (now (state .entry)) (now (state .exit)) i (committed (opsIn (min n opsMost) (now (ops .entry)))) ⌝ }
-    ensures { λ r. ⌜ opsIn (min n opsMost) r ≡ worked (siteAt (networkIn (now (state .entry))) i .table) (opsIn (min n opsMost) (now (ops .entry))) .ops ⌝ }
+    ensures { λ r. ⌜ OpsLaid (min n opsMost) (worked (siteAt (networkIn (now (state .entry))) i .table) (opsIn (min n opsMost) (now (ops .entry))) .ops) r ⌝ }
 {
     let a = SITES + i * SITE;
     let e = a + SITE;
@@ -192,7 +189,7 @@ pub fn record_site(state: &[u32], k: usize) -> u32
 
 pub fn record_stamp(state: &[u32], k: usize) -> Timestamp
     requires { ⌜ HasRecord (now state) k ⌝ }
-    ensures { λ r. ⌜ stampOf r ≡ getD (networkIn (now (state .entry)) .history) k noRecord .stamp ⌝ }
+    ensures { λ r. ⌜ PlainValue (getD (networkIn (now (state .entry)) .history) k noRecord .stamp) r ⌝ }
 {
     records::stamp(record_at(state, k))
 }
@@ -209,22 +206,6 @@ pub fn add_record(state: &mut [u32], site: u32, n: u32, t: Timestamp, ops: &[u32
     words::store(state, RECORD_COUNT, made + 1);
 }
 
-// The timestamp of a refusal: epoch 0, no tuple.
-pub fn no_stamp() -> Timestamp
-    ensures { λ r. ⌜ stampOf r ≡ noStamp ⌝ }
-    ensures { λ r. ⌜ Blank r ⌝ }
-{
-    let none = Tuple {
-        site: 0,
-        count: Count(0),
-    };
-    Timestamp {
-        epoch: Epoch(0),
-        len: 0,
-        tuples: [none; SITES_WIDE],
-    }
-}
-
 pub fn operation_count(state: &[u32], k: usize) -> usize
     requires { ⌜ HasRecord (now state) k ⌝ }
     ensures { λ r. ⌜ (r ≡ length (getD (networkIn (now (state .entry)) .history) k noRecord .ops)) × (r ≤ opsMost) ⌝ }
@@ -232,12 +213,14 @@ pub fn operation_count(state: &[u32], k: usize) -> usize
     records::count(record_at(state, k))
 }
 
-// The words of a record's operations.
+// The words of a record's operations, 0 past the last.
 pub fn record_ops(state: &[u32], k: usize) -> [u32; OPERATIONS]
     requires { ⌜ HasRecord (now state) k ⌝ }
-    ensures { λ r. ⌜ opsIn (length (getD (networkIn (now (state .entry)) .history) k noRecord .ops)) r ≡ getD (networkIn (now (state .entry)) .history) k noRecord .ops ⌝ }
+    ensures { λ r. ⌜ OpsLaid (length (getD (networkIn (now (state .entry)) .history) k noRecord .ops)) (getD (networkIn (now (state .entry)) .history) k noRecord .ops) r ⌝ }
 {
     let mut out = [0u32; OPERATIONS];
-    words::copy(&mut out, records::operations(record_at(state, k)));
+    let end = operation_count(state, k) * OPERATION;
+    let ops = records::operations(record_at(state, k));
+    words::copy(&mut out, &ops[..end]);
     out
 }

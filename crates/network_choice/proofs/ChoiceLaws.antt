@@ -10,15 +10,18 @@ use lib.Dec.{eqb, ltb, leb}
 use borrow.Author.Tests.{ltb-true, lt-ltb, le-ltb, le-leb, lt-leb}
 use Rattle.lists.specs.Lists.{someBelow}
 use Rattle.lists.proofs.Every.{and-true}
-use Rattle.timestamp.specs.Timestamp.{Stamp, stampOf}
-use Rattle.timestamp.specs.Order.{order, isEarlier}
+use Rattle.timestamp_order.specs.Timestamp.{Stamp}
+use Rattle.timestamp.specs.declared.Timestamp.{Timestamp}
+use Rattle.timestamp.specs.Value.{stampOf, PlainValue}
+use Rattle.timestamp.proofs.Plain.{plain-as}
+use Rattle.timestamp_order.specs.Order.{order, isEarlier}
 use Rattle.limits.specs.Limits.{sitesMost, recordsMost}
 use Rattle.placement.specs.Masks.{bit}
 use Rattle.placement.specs.Placement.{Item, isLine, hasParents}
 use Rattle.placement.proofs.Laws.{bit-mask-of}
 use Rattle.lines.specs.declared.Message.{Message as MessageValue}
 use Rattle.lines.specs.Lines.{commit, dummy, noLine}
-use Rattle.lines.specs.InWords.{messageOf}
+use Rattle.lines.specs.InWords.{messageOf, PlainMessage}
 use Rattle.protocol.specs.Network.{Network, noRecord, lineNumber, messageStamp, placeOf, messageFits}
 use Rattle.protocol.specs.Steps.{noSuchSite, lacksArrived, scheduleNumber, head, headStamp, headEarlier, earlierOf, earliest}
 use Rattle.network_layout.specs.InWords.{networkIn}
@@ -54,7 +57,7 @@ pub parent-bit : (xs : List Item) (j mask p : ℕ) → mask ≡ parentsMask xs j
 parent-bit xs j mask p e h = ap (λ (m : ℕ). bit m p) e ∙ bit-mask-of (λ q. isLine xs q j) sitesMost p h
 
 -- ---- the best parent so far, and one more
-module _ (n : Network) (j p parent : ℕ) (t : Stamp) (b : Best n j p parent t) where
+module _ (n : Network) (j p parent : ℕ) (t : Timestamp) (b : Best n j p parent t) where
   step : (r : ℕ) → cond (isLine (n .items) p j) (earlierOf n j p parent) parent ≡ r → r ≡ earliest n j (p + 1)
   unfolding earliest
   step r e = sym (ap (earliest n j) (add-one p) ∙ ap (λ (q : ℕ). cond (isLine (n .items) p j) (earlierOf n j p q) q) (sym (b .is)) ∙ e)
@@ -66,24 +69,24 @@ module _ (n : Network) (j p parent : ℕ) (t : Stamp) (b : Best n j p parent t) 
     compared : (x y : Bool) → leb sitesMost parent ≡ x → headEarlier n j p parent ≡ y → cond (x || y) p parent ≡ cond (isLine (n .items) p j) (earlierOf n j p parent) parent
     compared x y e f = sym (ap (λ (z : Bool). cond z (earlierOf n j p parent) parent) line ∙ ap₂ (λ (u v : Bool). cond (u || v) p parent) e f)
 
-    module _ (t′ : Stamp) (is : t′ ≡ headStamp n p j) where
+    module _ (t′ : Timestamp) (is : PlainValue (headStamp n p j) t′) where
       pub better-first : sitesMost ≤ parent → Best n j (p + 1) p t′
       better-first h =
           let y = headEarlier n j p parent in
           record { is = step p (sym (compared true y (le-leb sitesMost parent h) refl)); stamped = λ _. is }
 
       module _ (low : parent < sitesMost) where
-        asked : (y : Bool) → isEarlier (order t′ t) ≡ y → headEarlier n j p parent ≡ y
+        asked : (y : Bool) → isEarlier (order (stampOf t′) (stampOf t)) ≡ y → headEarlier n j p parent ≡ y
         unfolding placeOf
-        asked y e = sym (ap₂ (λ (u v : Stamp). isEarlier (order u v)) is (b .stamped low)) ∙ e
+        asked y e = sym (ap₂ (λ (u v : Stamp). isEarlier (order u v)) (is .means) (b .stamped low .means)) ∙ e
 
-        pub better-earlier : isEarlier (order t′ t) ≡ true → Best n j (p + 1) p t′
+        pub better-earlier : isEarlier (order (stampOf t′) (stampOf t)) ≡ true → Best n j (p + 1) p t′
         better-earlier e = record { is = step p (sym (compared false true (lt-leb sitesMost parent low) (asked true e))); stamped = λ _. is }
 
-        pub better-not : isEarlier (order t′ t) ≡ false → Best n j (p + 1) parent t
+        pub better-not : isEarlier (order (stampOf t′) (stampOf t)) ≡ false → Best n j (p + 1) parent t
         better-not e = record { is = step parent (sym (compared false false (lt-leb sitesMost parent low) (asked false e))); stamped = b .stamped }
 
-pub best-none : (n : Network) (j : ℕ) (t : Stamp) → Best n j 0 sitesMost t
+pub best-none : (n : Network) (j : ℕ) (t : Timestamp) → Best n j 0 sitesMost t
 unfolding earliest
 best-none n j t = record { is = refl; stamped = λ h. absurd (omega arith) }
 
@@ -99,7 +102,7 @@ module _ (w : List ℕ) (j : ℕ) (free : Choosing w j) where
   child-site k same = at-site w (free .net) j k same (schedule-allowed net j (free .none) .there)
 
   -- the parent that is chosen
-  pub best-line : (p : ℕ) (t : Stamp) → Best net j sitesMost p t → isLine (net .items) p j ≡ true
+  pub best-line : (p : ℕ) (t : Timestamp) → Best net j sitesMost p t → isLine (net .items) p j ≡ true
   best-line p t b = ap (λ (q : ℕ). isLine (net .items) q j) (b .is) ∙ chosen-line net j (few-on w (free .net)) well (free .none)
 
   -- a parent's line
@@ -113,15 +116,15 @@ module _ (w : List ℕ) (j : ℕ) (free : Choosing w j) where
         at-line w (free .net) p j k same parent-few (omega (arith, up .1, few-on w (free .net)))
 
     -- its oldest message, as the code reads it
-    module _ (k : ℕ) (at : k ≡ lineNumber p j) (m : MessageValue) (is : messageOf m ≡ getD (getD (net .lines) k noLine .messages) 0 (commit 0)) where
+    module _ (k : ℕ) (at : k ≡ lineNumber p j) (m : MessageValue) (is : PlainMessage (getD (getD (net .lines) k noLine .messages) 0 (commit 0)) m) where
       read : messageOf m ≡ head net p j
-      read = is ∙ ap (λ (i : ℕ). getD (getD (net .lines) i noLine .messages) 0 (commit 0)) at
+      read = is .means ∙ ap (λ (i : ℕ). getD (getD (net .lines) i noLine .messages) 0 (commit 0)) at
 
       pub head-dummy : recordsMost ≤ m .name → dummy (stampOf (m .stamp)) ≡ head net p j
       head-dummy h = sym (ap (λ (b : Bool). cond b (commit (m .name)) (dummy (stampOf (m .stamp)))) (le-ltb (m .name) recordsMost h)) ∙ read
 
-      pub stamp-dummy : recordsMost ≤ m .name → stampOf (m .stamp) ≡ headStamp net p j
-      stamp-dummy h = ap (messageStamp (net .history)) (head-dummy h)
+      pub stamp-dummy : recordsMost ≤ m .name → PlainValue (headStamp net p j) (m .stamp)
+      stamp-dummy h = record { means = ap (messageStamp (net .history)) (head-dummy h); plain = is .stamp-is .plain }
 
       module _ (h : m .name < recordsMost) where
         pub head-commit : commit (m .name) ≡ head net p j
@@ -133,5 +136,5 @@ module _ (w : List ℕ) (j : ℕ) (free : Choosing w j) where
             let fits : messageFits (placeOf (net .items)) (net .history) p (commit (m .name)) ≡ true = ap (messageFits (placeOf (net .items)) (net .history) p) head-commit ∙ parent-fits net j (few-on w (free .net)) well (free .none) p line in
             ltb-true (m .name) (length (net .history)) (and-true held (eqb (getD (net .history) (m .name) noRecord .site) p) fits .0)
 
-        pub stamp-commit : (t : Stamp) (i : ℕ) → i ≡ m .name → t ≡ getD (net .history) i noRecord .stamp → t ≡ headStamp net p j
-        stamp-commit t i same e = e ∙ ap (λ (x : ℕ). getD (net .history) x noRecord .stamp) same ∙ ap (messageStamp (net .history)) head-commit
+        pub stamp-commit : (t : Timestamp) (i : ℕ) → i ≡ m .name → PlainValue (getD (net .history) i noRecord .stamp) t → PlainValue (headStamp net p j) t
+        stamp-commit t i same v = plain-as (ap (λ (x : ℕ). getD (net .history) x noRecord .stamp) same ∙ ap (messageStamp (net .history)) head-commit) v

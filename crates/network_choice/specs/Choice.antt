@@ -4,7 +4,8 @@ use mathlib.Core.Bool.{true}
 use mathlib.Core.List.{List}
 use Prim.Native.Nat.{ℕ, _<_}
 use lib.ListN.{length}
-use Rattle.timestamp.specs.Timestamp.{Stamp}
+use Rattle.timestamp.specs.declared.Timestamp.{Timestamp}
+use Rattle.timestamp.specs.Value.{PlainValue}
 use Rattle.limits.specs.Limits.{sitesMost}
 use Rattle.placement.specs.Masks.{maskOf}
 use Rattle.placement.specs.Placement.{Item, isLine}
@@ -14,9 +15,9 @@ use Rattle.network_layout.specs.InWords.{networkIn}
 use Rattle.network_layout.specs.At.{AtNetwork}
 
 -- of the parents of j below k the earliest, and the timestamp of its oldest message
-pub record Best (n : Network) (j k parent : ℕ) (stamp : Stamp) : Type 0 where
+pub record Best (n : Network) (j k parent : ℕ) (stamp : Timestamp) : Type 0 where
   pub is : parent ≡ earliest n j k
-  pub stamped : parent < sitesMost → stamp ≡ headStamp n parent j
+  pub stamped : parent < sitesMost → PlainValue (headStamp n parent j) stamp
 
 -- the parents of j, a bit for each
 abbrev pub parentsMask : List Item → ℕ → ℕ
@@ -45,7 +46,7 @@ pub record ChoosingFrom (w : List ℕ) (p j : ℕ) : Type 0 where
   pub line : isLine (networkIn w .items) p j ≡ true
 
 -- the same, a number p that may be a parent, and the best parent below it
-pub record Comparing (w : List ℕ) (mask p j parent : ℕ) (stamp : Stamp) : Type 0 where
+pub record Comparing (w : List ℕ) (mask p j parent : ℕ) (stamp : Timestamp) : Type 0 where
   pub free : Choosing w j
   pub few : p < sitesMost
   pub parents : mask ≡ parentsMask (networkIn w .items) j

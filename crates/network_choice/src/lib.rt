@@ -3,8 +3,8 @@ use timestamp::Order;
 use timestamp::Timestamp;
 ghost use mathlib.Core.Path.{_≡_};
 ghost use Prim.Native.Nat.{_+_};
-ghost use Rattle.timestamp.specs.Timestamp.{stampOf};
-ghost use Rattle.timestamp.specs.Order.{order, isEarlier};
+ghost use Rattle.timestamp.specs.Value.{stampOf, PlainValue};
+ghost use Rattle.timestamp_order.specs.Order.{order, isEarlier};
 ghost use Rattle.limits.specs.Limits.{sitesMost};
 ghost use Rattle.lists.specs.Lists.{someBelow};
 ghost use Rattle.protocol.specs.Network.{lineNumber};
@@ -66,12 +66,12 @@ fn lacks_from(state: &[u32], mask: u32, p: u32, j: u32) -> bool
 // ---- the parent with the earliest message, at a site whose schedule is not refused
 pub fn chosen(state: &[u32], j: u32) -> Head
     requires { ⌜ Choosing (now state) j ⌝ }
-    ensures { λ r. ⌜ Best (networkIn (now (state .entry))) j sitesMost (r .parent) (stampOf (r .stamp)) ⌝ }
+    ensures { λ r. ⌜ Best (networkIn (now (state .entry))) j sitesMost (r .parent) (r .stamp) ⌝ }
 {
     let mask = network_placement::parents(state, j);
     let mut best = Head {
         parent: limits::SITES,
-        stamp: network_access::no_stamp(),
+        stamp: timestamp::zero(),
     };
     let mut p = 0;
     while p < limits::SITES {
@@ -83,8 +83,8 @@ pub fn chosen(state: &[u32], j: u32) -> Head
 
 // The best of the parents below p, unless p is a parent and its message is earlier.
 fn better(state: &[u32], mask: u32, p: u32, j: u32, best: Head) -> Head
-    requires { ⌜ Comparing (now state) mask p j (best .parent) (stampOf (best .stamp)) ⌝ }
-    ensures { λ r. ⌜ Best (networkIn (now (state .entry))) j (p + 1) (r .parent) (stampOf (r .stamp)) ⌝ }
+    requires { ⌜ Comparing (now state) mask p j (best .parent) (best .stamp) ⌝ }
+    ensures { λ r. ⌜ Best (networkIn (now (state .entry))) j (p + 1) (r .parent) (r .stamp) ⌝ }
 {
     if !placement::bit(mask, p) {
         return best;
@@ -112,7 +112,7 @@ fn earlier(a: Timestamp, b: Timestamp) -> bool
 // The timestamp of the oldest message from a parent.
 fn head_stamp(state: &[u32], p: u32, j: u32) -> Timestamp
     requires { ⌜ ChoosingFrom (now state) p j ⌝ }
-    ensures { λ r. ⌜ stampOf r ≡ headStamp (networkIn (now (state .entry))) p j ⌝ }
+    ensures { λ r. ⌜ PlainValue (headStamp (networkIn (now (state .entry))) p j) r ⌝ }
 {
     let m = network_access::line_first(state, network_access::line_number(p, j));
     if m.name < limits::RECORDS {

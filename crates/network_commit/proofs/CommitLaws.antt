@@ -1,15 +1,17 @@
 -- Commit: its number, cause by cause, and the network after it.
-use mathlib.Core.Path.{_≡_, refl, sym, ap, ap₂, subst, subst₂, _∙_}
+use mathlib.Core.Path.{_≡_, refl, sym, ap, ap₂, subst, _∙_}
 use mathlib.Core.Bool.{Bool, true, false, not}
 use mathlib.Core.List.{List, [], _∷_, map}
 use Prim.Native.Nat.{ℕ, _≤_, _<_}
 use lib.IntN.{ℤ}
-use lib.ListN.{length}
+use lib.ListN.{length, take}
 use lib.Seq.{getD-set-same}
 use lib.Dec.{leb, eqb}
 use borrow.Author.Tests.{lt-ltb, le-ltb, le-leb, lt-leb, eq-eqb, ne-eqb, eqb-true, eqb-false}
 use Rattle.limits.specs.Limits.{opsMost, sitesMost, recordsMost}
-use Rattle.timestamp.specs.Timestamp.{Stamp}
+use Rattle.timestamp_order.specs.Timestamp.{Stamp}
+use Rattle.timestamp.specs.declared.Timestamp.{Timestamp}
+use Rattle.timestamp.specs.Value.{stampOf}
 use Rattle.site.specs.Operations.{Op, valuesRead}
 use Rattle.site.specs.Site.{Site, committed}
 use Rattle.placement.specs.Masks.{bit, maskOf}
@@ -18,10 +20,11 @@ use Rattle.lists.specs.Numbers.{firstNumber, numberIf}
 use Rattle.protocol.specs.Network.{Network, noStamp, noSite, siteAt, withSite, withLines, withRecord}
 use Rattle.protocol.specs.Steps.{noSuchSite, countAtMost, someLineFull, due, sentTo, opNumber, opsOf, commitCauses, wrongLists, commitNumber, recordOf, commitNetwork}
 use Rattle.protocol.specs.Calls.{Outcome, commit, accepted, perform}
+use Rattle.network_layout.specs.declared.Committed.{Committed}
 use Rattle.network_layout.specs.InWords.{networkIn, shaped, SiteStep, SentStep}
-use Rattle.network_layout.specs.Promises.{Performed}
+use Rattle.network_layout.specs.Promises.{Performed, CommitAnswered}
 use Rattle.network_layout.specs.At.{AtNetwork}
-use Rattle.network_commit.specs.Done.{CommitReady, WorkDone, CommitDone, CommitTried}
+use Rattle.network_commit.specs.Done.{CommitReady, WorkDone, CommitDone, Refused, CommitTried}
 use Rattle.network_layout.proofs.OnNetwork.{well-on, refused-on, accepted-on, unshaped}
 use Rattle.protocol.proofs.Allowed.{commit-allowed}
 use Rattle.network_sending.proofs.SendLaws.{full-by-mask, sent-by-mask}
@@ -121,7 +124,7 @@ module _ (w : List ℕ) (i : ℕ) (os : List Op) (there : i < length (networkIn 
   pub history-now : networkIn v .history ≡ networkIn w .history
   history-now = ap (λ (m : Network). m .history) (s .meant)
 
-module _ (w : List ℕ) (i n mask : ℕ) (os : List Op) (ready : CommitReady w i n mask os) (v : List ℕ) (t : Stamp) (ops : List Op) (worked : WorkDone w v i os t ops) where
+module _ (w : List ℕ) (i n mask : ℕ) (os : List Op) (ready : CommitReady w i n mask os) (v : List ℕ) (t : Timestamp) (ops : List Op) (worked : WorkDone w v i os t ops) where
   abbrev net : Network
   net = networkIn w
 
@@ -145,40 +148,47 @@ module _ (w : List ℕ) (i : ℕ) (ks is : List ℕ) (vs : List ℤ) where
   commit-outcome : Network → Outcome
   commit-outcome m = accepted 0 (recordOf m i (opsOf ks is vs) .stamp) (valuesRead (recordOf m i (opsOf ks is vs) .ops)) (commitNetwork m i (opsOf ks is vs))
 
-  pub commit-unshaped : (t : Stamp) (xs : List ℤ) → t ≡ noStamp → xs ≡ [] → shaped w ≡ false → Performed (commit i ks is vs) w w 6 0 t xs
+  refused : (k : ℕ) (r : Committed) → Refused k r → Performed (commit i ks is vs) w w k 0 noStamp [] → CommitAnswered (commit i ks is vs) w w r
+  refused k r f p = record { performed = rw (f .number-is, f .stamp-is .means, f .none-read) p; plain = f .stamp-is .plain; filled = f .filled }
+
+  pub commit-unshaped : (r : Committed) → Refused 6 r → shaped w ≡ false → CommitAnswered (commit i ks is vs) w w r
   unfolding perform
-  commit-unshaped t xs f g e = subst₂ (λ (x : Stamp) (y : List ℤ). Performed (commit i ks is vs) w w 6 0 x y) (sym f) (sym g) (unshaped (commit i ks is vs) refl w e)
+  commit-unshaped r f e = refused 6 r f (unshaped (commit i ks is vs) refl w e)
 
   module _ (net : AtNetwork w) where
-    pub commit-refused : (r : ℕ) (t : Stamp) (xs : List ℤ) → r ≡ commitNumber (networkIn w) i ks is vs → (r ≡ 0 → ⊥) → t ≡ noStamp → xs ≡ [] → Performed (commit i ks is vs) w w r 0 t xs
+    pub commit-refused : (k : ℕ) (r : Committed) → Refused k r → k ≡ commitNumber (networkIn w) i ks is vs → (k ≡ 0 → ⊥) → CommitAnswered (commit i ks is vs) w w r
     unfolding perform commit-outcome
-    commit-refused r t xs e h f g =
-        subst₂ (λ (x : Stamp) (y : List ℤ). Performed (commit i ks is vs) w w r 0 x y) (sym f) (sym g)
-        (refused-on (commit i ks is vs) refl (λ m. commitNumber m i ks is vs) commit-outcome (λ m. refl) w net r e h)
+    commit-refused k r f e h = refused k r f (refused-on (commit i ks is vs) refl (λ m. commitNumber m i ks is vs) commit-outcome (λ m. refl) w net k e h)
 
-    pub commit-performed : commitNumber (networkIn w) i ks is vs ≡ 0 → (v : List ℕ) (r : ℕ) (t : Stamp) (xs : List ℤ) → CommitDone w v i (opsOf ks is vs) r t xs → Performed (commit i ks is vs) w v r 0 t xs
+    pub commit-performed : commitNumber (networkIn w) i ks is vs ≡ 0 → (v : List ℕ) (r : Committed) → CommitDone w v i (opsOf ks is vs) r → CommitAnswered (commit i ks is vs) w v r
     unfolding perform commit-outcome
-    commit-performed z v r t xs d =
+    commit-performed z v r d =
         let n = networkIn w in
         let os = opsOf ks is vs in
         let after = commitNetwork n i os in
-        subst (λ (x : ℕ). Performed (commit i ks is vs) w v x 0 t xs) (sym (d .number-is))
-        (accepted-on (commit i ks is vs) refl (λ m. commitNumber m i ks is vs) commit-outcome (λ m. refl) w net v 0 t xs after z
-        (ap₂ (λ (x : Stamp) (y : List ℤ). accepted 0 x y after) (sym (d .stamp-is)) (sym (d .values-are)))
-        (d .ranged)
-        (d .network-is)
-        (keeps-commit n i os (well-on w net) (commit-allowed n i ks is vs z .1)))
+        let t = stampOf (r .stamp) in
+        let xs = take (r .count) (r .values) in
+        record {
+          performed = subst (λ (x : ℕ). Performed (commit i ks is vs) w v x 0 t xs) (sym (d .number-is))
+              (accepted-on (commit i ks is vs) refl (λ m. commitNumber m i ks is vs) commit-outcome (λ m. refl) w net v 0 t xs after z
+              (ap₂ (λ (x : Stamp) (y : List ℤ). accepted 0 x y after) (sym (d .stamp-is .means)) (sym (d .values-are)))
+              (d .ranged)
+              (d .network-is)
+              (keeps-commit n i os (well-on w net) (commit-allowed n i ks is vs z .1)));
+          plain = d .stamp-is .plain;
+          filled = d .filled;
+        }
 
     -- whether or not a cause from 9 on refuses it
-    pub commit-tried : noSuchSite (networkIn w) i ≡ false → wrongLists (length ks) (length is) (length vs) ≡ false → (v : List ℕ) (r : ℕ) (t : Stamp) (xs : List ℤ)
-        → CommitTried w v i (opsOf ks is vs) r t xs → Performed (commit i ks is vs) w v r 0 t xs
-    commit-tried a b v r t xs tried = go (eqb r 0) refl
+    pub commit-tried : noSuchSite (networkIn w) i ≡ false → wrongLists (length ks) (length is) (length vs) ≡ false → (v : List ℕ) (r : Committed)
+        → CommitTried w v i (opsOf ks is vs) r → CommitAnswered (commit i ks is vs) w v r
+    commit-tried a b v r tried = go (eqb (r .number) 0) refl
       where
-        number : r ≡ commitNumber (networkIn w) i ks is vs
+        number : r .number ≡ commitNumber (networkIn w) i ks is vs
         number = tried .number-is ∙ sym (commit-later (networkIn w) i ks is vs a b)
 
-        go : (none : Bool) → eqb r 0 ≡ none → Performed (commit i ks is vs) w v r 0 t xs
-        go true e = let z = eqb-true r 0 e in commit-performed (sym number ∙ z) v r t xs (tried .done z)
+        go : (none : Bool) → eqb (r .number) 0 ≡ none → CommitAnswered (commit i ks is vs) w v r
+        go true e = let z = eqb-true (r .number) 0 e in commit-performed (sym number ∙ z) v r (tried .done z)
         go false e =
-            let some = eqb-false r 0 e in
-            subst (λ (x : List ℕ). Performed (commit i ks is vs) w x r 0 t xs) (sym (tried .kept some)) (commit-refused r t xs number some (tried .no-stamp some) (tried .no-values some))
+            let some = eqb-false (r .number) 0 e in
+            subst (λ (x : List ℕ). CommitAnswered (commit i ks is vs) w x r) (sym (tried .kept some)) (commit-refused (r .number) r (tried .refused some) number some)

@@ -1,19 +1,22 @@
 -- What the parts of a commit's code ask and say.
 use mathlib.Core.Path.{_≡_}
 use mathlib.Core.Bool.{true}
-use mathlib.Core.List.{List, []}
+use mathlib.Core.List.{List}
 use Prim.Native.Nat.{ℕ, _≤_, _<_}
-use lib.IntN.{ℤ}
-use lib.ListN.{length, getD}
+use lib.IntN.{pos}
+use lib.ListN.{length, getD, take}
 use Rattle.limits.specs.Limits.{sitesMost, opsMost, recordsMost}
+use Rattle.lists.specs.Lists.{Filled}
 use Rattle.lists.specs.Numbers.{firstNumber}
-use Rattle.timestamp.specs.Timestamp.{Stamp}
+use Rattle.timestamp.specs.declared.Timestamp.{Timestamp}
+use Rattle.timestamp.specs.Value.{PlainValue}
 use Rattle.site.specs.Operations.{Op, valuesRead}
 use Rattle.site.specs.Site.{committed}
 use Rattle.placement.specs.Masks.{maskOf}
 use Rattle.protocol.specs.Network.{noStamp, siteAt, withSite, withRecord}
 use Rattle.protocol.specs.Steps.{due, commitCauses, recordOf, commitNetwork}
 use Rattle.protocol.specs.Allowed.{CommitAllowed}
+use Rattle.network_layout.specs.declared.Committed.{Committed}
 use Rattle.network_layout.specs.Layout.{stateSize}
 use Rattle.network_layout.specs.InWords.{networkIn, inRange}
 use Rattle.network_layout.specs.At.{AtNetwork}
@@ -59,24 +62,31 @@ pub record WorkReady (w : List ℕ) (i n : ℕ) : Type 0 where
   pub few-ops : n ≤ opsMost
 
 -- the operations worked at the site, and the record added; the timestamp and the operations as recorded
-pub record WorkDone (entry exit : List ℕ) (i : ℕ) (os : List Op) (stamp : Stamp) (ops : List Op) : Type 0 where
+pub record WorkDone (entry exit : List ℕ) (i : ℕ) (os : List Op) (stamp : Timestamp) (ops : List Op) : Type 0 where
   pub network-is : networkIn exit ≡ withRecord (withSite (networkIn entry) i (committed os (siteAt (networkIn entry) i))) (recordOf (networkIn entry) i os)
   pub ranged : inRange exit ≡ true
-  pub stamp-is : stamp ≡ recordOf (networkIn entry) i os .stamp
+  pub stamp-is : PlainValue (recordOf (networkIn entry) i os .stamp) stamp
   pub ops-are : ops ≡ recordOf (networkIn entry) i os .ops
 
 -- what a commit of the operations `os` at site i that no cause refuses answers and leaves
-pub record CommitDone (entry exit : List ℕ) (i : ℕ) (os : List Op) (number : ℕ) (stamp : Stamp) (values : List ℤ) : Type 0 where
-  pub number-is : number ≡ 0
-  pub stamp-is : stamp ≡ recordOf (networkIn entry) i os .stamp
-  pub values-are : values ≡ valuesRead (recordOf (networkIn entry) i os .ops)
+pub record CommitDone (entry exit : List ℕ) (i : ℕ) (os : List Op) (r : Committed) : Type 0 where
+  pub number-is : r .number ≡ 0
+  pub stamp-is : PlainValue (recordOf (networkIn entry) i os .stamp) (r .stamp)
+  pub values-are : take (r .count) (r .values) ≡ valuesRead (recordOf (networkIn entry) i os .ops)
+  pub filled : Filled (pos 0) opsMost (r .count) (r .values)
   pub network-is : networkIn exit ≡ commitNetwork (networkIn entry) i os
   pub ranged : inRange exit ≡ true
 
--- the same where a cause from 9 on may refuse it
-pub record CommitTried (entry exit : List ℕ) (i : ℕ) (os : List Op) (number : ℕ) (stamp : Stamp) (values : List ℤ) : Type 0 where
-  pub number-is : number ≡ firstNumber (commitCauses (networkIn entry) i os)
-  pub done : number ≡ 0 → CommitDone entry exit i os number stamp values
-  pub kept : (number ≡ 0 → ⊥) → exit ≡ entry
-  pub no-stamp : (number ≡ 0 → ⊥) → stamp ≡ noStamp
-  pub no-values : (number ≡ 0 → ⊥) → values ≡ []
+-- a refusal's number, no timestamp and no values
+pub record Refused (number : ℕ) (r : Committed) : Type 0 where
+  pub number-is : r .number ≡ number
+  pub stamp-is : PlainValue noStamp (r .stamp)
+  pub none-read : r .count ≡ 0
+  pub filled : Filled (pos 0) opsMost (r .count) (r .values)
+
+-- a commit that a cause from 9 on may refuse
+pub record CommitTried (entry exit : List ℕ) (i : ℕ) (os : List Op) (r : Committed) : Type 0 where
+  pub number-is : r .number ≡ firstNumber (commitCauses (networkIn entry) i os)
+  pub done : r .number ≡ 0 → CommitDone entry exit i os r
+  pub refused : (r .number ≡ 0 → ⊥) → Refused (r .number) r
+  pub kept : (r .number ≡ 0 → ⊥) → exit ≡ entry

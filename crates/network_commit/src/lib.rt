@@ -10,20 +10,17 @@ use site::OPERATIONS;
 use timestamp::Timestamp;
 ghost use mathlib.Core.Path.{_≡_};
 ghost use Prim.Native.Nat.{_≤_};
-ghost use lib.IntN.{pos};
-ghost use lib.ListN.{length, take};
-ghost use Rattle.timestamp.specs.Timestamp.{stampOf};
+ghost use lib.ListN.{length};
 ghost use Rattle.site.specs.InWords.{opsIn};
 ghost use Rattle.limits.specs.Limits.{opsMost};
 ghost use Rattle.lists.specs.Numbers.{firstNumber};
 ghost use Rattle.network_layout.specs.Layout.{stateSize};
-ghost use Rattle.protocol.specs.Network.{noStamp};
 ghost use Rattle.protocol.specs.Steps.{commitCauses, wrongLists};
 ghost use Rattle.protocol.specs.Calls.{commit as commitCall};
 ghost use Rattle.network_layout.specs.InWords.{networkIn};
 ghost use Rattle.network_layout.specs.At.{AtNetwork};
-ghost use Rattle.network_layout.specs.Promises.{Performed, Blank, Filled};
-ghost use Rattle.network_commit.specs.Done.{CommitAt, Masked, CommitReady, CommitDone, CommitTried, WorkReady, WorkDone};
+ghost use Rattle.network_layout.specs.Promises.{CommitAnswered};
+ghost use Rattle.network_commit.specs.Done.{CommitAt, Masked, CommitReady, CommitDone, Refused, CommitTried, WorkReady, WorkDone};
 
 // The timestamp of a commit, and its operations as the history keeps them.
 struct Worked {
@@ -39,18 +36,14 @@ pub fn commit(
     items: &[u32],
     values: &[i32],
 ) -> Committed
-    ensures { λ r. ⌜ Performed (commitCall site (now (kinds .entry)) (now (items .entry)) (now (values .entry))) (now (state .entry)) (now (state .exit)) (r .number) 0 (stampOf (r .stamp)) (take (r .count) (r .values)) ⌝ }
-    ensures { λ r. ⌜ ((r .number ≡ 0 → ⊥) → Blank (r .stamp) × (r .count ≡ 0)) ⌝ }
-    ensures { λ r. ⌜ Filled (pos 0) opsMost (r .count) (r .values) ⌝ }
+    ensures { λ r. ⌜ CommitAnswered (commitCall site (now (kinds .entry)) (now (items .entry)) (now (values .entry))) (now (state .entry)) (now (state .exit)) r ⌝ }
 {
     commit_in(state, site, kinds, items, values)
 }
 
 fn commit_in(state: &mut [u32], site: u32, kinds: &[u8], items: &[u32], values: &[i32]) -> Committed
     requires { ⌜ length (now state) ≡ stateSize ⌝ }
-    ensures { λ r. ⌜ Performed (commitCall site (now (kinds .entry)) (now (items .entry)) (now (values .entry))) (now (state .entry)) (now (state .exit)) (r .number) 0 (stampOf (r .stamp)) (take (r .count) (r .values)) ⌝ }
-    ensures { λ r. ⌜ ((r .number ≡ 0 → ⊥) → Blank (r .stamp) × (r .count ≡ 0)) ⌝ }
-    ensures { λ r. ⌜ Filled (pos 0) opsMost (r .count) (r .values) ⌝ }
+    ensures { λ r. ⌜ CommitAnswered (commitCall site (now (kinds .entry)) (now (items .entry)) (now (values .entry))) (now (state .entry)) (now (state .exit)) r ⌝ }
 {
     if !network_shape::shaped(state) {
         return refused(6);
@@ -67,9 +60,7 @@ pub fn commit_on(
     values: &[i32],
 ) -> Committed
     requires { ⌜ AtNetwork (now state) ⌝ }
-    ensures { λ r. ⌜ Performed (commitCall site (now (kinds .entry)) (now (items .entry)) (now (values .entry))) (now (state .entry)) (now (state .exit)) (r .number) 0 (stampOf (r .stamp)) (take (r .count) (r .values)) ⌝ }
-    ensures { λ r. ⌜ ((r .number ≡ 0 → ⊥) → Blank (r .stamp) × (r .count ≡ 0)) ⌝ }
-    ensures { λ r. ⌜ Filled (pos 0) opsMost (r .count) (r .values) ⌝ }
+    ensures { λ r. ⌜ CommitAnswered (commitCall site (now (kinds .entry)) (now (items .entry)) (now (values .entry))) (now (state .entry)) (now (state .exit)) r ⌝ }
 {
     if !network_placement::is_site(state, site) {
         return refused(7);
@@ -82,12 +73,11 @@ pub fn commit_on(
 }
 
 fn refused(number: u32) -> Committed
-    ensures { λ r. ⌜ (r .number ≡ number) × (stampOf (r .stamp) ≡ noStamp) × Blank (r .stamp) × (r .count ≡ 0) × Filled (pos 0) opsMost (r .count) (r .values) ⌝ }
+    ensures { λ r. ⌜ Refused number r ⌝ }
 {
-    let none = network_access::no_stamp();
     Committed {
         number,
-        stamp: none,
+        stamp: timestamp::zero(),
         count: 0,
         values: [0; limits::OPERATIONS_WIDE],
     }
@@ -96,9 +86,7 @@ fn refused(number: u32) -> Committed
 // A commit of n operations in words, at a site that is there.
 fn commit_words(state: &mut [u32], site: u32, ops: &[u32], n: usize) -> Committed
     requires { ⌜ CommitAt (now state) site n ⌝ }
-    ensures { λ r. ⌜ CommitTried (now (state .entry)) (now (state .exit)) site (opsIn n (now (ops .entry))) (r .number) (stampOf (r .stamp)) (take (r .count) (r .values)) ⌝ }
-    ensures { λ r. ⌜ ((r .number ≡ 0 → ⊥) → Blank (r .stamp) × (r .count ≡ 0)) ⌝ }
-    ensures { λ r. ⌜ Filled (pos 0) opsMost (r .count) (r .values) ⌝ }
+    ensures { λ r. ⌜ CommitTried (now (state .entry)) (now (state .exit)) site (opsIn n (now (ops .entry))) r ⌝ }
 {
     let mask = due::due_mask(state, ops, n);
     let cause = commit_cause(state, site, ops, n, mask);
@@ -132,8 +120,7 @@ fn commit_cause(state: &[u32], site: u32, ops: &[u32], n: usize, mask: u32) -> u
 // A commit that no cause refuses: the site and the record, then the messages.
 fn commit_done(state: &mut [u32], site: u32, ops: &[u32], n: usize, mask: u32) -> Committed
     requires { ⌜ CommitReady (now state) site n mask (opsIn n (now ops)) ⌝ }
-    ensures { λ r. ⌜ CommitDone (now (state .entry)) (now (state .exit)) site (opsIn n (now (ops .entry))) (r .number) (stampOf (r .stamp)) (take (r .count) (r .values)) ⌝ }
-    ensures { λ r. ⌜ Filled (pos 0) opsMost (r .count) (r .values) ⌝ }
+    ensures { λ r. ⌜ CommitDone (now (state .entry)) (now (state .exit)) site (opsIn n (now (ops .entry))) r ⌝ }
 {
     let name = state[RECORD_COUNT];
     let worked = work(state, site, ops, n);
@@ -154,7 +141,7 @@ fn commit_done(state: &mut [u32], site: u32, ops: &[u32], n: usize, mask: u32) -
 // The operations worked at the site, and the commit's record added.
 fn work(state: &mut [u32], site: u32, ops: &[u32], n: usize) -> Worked
     requires { ⌜ WorkReady (now state) site n ⌝ }
-    ensures { λ r. ⌜ WorkDone (now (state .entry)) (now (state .exit)) site (opsIn n (now (ops .entry))) (stampOf (r .stamp)) (opsIn n (r .ops)) ⌝ }
+    ensures { λ r. ⌜ WorkDone (now (state .entry)) (now (state .exit)) site (opsIn n (now (ops .entry))) (r .stamp) (opsIn n (r .ops)) ⌝ }
 {
     let i = words::wide(site);
     let done = network_access::site_commit(state, i, ops, n);

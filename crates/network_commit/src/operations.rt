@@ -5,13 +5,13 @@ ghost use mathlib.Core.List.{[], _∷_, _++_};
 ghost use Prim.Native.Nat.{_+_, _≤_};
 ghost use lib.IntN.{pos};
 ghost use lib.ListN.{length, take, drop, getD};
+ghost use Rattle.lists.specs.Lists.{Filled};
 ghost use Rattle.site.specs.Operations.{valuesRead};
 ghost use Rattle.site.specs.InWords.{opAt, opsIn};
 ghost use Rattle.limits.specs.Limits.{opsMost};
 ghost use Rattle.protocol.specs.Steps.{opsOf};
 ghost use Rattle.protocol.specs.Allowed.{ListsAllowed};
 ghost use Rattle.network_commit.specs.Done.{InLists, Reading};
-ghost use Rattle.network_layout.specs.Promises.{Filled};
 
 // The values that reads gave: the first `count` of eight places, in order; the rest are 0.
 pub struct Given {

@@ -4,30 +4,24 @@ use network_layout::Dummied;
 use network_layout::WORDS;
 use timestamp::Timestamp;
 ghost use mathlib.Core.Path.{_≡_};
-ghost use mathlib.Core.List.{[]};
 ghost use lib.ListN.{length};
-ghost use Rattle.timestamp.specs.Timestamp.{stampOf};
 ghost use Rattle.network_layout.specs.Layout.{stateSize};
 ghost use Rattle.protocol.specs.Steps.{dummyNumber};
-ghost use Rattle.protocol.specs.Calls.{dummy as dummyCall};
 ghost use Rattle.network_layout.specs.InWords.{networkIn};
 ghost use Rattle.network_layout.specs.At.{AtNetwork, AtSite};
-ghost use Rattle.network_dummy.specs.Done.{DummyReady, Raised, DummyDone};
-ghost use Rattle.protocol.specs.Network.{noStamp};
-ghost use Rattle.network_layout.specs.Promises.{Performed, Blank};
+ghost use Rattle.network_dummy.specs.Done.{Refused, DummyReady, Raised, DummyDone};
+ghost use Rattle.network_layout.specs.Promises.{DummyAnswered};
 
 // A dummy at a site. It answers its number and the timestamp.
 pub fn dummy(state: &mut [u32; WORDS], site: u32) -> Dummied
-    ensures { λ r. ⌜ Performed (dummyCall site) (now (state .entry)) (now (state .exit)) (r .number) 0 (stampOf (r .stamp)) [] ⌝ }
-    ensures { λ r. ⌜ ((r .number ≡ 0 → ⊥) → Blank (r .stamp)) ⌝ }
+    ensures { λ r. ⌜ DummyAnswered site (now (state .entry)) (now (state .exit)) r ⌝ }
 {
     dummy_in(state, site)
 }
 
 fn dummy_in(state: &mut [u32], site: u32) -> Dummied
     requires { ⌜ length (now state) ≡ stateSize ⌝ }
-    ensures { λ r. ⌜ Performed (dummyCall site) (now (state .entry)) (now (state .exit)) (r .number) 0 (stampOf (r .stamp)) [] ⌝ }
-    ensures { λ r. ⌜ ((r .number ≡ 0 → ⊥) → Blank (r .stamp)) ⌝ }
+    ensures { λ r. ⌜ DummyAnswered site (now (state .entry)) (now (state .exit)) r ⌝ }
 {
     if !network_shape::shaped(state) {
         return refused(6);
@@ -38,8 +32,7 @@ fn dummy_in(state: &mut [u32], site: u32) -> Dummied
 // The same on the words of a network.
 pub fn dummy_on(state: &mut [u32], site: u32) -> Dummied
     requires { ⌜ AtNetwork (now state) ⌝ }
-    ensures { λ r. ⌜ Performed (dummyCall site) (now (state .entry)) (now (state .exit)) (r .number) 0 (stampOf (r .stamp)) [] ⌝ }
-    ensures { λ r. ⌜ ((r .number ≡ 0 → ⊥) → Blank (r .stamp)) ⌝ }
+    ensures { λ r. ⌜ DummyAnswered site (now (state .entry)) (now (state .exit)) r ⌝ }
 {
     let number = dummy_number(state, site);
     if number != 0 {
@@ -53,12 +46,11 @@ pub fn dummy_on(state: &mut [u32], site: u32) -> Dummied
 }
 
 fn refused(number: u32) -> Dummied
-    ensures { λ r. ⌜ (r .number ≡ number) × (stampOf (r .stamp) ≡ noStamp) × Blank (r .stamp) ⌝ }
+    ensures { λ r. ⌜ Refused number r ⌝ }
 {
-    let none = network_access::no_stamp();
     Dummied {
         number,
-        stamp: none,
+        stamp: timestamp::zero(),
     }
 }
 
@@ -83,7 +75,7 @@ fn dummy_number(state: &[u32], site: u32) -> u32
 // A dummy that no cause refuses: the site's count, then the messages. It answers the timestamp.
 fn dummy_done(state: &mut [u32], site: u32) -> Timestamp
     requires { ⌜ DummyReady (now state) site ⌝ }
-    ensures { λ r. ⌜ DummyDone (now (state .entry)) (now (state .exit)) site (stampOf r) ⌝ }
+    ensures { λ r. ⌜ DummyDone (now (state .entry)) (now (state .exit)) site r ⌝ }
 {
     let mask = network_placement::children(state, site);
     let t = raise(state, site);
@@ -98,7 +90,7 @@ fn dummy_done(state: &mut [u32], site: u32) -> Timestamp
 // The site's own count one higher; its timestamp then.
 fn raise(state: &mut [u32], site: u32) -> Timestamp
     requires { ⌜ AtSite (now state) site ⌝ }
-    ensures { λ r. ⌜ Raised (now (state .entry)) (now (state .exit)) site (stampOf r) ⌝ }
+    ensures { λ r. ⌜ Raised (now (state .entry)) (now (state .exit)) site r ⌝ }
 {
     let i = words::wide(site);
     network_access::site_dummy(state, i);

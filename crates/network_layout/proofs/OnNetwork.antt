@@ -8,7 +8,7 @@ use native.Mathlib.Omega.{arith}
 use lib.IntN.{ℤ}
 use lib.ListN.{length}
 use Rattle.limits.specs.Limits.{sitesMost}
-use Rattle.timestamp.specs.Timestamp.{Stamp}
+use Rattle.timestamp_order.specs.Timestamp.{Stamp}
 use Rattle.protocol.specs.Network.{Network, noStamp, lineNumber, wellShaped}
 use Rattle.protocol.specs.Calls.{Call, Outcome, refused, judged, perform}
 use Rattle.network_layout.specs.InWords.{networkIn, inRange, shaped, meaning}

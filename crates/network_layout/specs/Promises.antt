@@ -1,16 +1,20 @@
 -- What the contracts of the calls say: the answer and the state's words are those of `perform`, and where it refuses every word is as it came.
 use mathlib.Core.Path.{_≡_}
-use mathlib.Core.List.{List, [], map}
-use Prim.Native.Nat.{ℕ, _-_, _≤_}
-use lib.IntN.{ℤ}
-use lib.ListN.{take, drop, replicate}
-use Rattle.timestamp.specs.declared.Timestamp.{Timestamp}
-use Rattle.timestamp.specs.Timestamp.{Stamp, pairOf, room, noPair}
-use Rattle.limits.specs.Limits.{itemsMost}
+use mathlib.Core.List.{List, []}
+use Prim.Native.Nat.{ℕ}
+use lib.IntN.{ℤ, pos}
+use lib.ListN.{take}
+use Rattle.timestamp_order.specs.Timestamp.{Stamp}
+use Rattle.timestamp.specs.Value.{stampOf, Plain}
+use Rattle.limits.specs.Limits.{itemsMost, opsMost}
+use Rattle.lists.specs.Lists.{Filled}
 use Rattle.protocol.specs.Network.{noStamp}
 use Rattle.protocol.specs.Questions.{waiting}
-use Rattle.protocol.specs.Calls.{Call, ask, perform}
+use Rattle.protocol.specs.Calls.{Call, dummy, schedule, ask, perform}
 use Rattle.protocol.specs.Waiting.{EachOnce}
+use Rattle.network_layout.specs.declared.Committed.{Committed}
+use Rattle.network_layout.specs.declared.Dummied.{Dummied}
+use Rattle.network_layout.specs.declared.Scheduled.{Scheduled}
 use Rattle.network_layout.specs.InWords.{networkIn, meaning}
 
 pub record Performed (call : Call) (entry exit : List ℕ) (number parent : ℕ) (stamp : Stamp) (values : List ℤ) : Type 0 where
@@ -21,16 +25,21 @@ pub record Performed (call : Call) (entry exit : List ℕ) (number parent : ℕ)
   pub after-is : meaning exit ≡ perform (meaning entry) call .after
   pub kept : (number ≡ 0 → ⊥) → exit ≡ entry
 
--- the timestamp of a refused answer: 0 in every field, its eight places of tuples too
-pub record Blank (t : Timestamp) : Type 0 where
-  pub epoch-is : t .epoch .0 ≡ 0
-  pub len-is : t .len ≡ 0
-  pub tuples-are : map pairOf (t .tuples) ≡ replicate room noPair
+-- what a commit answers, the first `count` of eight places being its values
+pub record CommitAnswered (call : Call) (entry exit : List ℕ) (r : Committed) : Type 0 where
+  pub performed : Performed call entry exit (r .number) 0 (stampOf (r .stamp)) (take (r .count) (r .values))
+  pub plain : Plain (r .stamp)
+  pub filled : Filled (pos 0) opsMost (r .count) (r .values)
 
--- of so many places the first `count` are used, and the rest are 0
-pub record Filled {A : Type 0} (z : A) (places count : ℕ) (vs : List A) : Type 0 where
-  pub fits : count ≤ places
-  pub rest-is : drop count vs ≡ replicate (places - count) z
+-- what a dummy at a site answers
+pub record DummyAnswered (site : ℕ) (entry exit : List ℕ) (r : Dummied) : Type 0 where
+  pub performed : Performed (dummy site) entry exit (r .number) 0 (stampOf (r .stamp)) []
+  pub plain : Plain (r .stamp)
+
+-- what a schedule at a site answers
+pub record ScheduleAnswered (site : ℕ) (entry exit : List ℕ) (r : Scheduled) : Type 0 where
+  pub performed : Performed (schedule site) entry exit (r .number) (r .parent) (stampOf (r .stamp)) []
+  pub plain : Plain (r .stamp)
 
 -- what a waiting report at a site answers, the first `count` of 64 places being its items; the state is as it was
 pub record Reported (site : ℕ) (entry : List ℕ) (number count : ℕ) (items : List ℕ) : Type 0 where

@@ -11,7 +11,8 @@ use lib.Dec.{ltb}
 use lib.ListN.{length, take, set, length-append, length-map, length-take}
 use lib.Seq.{take-all, take-suc-set, take-append-le}
 use borrow.Author.Tests.{ltb-true, ltb-false, ne-eqb}
-use Rattle.timestamp.specs.Timestamp.{Stamp}
+use Rattle.timestamp.specs.Value.{stampOf}
+use Rattle.network_layout.specs.declared.Committed.{Committed}
 use Rattle.network_layout.specs.declared.Operation.{Operation}
 use Rattle.network_operations.specs.declared.Gathered.{Gathered}
 use Rattle.protocol.specs.Network.{Network}
@@ -20,7 +21,7 @@ use Rattle.protocol.specs.Steps.{noSuchSite, wrongLists, commitCauses, commitNu
 use Rattle.protocol.specs.Calls.{Call, Outcome, commit, refused, perform}
 use Rattle.network_layout.specs.InWords.{meaning}
 use Rattle.network_operations.specs.Gathered.{kindFields, itemFields, valueFields, operationsCall, gatheredMost, Gathers}
-use Rattle.network_layout.specs.Promises.{Performed}
+use Rattle.network_layout.specs.Promises.{Performed, CommitAnswered}
 use Rattle.lists.proofs.Numbers.{first-holds}
 use Rattle.network_commit.proofs.CommitLaws.{lists-many, commit-lists}
 
@@ -101,16 +102,20 @@ module _ {A : Type 0} (kind item : A → ℕ) (value : A → ℤ) where
 
 module _ (site : ℕ) (os : List Operation) (g : Gathered) (e : Gathers (take gatheredMost os) g) where
   -- the commit of what is gathered is that of all operations
-  pub performs-all : (w v : List ℕ) (number : ℕ) (stamp : Stamp) (values : List ℤ) → Performed (commit site (take (g .count) (g .kinds)) (take (g .count) (g .items)) (take (g .count) (g .values))) w v number 0 stamp values
-      → Performed (operationsCall site os) w v number 0 stamp values
-  performs-all w v number stamp values p = record {
-    number-is = p .number-is ∙ ap (λ (o : Outcome). o .number) same;
-    parent-is = p .parent-is ∙ ap (λ (o : Outcome). o .parent) same;
-    stamp-is = p .stamp-is ∙ ap (λ (o : Outcome). o .stamp) same;
-    values-are = p .values-are ∙ ap (λ (o : Outcome). o .values) same;
-    after-is = p .after-is ∙ ap (λ (o : Outcome). o .after) same;
-    kept = p .kept;
-  }
+  pub performs-all : (w v : List ℕ) (r : Committed) → CommitAnswered (commit site (take (g .count) (g .kinds)) (take (g .count) (g .items)) (take (g .count) (g .values))) w v r → CommitAnswered (operationsCall site os) w v r
+  performs-all w v r a = record { performed = performed; plain = a .plain; filled = a .filled }
     where
       same : perform (meaning w) (commit site (take (g .count) (g .kinds)) (take (g .count) (g .items)) (take (g .count) (g .values))) ≡ perform (meaning w) (operationsCall site os)
       same = (λ i. perform (meaning w) (commit site (e .kinds-are i) (e .items-are i) (e .values-are i))) ∙ nine-for-all (λ (o : Operation). o .kind) (λ (o : Operation). o .item) (λ (o : Operation). o .value) (meaning w) site os
+
+      performed : Performed (operationsCall site os) w v (r .number) 0 (stampOf (r .stamp)) (take (r .count) (r .values))
+      performed =
+          let p = a .performed in
+          record {
+            number-is = p .number-is ∙ ap (λ (o : Outcome). o .number) same;
+            parent-is = p .parent-is ∙ ap (λ (o : Outcome). o .parent) same;
+            stamp-is = p .stamp-is ∙ ap (λ (o : Outcome). o .stamp) same;
+            values-are = p .values-are ∙ ap (λ (o : Outcome). o .values) same;
+            after-is = p .after-is ∙ ap (λ (o : Outcome). o .after) same;
+            kept = p .kept;
+          }

@@ -2,16 +2,12 @@
 use network_layout::Committed;
 use network_layout::Operation;
 use network_layout::WORDS;
-ghost use mathlib.Core.Path.{_≡_};
 ghost use mathlib.Core.List.{List, [], _∷_, _++_};
 ghost use Prim.Native.Nat.{_≤_};
-ghost use lib.IntN.{pos};
 ghost use lib.ListN.{take};
-ghost use Rattle.timestamp.specs.Timestamp.{stampOf};
-ghost use Rattle.limits.specs.Limits.{opsMost};
 ghost use Rattle.network_layout.specs.declared.Operation.{Operation as Op};
 ghost use Rattle.network_operations.specs.Gathered.{gatheredMost, Gathers, operationsCall};
-ghost use Rattle.network_layout.specs.Promises.{Performed, Blank, Filled};
+ghost use Rattle.network_layout.specs.Promises.{CommitAnswered};
 
 // The fields of the first `count` operations. Nine stand for more, which are refused whatever they say.
 pub struct Gathered {
@@ -23,9 +19,7 @@ pub struct Gathered {
 
 // A commit at a site, as `commit`, with its operations as records.
 pub fn commit_operations(state: &mut [u32; WORDS], site: u32, operations: &[Operation]) -> Committed
-    ensures { λ r. ⌜ Performed (operationsCall site (now (operations .entry))) (now (state .entry)) (now (state .exit)) (r .number) 0 (stampOf (r .stamp)) (take (r .count) (r .values)) ⌝ }
-    ensures { λ r. ⌜ ((r .number ≡ 0 → ⊥) → Blank (r .stamp) × (r .count ≡ 0)) ⌝ }
-    ensures { λ r. ⌜ Filled (pos 0) opsMost (r .count) (r .values) ⌝ }
+    ensures { λ r. ⌜ CommitAnswered (operationsCall site (now (operations .entry))) (now (state .entry)) (now (state .exit)) r ⌝ }
 {
     let gathered = gather(operations);
     commit_gathered(state, site, gathered)
@@ -82,9 +76,7 @@ pub fn added(gathered: Gathered, operation: Operation) -> Gathered
 // A commit of the operations, however many, of which these were gathered.
 pub fn commit_gathered(state: &mut [u32; WORDS], site: u32, gathered: Gathered) -> Committed
     requires { ⌜ gathered .count ≤ gatheredMost ⌝ }
-    ensures { λ r. ⌜ ((os : List Op) → Gathers (take gatheredMost os) gathered → Performed (operationsCall site os) (now (state .entry)) (now (state .exit)) (r .number) 0 (stampOf (r .stamp)) (take (r .count) (r .values))) ⌝ }
-    ensures { λ r. ⌜ ((r .number ≡ 0 → ⊥) → Blank (r .stamp) × (r .count ≡ 0)) ⌝ }
-    ensures { λ r. ⌜ Filled (pos 0) opsMost (r .count) (r .values) ⌝ }
+    ensures { λ r. ⌜ ((os : List Op) → Gathers (take gatheredMost os) gathered → CommitAnswered (operationsCall site os) (now (state .entry)) (now (state .exit)) r) ⌝ }
 {
     let n = gathered.count;
     let kinds = gathered.kinds;

@@ -6,13 +6,14 @@ use lib.IntN.{ℤ, pos}
 use lib.ListN.{length, getD, take, replicate}
 use Rattle.limits.specs.Limits.{itemsMost, heldMost}
 use Rattle.timestamp.specs.declared.Timestamp.{Timestamp}
-use Rattle.timestamp.specs.Timestamp.{Stamp, stampOf}
+use Rattle.timestamp.specs.Value.{stampOf, Plain}
+use Rattle.timestamp_order.specs.Timestamp.{Stamp}
 use Rattle.lines.specs.Lines.{noLine}
 use Rattle.protocol.specs.Network.{Network, noStamp, siteAt, lineAt}
 use Rattle.protocol.specs.Questions.{table, stamp, line, answer}
 use Rattle.protocol.specs.Calls.{ask}
 use Rattle.network_layout.specs.InWords.{meaning}
-use Rattle.network_layout.specs.Promises.{Performed, Blank}
+use Rattle.network_layout.specs.Promises.{Performed}
 
 -- some values, and the same one in the places past them
 abbrev pub padded : {A : Type 0} → ℕ → A → List A → List A
@@ -47,7 +48,7 @@ stampAnswer site w = answer (stamp site) noStamp (λ n. siteAt n site .stamp) (m
 pub record StampRead (site : ℕ) (entry : List ℕ) (number : ℕ) (t : Timestamp) : Type 0 where
   pub performed : Performed (ask (stamp site)) entry entry number 0 noStamp []
   pub stamp-is : stampOf t ≡ stampAnswer site entry
-  pub blank : (number ≡ 0 → ⊥) → Blank t
+  pub plain : Plain t
 
 -- ---- a line: how many messages it holds, and how many of them have arrived
 pub record LineAt (n : Network) (k number held arrived : ℕ) : Type 0 where

@@ -83,7 +83,7 @@ fn stamp_in(state: &[u32], site: u32) -> Stamped
     if number != 0 {
         return Stamped {
             number,
-            stamp: network_access::no_stamp(),
+            stamp: timestamp::zero(),
         };
     }
     Stamped {

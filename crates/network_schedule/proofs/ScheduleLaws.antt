@@ -8,7 +8,9 @@ use lib.ListN.{length, getD}
 use Rattle.words.specs.Words.{chunks}
 use Rattle.lists.specs.Lists.{keep}
 use Rattle.lists.proofs.Chains.{keep-more}
-use Rattle.timestamp.specs.Timestamp.{Stamp, stampOf}
+use Rattle.timestamp_order.specs.Timestamp.{Stamp}
+use Rattle.timestamp.specs.declared.Timestamp.{Timestamp}
+use Rattle.timestamp.specs.Value.{stampOf}
 use Rattle.site.specs.Operations.{Op}
 use Rattle.site.specs.Site.{received}
 use Rattle.site.specs.InWords.{opAt, opsIn}
@@ -21,7 +23,7 @@ use Rattle.protocol.specs.Steps.{scheduleNumber, head, headStamp, chosen, wante
 use Rattle.protocol.specs.Calls.{schedule, accepted, perform}
 use Rattle.network_layout.specs.InWords.{networkIn, shaped, SiteStep, LineStep}
 use Rattle.network_layout.specs.At.{AtNetwork}
-use Rattle.network_layout.specs.Promises.{Performed}
+use Rattle.network_layout.specs.Promises.{Performed, ScheduleAnswered}
 use Rattle.network_layout.proofs.OnNetwork.{well-on, few-on, refused-on, accepted-on, unshaped}
 use Rattle.network_choice.specs.Choice.{Best, Choosing}
 use Rattle.network_choice.proofs.ChoiceLaws.{well, parent-few, best-line}
@@ -76,20 +78,21 @@ schedule-refused w net j =
     refused-on (schedule j) refl (λ m. scheduleNumber m j) (λ m. accepted (chosen m j) (headStamp m (chosen m j) j) [] (scheduleNetwork m j)) (λ m. refl) w net
 
 -- as the code answers it
-pub answered : (w : List ℕ) (j number : ℕ) (r : Scheduled) → Refused number r → Performed (schedule j) w w number 0 noStamp [] → Performed (schedule j) w w (r .number) (r .parent) (stampOf (r .stamp)) []
-answered w j number r f p = rw (f .number-is, f .parent-is, f .stamp-is) p
+pub answered : (w : List ℕ) (j number : ℕ) (r : Scheduled) → Refused number r → Performed (schedule j) w w number 0 noStamp [] → ScheduleAnswered j w w r
+answered w j number r f p = record { performed = rw (f .number-is, f .parent-is, f .stamp-is .means) p; plain = f .stamp-is .plain }
 
 module _ (w : List ℕ) (j : ℕ) (free : Choosing w j) where
   abbrev net : Network
   net = networkIn w
 
-  pub schedule-done : (v u : List ℕ) (p : ℕ) (t : Stamp) (k : ℕ) → k ≡ lineNumber p j → Best net j sitesMost p t
-      → SiteStep w v j (received (writesFor net j (head net p j)) t) → LineStep v u k takenOrSame → Performed (schedule j) w u 0 p t []
+  pub schedule-done : (v u : List ℕ) (p : ℕ) (t : Timestamp) (k : ℕ) → k ≡ lineNumber p j → Best net j sitesMost p t
+      → SiteStep w v j (received (writesFor net j (head net p j)) (stampOf t)) → LineStep v u k takenOrSame → ScheduleAnswered j w u (record { number = 0; parent = p; stamp = t })
   unfolding perform scheduleNetwork
   schedule-done v u p t k ke b s l =
       let few = few-on w (free .net) in
       let c = chosen net j in
-      let stamp-is : t ≡ headStamp net c j = b .stamped (parent-few w j free p (best-line w j free p t b)) ∙ ap (λ (q : ℕ). headStamp net q j) (b .is) in
+      let value = b .stamped (parent-few w j free p (best-line w j free p t b)) in
+      let stamp-is : stampOf t ≡ headStamp net c j = value .means ∙ ap (λ (q : ℕ). headStamp net q j) (b .is) in
       let new = received (writesFor net j (head net c j)) (headStamp net c j) (siteAt net j) in
       let middle : networkIn v ≡ withSite net j new
       = s .meant ∙ ap₂ (λ (q : ℕ) (x : Stamp). withSite net j (received (writesFor net j (head net q j)) x (siteAt net j))) (b .is) stamp-is in
@@ -99,6 +102,7 @@ module _ (w : List ℕ) (j : ℕ) (free : Choosing w j) where
       ∙ ap (λ (m : Network). withLine m k (takenOrSame (getD (m .lines) k noLine))) middle
       ∙ ap (λ (i : ℕ). withLine (withSite net j new) i (takenOrSame (getD (net .lines) i noLine))) at
       ∙ ap (withLine (withSite net j new) (lineNumber c j)) (take-some (lineAt net c j) (chosen-held net j few (well w j free) (free .none))) in
-      accepted-on (schedule j) refl (λ m. scheduleNumber m j) (λ m. accepted (chosen m j) (headStamp m (chosen m j) j) [] (scheduleNetwork m j)) (λ m. refl) w (free .net) u p t [] (scheduleNetwork net j) (free .none)
+      let done = accepted-on (schedule j) refl (λ m. scheduleNumber m j) (λ m. accepted (chosen m j) (headStamp m (chosen m j) j) [] (scheduleNetwork m j)) (λ m. refl) w (free .net) u p (stampOf t) [] (scheduleNetwork net j) (free .none)
       (ap₂ (λ (q : ℕ) (x : Stamp). accepted q x [] (scheduleNetwork net j)) (sym (b .is)) (sym stamp-is))
-      (l .ranged) after (keeps-schedule net j few (well-on w (free .net)) (free .none))
+      (l .ranged) after (keeps-schedule net j few (well-on w (free .net)) (free .none)) in
+      record { performed = done; plain = value .plain }

@@ -9,18 +9,17 @@ ghost use Prim.Native.Nat.{_+_, _<_};
 ghost use lib.ListN.{length, getD};
 ghost use Rattle.lists.specs.Lists.{keep};
 ghost use Rattle.limits.specs.Limits.{opsMost};
-ghost use Rattle.timestamp.specs.Timestamp.{stampOf};
+ghost use Rattle.timestamp.specs.Value.{stampOf};
 ghost use Rattle.site.specs.Site.{received};
 ghost use Rattle.site.specs.InWords.{opAt, opsIn};
 ghost use Rattle.protocol.specs.Network.{noRecord};
 ghost use Rattle.protocol.specs.Steps.{head, wantedAt, writesFor};
-ghost use Rattle.protocol.specs.Calls.{schedule as scheduleCall};
 ghost use Rattle.network_layout.specs.Layout.{stateSize};
 ghost use Rattle.network_layout.specs.InWords.{networkIn, SiteStep};
 ghost use Rattle.network_layout.specs.At.{AtNetwork};
-ghost use Rattle.network_layout.specs.Promises.{Performed, Blank};
+ghost use Rattle.network_layout.specs.Promises.{ScheduleAnswered};
 ghost use Rattle.network_choice.specs.Choice.{Choosing, ChoosingFrom};
-ghost use Rattle.network_schedule.specs.Answers.{Refused, Accepted};
+ghost use Rattle.network_schedule.specs.Answers.{Refused};
 ghost use Rattle.network_schedule.specs.Wanted.{Laid, Recorded, Wanting, Gathering};
 
 // Operations in words, three each: the first `count` of eight.
@@ -31,16 +30,14 @@ struct Writes {
 
 // Schedule at a site. It answers its number, and the parent and the timestamp of the message done.
 pub fn schedule(state: &mut [u32; WORDS], site: u32) -> Scheduled
-    ensures { λ r. ⌜ Performed (scheduleCall site) (now (state .entry)) (now (state .exit)) (r .number) (r .parent) (stampOf (r .stamp)) [] ⌝ }
-    ensures { λ r. ⌜ ((r .number ≡ 0 → ⊥) → Blank (r .stamp)) ⌝ }
+    ensures { λ r. ⌜ ScheduleAnswered site (now (state .entry)) (now (state .exit)) r ⌝ }
 {
     schedule_in(state, site)
 }
 
 fn schedule_in(state: &mut [u32], site: u32) -> Scheduled
     requires { ⌜ length (now state) ≡ stateSize ⌝ }
-    ensures { λ r. ⌜ Performed (scheduleCall site) (now (state .entry)) (now (state .exit)) (r .number) (r .parent) (stampOf (r .stamp)) [] ⌝ }
-    ensures { λ r. ⌜ ((r .number ≡ 0 → ⊥) → Blank (r .stamp)) ⌝ }
+    ensures { λ r. ⌜ ScheduleAnswered site (now (state .entry)) (now (state .exit)) r ⌝ }
 {
     if !network_shape::shaped(state) {
         return refused(6);
@@ -51,8 +48,7 @@ fn schedule_in(state: &mut [u32], site: u32) -> Scheduled
 // The same on the words of a network.
 pub fn schedule_on(state: &mut [u32], site: u32) -> Scheduled
     requires { ⌜ AtNetwork (now state) ⌝ }
-    ensures { λ r. ⌜ Performed (scheduleCall site) (now (state .entry)) (now (state .exit)) (r .number) (r .parent) (stampOf (r .stamp)) [] ⌝ }
-    ensures { λ r. ⌜ ((r .number ≡ 0 → ⊥) → Blank (r .stamp)) ⌝ }
+    ensures { λ r. ⌜ ScheduleAnswered site (now (state .entry)) (now (state .exit)) r ⌝ }
 {
     let number = network_choice::schedule_number(state, site);
     if number != 0 {
@@ -67,7 +63,7 @@ fn refused(number: u32) -> Scheduled
     Scheduled {
         number,
         parent: 0,
-        stamp: network_access::no_stamp(),
+        stamp: timestamp::zero(),
     }
 }
 
@@ -75,7 +71,7 @@ fn refused(number: u32) -> Scheduled
 // The chosen message done at site j and taken off its line.
 fn take_chosen(state: &mut [u32], j: u32) -> Scheduled
     requires { ⌜ Choosing (now state) j ⌝ }
-    ensures { λ r. ⌜ Accepted j (now (state .entry)) (now (state .exit)) r ⌝ }
+    ensures { λ r. ⌜ ScheduleAnswered j (now (state .entry)) (now (state .exit)) r ⌝ }
 {
     let best = network_choice::chosen(state, j);
     let parent = best.parent;

@@ -24,7 +24,7 @@ ghost use Rattle.words.specs.Words.{part, chunks};
 ghost use Rattle.lists.specs.Lists.{every, everyFrom};
 ghost use Rattle.lists.specs.Numbers.{numberIf};
 ghost use Rattle.limits.specs.Limits.{sitesMost, recordsMost};
-ghost use Rattle.timestamp.specs.Made.{stampShaped};
+ghost use Rattle.timestamp.specs.InWords.{stampShaped};
 ghost use Rattle.site.specs.InWords.{siteSize};
 ghost use Rattle.placement.specs.InWords.{itemsIn};
 ghost use Rattle.lines.specs.InWords.{messageSize, lineSize};

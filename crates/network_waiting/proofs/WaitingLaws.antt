@@ -2,7 +2,7 @@
 use mathlib.Core.Path.{_≡_, refl, sym, ap, _∙_}
 use mathlib.Core.Bool.{Bool, true, false, cond, _&&_}
 use mathlib.Core.List.{List, [], _∷_, _++_, append-nil}
-use Prim.Native.Nat.{ℕ, zero, suc, _+_, _%_, _^_, _≤_, _<_, min}
+use Prim.Native.Nat.{ℕ, zero, suc, _+_, _%_, _^_, _≤_, _<_}
 use native.Mathlib.Omega.{arith}
 use native.Mathlib.Numerals.{add-one}
 use native.Mathlib.Nat.{zero-div}
@@ -30,7 +30,7 @@ pub few-made : (w : List ℕ) → inRange w ≡ true → length (networkIn w .hi
 unfolding partsOf
 few-made w e = omega (arith, records-count w, range-parts w e .few-records)
 
-module _ (item : ℕ) (h : List Record) (few : length h ≤ recordsMost) (m : Message) (x : ℕ) (e : min x recordsMost ≡ nameOf m) where
+module _ (item : ℕ) (h : List Record) (few : length h ≤ recordsMost) (m : Message) (x : ℕ) (e : x ≡ nameOf m) where
   ops-by-name : (m : Message) → messageOps h m ≡ getD h (nameOf m) noRecord .ops
   ops-by-name (commit k) = refl
   ops-by-name (dummy t) = sym (ap (λ (r : Record). r .ops) (List·getD-eq-default h noRecord {n = recordsMost} few))
@@ -39,7 +39,7 @@ module _ (item : ℕ) (h : List Record) (few : length h ≤ recordsMost) (m : Me
   message-none g = sym (ap (any (writesItem item)) (ops-by-name m ∙ ap (λ (r : Record). r .ops) (List·getD-eq-default h noRecord {n = nameOf m} (omega arith))))
 
   pub message-some : x < length h → any (writesItem item) (getD h x noRecord .ops) ≡ any (writesItem item) (messageOps h m)
-  message-some g = let is : x ≡ nameOf m = omega arith in ap (λ (k : ℕ). any (writesItem item) (getD h k noRecord .ops)) is ∙ sym (ap (any (writesItem item)) (ops-by-name m))
+  message-some g = ap (λ (k : ℕ). any (writesItem item) (getD h k noRecord .ops)) e ∙ sym (ap (any (writesItem item)) (ops-by-name m))
 
 -- ---- an item, by the tests of the code
 module _ (n : Network) (i k : ℕ) where

@@ -4,7 +4,7 @@ use mathlib.Core.Bool.{Bool, cond}
 use mathlib.Core.List.{List, [], _∷_, _++_}
 use Prim.Native.Nat.{ℕ, _+_, _≤_, _<_}
 use lib.ListN.{length, getD, take, drop}
-use Rattle.lists.specs.Lists.{any}
+use Rattle.lists.specs.Lists.{any, Filled}
 use Rattle.limits.specs.Limits.{itemsMost}
 use Rattle.site.specs.Operations.{writesItem}
 use Rattle.lines.specs.Lines.{Message, noLine}
@@ -12,7 +12,6 @@ use Rattle.protocol.specs.Network.{Network, messageOps}
 use Rattle.protocol.specs.Waiting.{EachOnce}
 use Rattle.network_layout.specs.InWords.{networkIn}
 use Rattle.network_layout.specs.At.{AtSite}
-use Rattle.network_layout.specs.Promises.{Filled}
 
 -- ---- the messages of line k, and whether a message writes the item
 abbrev pub onIt : List ℕ → ℕ → List Message

@@ -5,7 +5,7 @@ use mathlib.Core.List.{List, [], _∷_, _++_, map}
 use Prim.Native.Nat.{ℕ, suc}
 use lib.IntN.{ℤ, pos}
 use lib.ListN.{getD}
-use Rattle.timestamp.specs.Timestamp.{Stamp}
+use Rattle.timestamp_order.specs.Timestamp.{Stamp}
 use Rattle.site.specs.Operations.{Op, reads, recorded, written, Work, work, worked}
 use Rattle.records.specs.Records.{Record}
 use Rattle.lists.specs.Lists.{keep, upTo}

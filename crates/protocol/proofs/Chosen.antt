@@ -8,10 +8,10 @@ use lib.ListN.{length, getD, drop, length-drop, List·getD-eq-default}
 use lib.Dec.{eqb, ltb, leb}
 use borrow.Author.Tests.{leb-true, leb-false, ltb-true, eqb-true, eqb-false, eq-eqb}
 use Rattle.lists.proofs.Every.{and-true, every-at, every-rest}
-use Rattle.timestamp.specs.Timestamp.{appended, appendedOrSame, ownSite, ownCount}
-use Rattle.timestamp.specs.Made.{madeBy}
-use Rattle.timestamp.proofs.Made.{made-parts, made-length, made-appended}
-use Rattle.timestamp.proofs.Value.{append-room}
+use Rattle.timestamp_order.specs.Timestamp.{appended, appendedOrSame, ownSite, ownCount}
+use Rattle.timestamp_order.specs.Made.{madeBy}
+use Rattle.timestamp_order.proofs.Made.{made-parts, made-length, made-appended}
+use Rattle.timestamp_order.proofs.Timestamp.{append-room}
 use Rattle.site.specs.Site.{received}
 use Rattle.placement.specs.Masks.{bit}
 use Rattle.placement.specs.Placement.{Item, itemsNumber, noItem, isLine, hasParents}

@@ -10,9 +10,9 @@ use lib.ListN.{length, getD}
 use lib.Dec.{eqb, ltb}
 use borrow.Author.Tests.{ltb-true}
 use Rattle.lists.proofs.Every.{and-true}
-use Rattle.timestamp.specs.Timestamp.{Stamp}
-use Rattle.timestamp.specs.Order.{notLater, isEarlier}
-use Rattle.timestamp.specs.Made.{madeBy}
+use Rattle.timestamp_order.specs.Timestamp.{Stamp}
+use Rattle.timestamp_order.specs.Order.{notLater, isEarlier}
+use Rattle.timestamp_order.specs.Made.{madeBy}
 use Rattle.site.specs.Operations.{Op, reads, noOp}
 use Rattle.site.specs.Site.{Site, committed}
 use Rattle.placement.specs.Placement.{Item, owns, copies, isLine}

@@ -10,10 +10,10 @@ use lib.ListN.{length, getD}
 use lib.Dec.{eqb}
 use borrow.Author.Tests.{eqb-true}
 use Rattle.lists.proofs.Every.{and-true, every-at}
-use Rattle.timestamp.specs.Timestamp.{Stamp}
-use Rattle.timestamp.specs.Order.{notLater, isEarlier, Below}
-use Rattle.timestamp.specs.Made.{madeBy}
-use Rattle.timestamp.proofs.Made.{without}
+use Rattle.timestamp_order.specs.Timestamp.{Stamp}
+use Rattle.timestamp_order.specs.Order.{notLater, isEarlier, Below}
+use Rattle.timestamp_order.specs.Made.{madeBy}
+use Rattle.timestamp_order.proofs.Made.{without}
 use Rattle.site.specs.Operations.{Op, reads, writes, noOp, writesItem}
 use Rattle.site.specs.InWords.{tableSize}
 use Rattle.placement.specs.Masks.{bit}

@@ -11,10 +11,10 @@ use lib.Dec.{eqb, ltb}
 use borrow.Author.Tests.{leb-false, ltb-false, ltb-true, lt-ltb, le-leb, eq-eqb}
 use Rattle.lists.specs.Lists.{every, isEmpty}
 use Rattle.lists.proofs.Every.{and-true, every-snoc, every-all}
-use Rattle.timestamp.specs.Timestamp.{Stamp, withEpoch, raisedOrSame, ownCount, greatest}
-use Rattle.timestamp.specs.Made.{madeBy}
-use Rattle.timestamp.proofs.Made.{made-start, made-raised}
-use Rattle.timestamp.proofs.Value.{raise-room}
+use Rattle.timestamp_order.specs.Timestamp.{Stamp, withEpoch, raisedOrSame, ownCount, greatest}
+use Rattle.timestamp_order.specs.Made.{madeBy}
+use Rattle.timestamp_order.proofs.Made.{made-start, made-raised}
+use Rattle.timestamp_order.proofs.Timestamp.{raise-room}
 use Rattle.site.specs.Operations.{Op, noOp, reads, writes, readValue, recorded}
 use Rattle.site.specs.Site.{Site, committed, dummied, atEpoch}
 use Rattle.limits.specs.Limits.{sitesMost}

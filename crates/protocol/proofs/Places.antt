@@ -4,9 +4,9 @@ use mathlib.Core.Bool.{true}
 use mathlib.Core.List.{List}
 use Prim.Native.Nat.{ℕ, _≤_, _<_}
 use native.Mathlib.Omega.{arith}
-use Rattle.timestamp.specs.declared.Order.{Order}
-use Rattle.timestamp.specs.Timestamp.{Stamp}
-use Rattle.timestamp.specs.Order.{orderBy, IsEarlier, NotLater}
+use Rattle.timestamp_order.specs.declared.Order.{Order}
+use Rattle.timestamp_order.specs.Timestamp.{Stamp}
+use Rattle.timestamp_order.specs.Order.{orderBy, IsEarlier, NotLater}
 use Rattle.limits.specs.Limits.{sitesMost}
 use Rattle.placement.specs.Placement.{Item, itemsNumber, isLine}
 use Rattle.placement.proofs.Laws.{line-upward}

@@ -9,10 +9,10 @@ use lib.ListN.{length, getD, set, length-set}
 use lib.Seq.{getD-set-same}
 use lib.Dec.{eqb}
 use borrow.Author.Tests.{eqb-true, eqb-false, leb-false}
-use Rattle.timestamp.specs.Timestamp.{raised, raisedOrSame, ownCount, greatest}
-use Rattle.timestamp.proofs.Made.{without}
-use Rattle.timestamp.proofs.OrderLaws.{epoch-later}
-use Rattle.timestamp.proofs.Value.{raise-room}
+use Rattle.timestamp_order.specs.Timestamp.{raised, raisedOrSame, ownCount, greatest}
+use Rattle.timestamp_order.proofs.Made.{without}
+use Rattle.timestamp_order.proofs.OrderLaws.{epoch-later}
+use Rattle.timestamp_order.proofs.Timestamp.{raise-room}
 use Rattle.site.specs.Site.{Site, dummied, atEpoch}
 use Rattle.site.specs.InWords.{tableSize}
 use Rattle.placement.specs.Placement.{isLine, hasParents}

@@ -8,8 +8,8 @@ use native.Mathlib.Omega.{arith}
 use lib.IntN.{ℤ, pos}
 use lib.ListN.{length, getD, length-replicate, getD-replicate}
 use lib.Dec.{eqb}
-use Rattle.timestamp.specs.Timestamp.{Stamp}
-use Rattle.timestamp.specs.Order.{orderBy, notLater, isEarlier, IsEarlier}
+use Rattle.timestamp_order.specs.Timestamp.{Stamp}
+use Rattle.timestamp_order.specs.Order.{orderBy, notLater, isEarlier, IsEarlier}
 use Rattle.site.specs.Operations.{Op, reads, recorded, worked, noOp}
 use Rattle.site.specs.InWords.{tableSize}
 use Rattle.site.proofs.Laws.{work-ops}

@@ -11,11 +11,11 @@ use lib.Seq.{getD-set-same, getD-set-other}
 use lib.Dec.{eqb, ltb, leb}
 use borrow.Author.Tests.{eqb-true, eqb-false, lt-leb, ltb-true}
 use Rattle.lists.proofs.Every.{and-true}
-use Rattle.timestamp.specs.Timestamp.{Stamp, appended, ownCount}
-use Rattle.timestamp.specs.Order.{notLater}
-use Rattle.timestamp.specs.Made.{madeBy}
-use Rattle.timestamp.proofs.Made.{without}
-use Rattle.timestamp.proofs.OrderLaws.{append-later}
+use Rattle.timestamp_order.specs.Timestamp.{Stamp, appended, ownCount}
+use Rattle.timestamp_order.specs.Order.{notLater}
+use Rattle.timestamp_order.specs.Made.{madeBy}
+use Rattle.timestamp_order.proofs.Made.{without}
+use Rattle.timestamp_order.proofs.OrderLaws.{append-later}
 use Rattle.site.specs.Operations.{Op, writes, writesItem}
 use Rattle.site.specs.Site.{Site, received}
 use Rattle.placement.specs.Placement.{Item, copies, isLine}

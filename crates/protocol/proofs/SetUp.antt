@@ -6,8 +6,8 @@ use Prim.Native.Nat.{ℕ, _+_, _<_, _≤_}
 use native.Mathlib.Omega.{arith}
 use lib.IntN.{pos}
 use lib.ListN.{length, getD, length-replicate, getD-replicate}
-use Rattle.timestamp.proofs.OrderLaws.{bare-not-later}
-use Rattle.timestamp.proofs.Made.{without}
+use Rattle.timestamp_order.proofs.OrderLaws.{bare-not-later}
+use Rattle.timestamp_order.proofs.Made.{without}
 use Rattle.site.specs.Site.{Site}
 use Rattle.site.specs.InWords.{tableSize}
 use Rattle.placement.specs.Placement.{isLine}

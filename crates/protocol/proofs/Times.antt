@@ -5,14 +5,14 @@ use mathlib.Core.Bool.{Bool, true, false, false≢true}
 use mathlib.Core.List.{List, [], _∷_, _++_}
 use mathlib.Core.Logic.{_⊎_, inl, inr}
 use Prim.Native.Nat.{ℕ, _+_, _<_}
-use Rattle.timestamp.specs.declared.Order.{Order}
-use Rattle.timestamp.specs.declared.Order.the-variants.{Earlier, Equal, Later}
-use Rattle.timestamp.specs.Timestamp.{Pair, Stamp, appended, raised, lastPair}
-use Rattle.timestamp.specs.Order.{orderBy, notLater, isEarlier, IsEarlier, NotLater, Below}
-use Rattle.timestamp.specs.Made.{madeBy}
-use Rattle.timestamp.proofs.Comparisons.{Laws, irreflexive, same-not-later, earlier-not-later, not-later-cases, not-later-not-turned, not-later-turned, later-turned, earlier-then-not-later, not-later-then-earlier, not-later-trans}
-use Rattle.timestamp.proofs.OrderLaws.{order-laws, cut, cut-order, cut-not-later, cut-earlier-than, raise-later, raised-appended}
-use Rattle.timestamp.proofs.Made.{withoutLast, without, made-split, made-below, made-appended, made-parts}
+use Rattle.timestamp_order.specs.declared.Order.{Order}
+use Rattle.timestamp_order.specs.declared.Order.the-variants.{Earlier, Equal, Later}
+use Rattle.timestamp_order.specs.Timestamp.{Pair, Stamp, appended, raised, lastPair}
+use Rattle.timestamp_order.specs.Order.{orderBy, notLater, isEarlier, IsEarlier, NotLater, Below}
+use Rattle.timestamp_order.specs.Made.{madeBy}
+use Rattle.timestamp_order.proofs.Comparisons.{Laws, irreflexive, same-not-later, earlier-not-later, not-later-cases, not-later-not-turned, not-later-turned, later-turned, earlier-then-not-later, not-later-then-earlier, not-later-trans}
+use Rattle.timestamp_order.proofs.OrderLaws.{order-laws, cut, cut-order, cut-not-later, cut-earlier-than, raise-later, raised-appended}
+use Rattle.timestamp_order.proofs.Made.{withoutLast, without, made-split, made-below, made-appended, made-parts}
 
 pub record Times (place : ℕ → ℕ) : Type 0 where
   pub upto-self : (s : Stamp) → NotLater place s s

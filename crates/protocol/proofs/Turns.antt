@@ -7,9 +7,9 @@ use native.Mathlib.Omega.{arith}
 use lib.ListN.{length}
 use lib.Dec.{eqb}
 use borrow.Author.Tests.{eqb-true, eq-eqb, ne-eqb}
-use Rattle.timestamp.specs.Order.{orderBy, notLater}
-use Rattle.timestamp.proofs.Comparisons.{not-later-trans, later-turned}
-use Rattle.timestamp.proofs.OrderLaws.{order-laws}
+use Rattle.timestamp_order.specs.Order.{orderBy, notLater}
+use Rattle.timestamp_order.proofs.Comparisons.{not-later-trans, later-turned}
+use Rattle.timestamp_order.proofs.OrderLaws.{order-laws}
 use Rattle.lists.specs.Lists.{any}
 use Rattle.records.specs.Records.{Record}
 use Rattle.lists.specs.Sorting.{sorted, insert}

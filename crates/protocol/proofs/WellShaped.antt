@@ -11,7 +11,7 @@ use borrow.Author.Tests.{le-leb, leb-true, lt-ltb, ltb-true, eq-eqb, eqb-true, l
 use Rattle.lists.proofs.Lists.{set-each}
 use Rattle.lists.specs.Lists.{every, everyFrom, isEmpty}
 use Rattle.lists.proofs.Every.{and-true, every-at, every-all, from-all, from-at}
-use Rattle.timestamp.specs.Made.{madeBy}
+use Rattle.timestamp_order.specs.Made.{madeBy}
 use Rattle.site.specs.Site.{Site}
 use Rattle.placement.specs.Placement.{Item, itemsNumber, isLine}
 use Rattle.limits.specs.Limits.{sitesMost}

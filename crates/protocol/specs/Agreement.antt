@@ -8,7 +8,7 @@ use Prim.Native.Nat.{ℕ, _<_}
 use lib.IntN.{ℤ, pos}
 use lib.ListN.{length, getD}
 use lib.Dec.{eqb}
-use Rattle.timestamp.specs.Timestamp.{Stamp}
+use Rattle.timestamp_order.specs.Timestamp.{Stamp}
 use Rattle.site.specs.Operations.{valuesRead}
 use Rattle.placement.specs.Placement.{Item, owns, copies}
 use Rattle.records.specs.Records.{Record}

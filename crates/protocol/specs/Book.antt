@@ -3,7 +3,7 @@ use mathlib.Core.Bool.{Bool, cond}
 use mathlib.Core.List.{List, [], _∷_, _++_}
 use Prim.Native.Nat.{ℕ, zero, suc}
 use lib.ListN.{getD, set}
-use Rattle.timestamp.specs.Timestamp.{Stamp, raised, withEpoch, appended, ownCount}
+use Rattle.timestamp_order.specs.Timestamp.{Stamp, raised, withEpoch, appended, ownCount}
 use Rattle.records.specs.Records.{Record}
 use Rattle.protocol.specs.Network.{noStamp}
 use Rattle.protocol.specs.Steps.{opsOf}

@@ -5,7 +5,7 @@ use mathlib.Core.Option.{Option, none, some}
 use Prim.Native.Nat.{ℕ}
 use lib.IntN.{ℤ}
 use lib.Dec.{eqb}
-use Rattle.timestamp.specs.Timestamp.{Stamp}
+use Rattle.timestamp_order.specs.Timestamp.{Stamp}
 use Rattle.site.specs.Operations.{valuesRead}
 use Rattle.protocol.specs.Network.{Network, noStamp, siteAt}
 use Rattle.protocol.specs.Steps.{setUpNumber, setUpNetwork, opsOf, commitNumber, commitNetwork, recordOf, dummyNumber, dummyNetwork, epochNumber, epochNetwork, deliverNumber, deliverNetwork, scheduleNumber, scheduleNetwork, chosen, headStamp}

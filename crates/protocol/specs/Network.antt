@@ -5,8 +5,9 @@ use Prim.Native.Nat.{ℕ, _+_, _*_, _/_, _%_}
 use lib.ListN.{length, getD, set}
 use lib.Dec.{eqb, ltb, leb}
 use Rattle.lists.specs.Lists.{every, everyFrom, isEmpty}
-use Rattle.timestamp.specs.Timestamp.{Stamp}
-use Rattle.timestamp.specs.Made.{madeBy}
+use Rattle.timestamp_order.specs.Timestamp.{Stamp}
+pub use Rattle.timestamp_order.specs.Timestamp.{noStamp}
+use Rattle.timestamp_order.specs.Made.{madeBy}
 use Rattle.site.specs.Operations.{Op}
 use Rattle.site.specs.Site.{Site}
 use Rattle.placement.specs.Placement.{Item, itemsNumber, isLine}
@@ -21,9 +22,6 @@ pub record Network : Type 0 where
   pub history : List Record
 
 -- what stands where there is nothing
-abbrev pub noStamp : Stamp
-noStamp = record { epoch = 0; tuples = [] }
-
 abbrev pub noSite : Site
 noSite = record { table = []; stamp = noStamp }
 

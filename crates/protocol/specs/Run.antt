@@ -6,8 +6,8 @@ use Prim.Native.Nat.{ℕ, suc}
 use lib.IntN.{ℤ, pos}
 use lib.ListN.{length, getD, replicate}
 use lib.Dec.{eqb}
-use Rattle.timestamp.specs.Timestamp.{Stamp}
-use Rattle.timestamp.specs.Order.{orderBy, notLater}
+use Rattle.timestamp_order.specs.Timestamp.{Stamp}
+use Rattle.timestamp_order.specs.Order.{orderBy, notLater}
 use Rattle.site.specs.Operations.{worked}
 use Rattle.site.specs.InWords.{tableSize}
 use Rattle.records.specs.Records.{Record}

@@ -5,8 +5,8 @@ use Prim.Native.Nat.{ℕ, zero, suc}
 use lib.IntN.{ℤ, pos}
 use lib.ListN.{length, getD, set, replicate}
 use lib.Dec.{eqb, ltb, leb}
-use Rattle.timestamp.specs.Timestamp.{Stamp, ownCount, greatest}
-use Rattle.timestamp.specs.Order.{orderBy, isEarlier}
+use Rattle.timestamp_order.specs.Timestamp.{Stamp, ownCount, greatest}
+use Rattle.timestamp_order.specs.Order.{orderBy, isEarlier}
 use Rattle.site.specs.Operations.{Op, reads, writes, worked}
 use Rattle.site.specs.Site.{Site, committed, dummied, atEpoch, received}
 use Rattle.limits.specs.Limits.{opsMost, sitesMost, itemsMost, heldMost, recordsMost}

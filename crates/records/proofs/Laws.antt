@@ -13,10 +13,10 @@ use Rattle.lists.specs.Lists.{every}
 use Rattle.words.proofs.Parts.{part-length, put-length, put-here, put-below, put-getD-below}
 use Rattle.words.proofs.Walks.{overlaid-same}
 use Rattle.lists.proofs.Every.{every-false, every-next, every-done}
-use Rattle.timestamp.specs.Timestamp.{Stamp, room}
-use Rattle.timestamp.specs.Order.{byNumber}
-use Rattle.timestamp.specs.InWords.{stampIn, stampSize, stampRange, stampWords}
-use Rattle.timestamp.specs.Made.{madeBy, stampShaped}
+use Rattle.timestamp_order.specs.Timestamp.{Stamp, room}
+use Rattle.timestamp_order.specs.Order.{byNumber}
+use Rattle.timestamp.specs.InWords.{stampIn, stampSize, stampRange, stampWords, stampShaped}
+use Rattle.timestamp_order.specs.Made.{madeBy}
 use Rattle.timestamp.proofs.Words.{stamp-front, words-back, words-length}
 use Rattle.site.specs.Operations.{Op}
 use Rattle.site.specs.InWords.{opIn, opAt, opsIn, opsSize}
@@ -26,14 +26,14 @@ use Rattle.records.specs.Records.{opFits, recordFits}
 use Rattle.records.specs.InWords.{stampAt, opsAt, opsWords, recordSize, recordIn, recordRange, Written}
 
 -- ---- read
-module _ (w : List ℕ) (s : Stamp) where
-  pub stamp-short : length w < stampAt → s ≡ stampIn (0 ∷ []) → s ≡ recordIn w .stamp
+module _ (w : List ℕ) where
+  pub stamp-short : length w < stampAt → stampIn (0 ∷ []) ≡ recordIn w .stamp
   unfolding recordIn stampIn
-  stamp-short h e = e ∙ ap (λ (x : List ℕ). stampIn (take stampSize x)) (sym (drop-of-length-le w {i = stampAt} (omega arith)))
+  stamp-short h = ap (λ (x : List ℕ). stampIn (take stampSize x)) (sym (drop-of-length-le w {i = stampAt} (omega arith)))
 
-  pub stamp-long : s ≡ stampIn (part w stampAt (length w - stampAt)) → s ≡ recordIn w .stamp
+  pub stamp-long : stampIn (part w stampAt (length w - stampAt)) ≡ recordIn w .stamp
   unfolding recordIn
-  stamp-long e = e ∙ ap stampIn (take-all (length w - 2) (drop 2 w) (omega (arith, length-drop 2 w))) ∙ sym (stamp-front (drop 2 w))
+  stamp-long = ap stampIn (take-all (length w - 2) (drop 2 w) (omega (arith, length-drop 2 w))) ∙ sym (stamp-front (drop 2 w))
 
 pub count-law : (w : List ℕ) → length (recordIn w .ops) ≡ min (getD w 1 0) opsMost
 unfolding recordIn

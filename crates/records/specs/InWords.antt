@@ -6,7 +6,7 @@ use Prim.Native.Nat.{ℕ, _+_, _≤_, min}
 use lib.ListN.{length, getD}
 use lib.Dec.{leb}
 use Rattle.words.specs.Words.{part}
-use Rattle.timestamp.specs.Timestamp.{Stamp}
+use Rattle.timestamp_order.specs.Timestamp.{Stamp}
 use Rattle.timestamp.specs.InWords.{stampIn, stampSize, stampRange}
 use Rattle.site.specs.InWords.{opsIn, opsSize}
 use Rattle.limits.specs.Limits.{opsMost}

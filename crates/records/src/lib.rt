@@ -9,8 +9,8 @@ ghost use Prim.Native.Nat.{_≤_};
 ghost use lib.ListN.{length};
 ghost use lib.Dec.{eqb};
 ghost use Rattle.lists.specs.Lists.{every};
-ghost use Rattle.timestamp.specs.Timestamp.{stampOf};
-ghost use Rattle.timestamp.specs.Order.{byNumber};
+ghost use Rattle.timestamp.specs.Value.{stampOf, PlainValue};
+ghost use Rattle.timestamp_order.specs.Order.{byNumber};
 ghost use Rattle.site.specs.InWords.{opAt, opsIn};
 ghost use Rattle.limits.specs.Limits.{opsMost};
 ghost use Rattle.records.specs.Records.{recordFits, opFits};
@@ -52,7 +52,7 @@ pub fn site(w: &[u32]) -> u32
 
 // The timestamp of a record; of a slice of another size, what its words from the third on say.
 pub fn stamp(w: &[u32]) -> Timestamp
-    ensures { λ r. ⌜ stampOf r ≡ recordIn (now (w .entry)) .stamp ⌝ }
+    ensures { λ r. ⌜ PlainValue (recordIn (now (w .entry)) .stamp) r ⌝ }
 {
     if w.len() < STAMP {
         return timestamp::from_words(&[0u32]);

@@ -1,9 +1,9 @@
 -- The table of worked examples, by computation.
 use mathlib.Core.Path.{refl}
 use Rattle.decimal.specs.Decimal.{lastDigits, digits, valueFrom, natural, signed}
-use Rattle.timestamp.specs.Timestamp.{appendedOrSame, raisedOrSame}
-use Rattle.timestamp.specs.Order.{orderBy, tuplesOrder, pairOrder, numberOrder}
-use Rattle.timestamp.proofs.Examples.{comparisons-hold}
+use Rattle.timestamp_order.specs.Timestamp.{appendedOrSame, raisedOrSame}
+use Rattle.timestamp_order.specs.Order.{orderBy, tuplesOrder, pairOrder, numberOrder}
+use Rattle.timestamp_order.proofs.Examples.{comparisons-hold}
 use Rattle.site.specs.Operations.{work}
 use Rattle.placement.specs.Placement.{itemNumber, isLine, hasParents}
 use Rattle.protocol.specs.Network.{placeOf}

@@ -11,7 +11,7 @@ use lib.Dec.{eqb, eqb·suc-zero}
 use Rattle.decimal.specs.Decimal.{digits}
 use Rattle.decimal.proofs.Printing.{printed-none, printed-then, printed-as, printed-byte, printed-length}
 use borrow.Author.Tests.{eq-eqb, ne-eqb, eqb-true, eqb-false}
-use Rattle.timestamp.specs.Timestamp.{Pair, noPair}
+use Rattle.timestamp_order.specs.Timestamp.{Pair, noPair}
 use Rattle.protocol.specs.Calls.{Call, setUp, commit, dummy, epoch, deliver, schedule, ask, Outcome}
 use Rattle.script_notation.specs.Fields.{space}
 use Rattle.script_notation.specs.Print.{tupleText, tuplesText, spaced, acceptedText, print, fieldsOf, Put}

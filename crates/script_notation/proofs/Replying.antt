@@ -11,7 +11,7 @@ use lib.Seq.{length-take-le}
 use borrow.Author.Tests.{not-true, not-false, eqb-true, eqb-false, ne-eqb, le-leb, lt-leb}
 use lib.Dec.{eqb}
 use Rattle.decimal.specs.Decimal.{natural, digits}
-use Rattle.timestamp.specs.Timestamp.{Stamp}
+use Rattle.timestamp_order.specs.Timestamp.{Stamp}
 use Rattle.site.specs.Operations.{Op}
 use Rattle.placement.specs.Placement.{Item}
 use Rattle.protocol.specs.Network.{noStamp}

@@ -7,12 +7,12 @@ use Prim.Native.Nat.{ℕ}
 use lib.IntN.{ℤ}
 use lib.Dec.{eqb}
 use borrow.Author.Tests.{eqb-true, eqb-false}
-use Rattle.timestamp.specs.Timestamp.{Stamp}
+use Rattle.timestamp_order.specs.Timestamp.{Stamp}
 use Rattle.site.specs.Operations.{valuesRead}
 use Rattle.protocol.specs.Network.{Network, noStamp, siteAt}
 use Rattle.protocol.specs.Steps.{setUpNumber, setUpNetwork, opsOf, commitNumber, commitNetwork, recordOf, dummyNumber, dummyNetwork, epochNumber, epochNetwork, deliverNumber, deliverNetwork, scheduleNumber, scheduleNetwork, chosen, headStamp}
-use Rattle.protocol.specs.Waiting.{waitingNumber}
-use Rattle.protocol.specs.Calls.{Call, setUp, commit, dummy, epoch, deliver, schedule, waiting, refused, accepted, judged, perform}
+use Rattle.protocol.specs.Questions.{questionNumber}
+use Rattle.protocol.specs.Calls.{Call, setUp, commit, dummy, epoch, deliver, schedule, ask, refused, accepted, judged, perform}
 use Rattle.network_layout.specs.InWords.{networkIn, shaped, meaning}
 use Rattle.network_layout.specs.Promises.{Performed}
 
@@ -45,7 +45,7 @@ performs-there none (dummy i) e = e
 performs-there none (epoch i k) e = e
 performs-there none (deliver p c) e = e
 performs-there none (schedule j) e = e
-performs-there none (waiting i) e = e
+performs-there none (ask q) e = e
 performs-there (some n) (commit i ks is vs) e =
     let r = recordOf n i (opsOf ks is vs) in
     judged-there (commitNumber n i ks is vs) (some n) 0 (r .stamp) (valuesRead (r .ops)) (commitNetwork n i (opsOf ks is vs)) e
@@ -53,7 +53,7 @@ performs-there (some n) (dummy i) e = judged-there (dummyNumber n i) (some n) 0 
 performs-there (some n) (epoch i k) e = judged-there (epochNumber n i k) (some n) 0 noStamp [] (epochNetwork n i k) e
 performs-there (some n) (deliver p c) e = judged-there (deliverNumber n p c) (some n) 0 noStamp [] (deliverNetwork n p c) e
 performs-there (some n) (schedule j) e = judged-there (scheduleNumber n j) (some n) (chosen n j) (headStamp n (chosen n j) j) [] (scheduleNetwork n j) e
-performs-there (some n) (waiting i) e = judged-there (waitingNumber n i) (some n) 0 noStamp [] n e
+performs-there (some n) (ask q) e = judged-there (questionNumber n q) (some n) 0 noStamp [] n e
 
 pub shape-stays : (entry exit : List ℕ) (call : Call) → shaped entry ≡ true → meaning exit ≡ perform (meaning entry) call .after → shaped exit ≡ true
 shape-stays entry exit call e after = sym (meant exit) ∙ ap there after ∙ performs-there (meaning entry) call (meant entry ∙ e)

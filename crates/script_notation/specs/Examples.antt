@@ -5,9 +5,9 @@ use mathlib.Core.List.{List, [], _∷_, map}
 use mathlib.Core.Option.{none}
 use Prim.Native.Nat.{ℕ, zero, suc}
 use lib.ListN.{length, replicate}
-use Rattle.timestamp.specs.declared.Order.the-variants.{Earlier}
-use Rattle.timestamp.specs.Order.{order}
-use Rattle.timestamp.specs.Examples.{Comparison, comparisons}
+use Rattle.timestamp_order.specs.declared.Order.the-variants.{Earlier}
+use Rattle.timestamp_order.specs.Order.{order}
+use Rattle.timestamp_order.specs.Examples.{Comparison, comparisons}
 use Rattle.script_notation.specs.Answers.{answers}
 
 -- a line and its answer, as bytes

@@ -7,7 +7,7 @@ use lib.IntN.{ℤ}
 use lib.ListN.{length}
 use lib.Dec.{eqb}
 use Rattle.decimal.specs.Decimal.{digits, signedDigits, Printed}
-use Rattle.timestamp.specs.Timestamp.{Pair, Stamp}
+use Rattle.timestamp_order.specs.Timestamp.{Pair, Stamp}
 use Rattle.site.specs.Operations.{Op}
 use Rattle.records.specs.Records.{Record}
 use Rattle.protocol.specs.Calls.{Call, setUp, commit, dummy, epoch, deliver, schedule, ask, Outcome}

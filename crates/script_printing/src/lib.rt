@@ -9,7 +9,7 @@ ghost use mathlib.Core.Path.{_≡_};
 ghost use mathlib.Core.List.{_∷_, []};
 ghost use Prim.Native.Nat.{_+_, _≤_, _<_, min};
 ghost use lib.ListN.{length, take};
-ghost use Rattle.timestamp.specs.Timestamp.{stampOf, pairOf};
+ghost use Rattle.timestamp.specs.Value.{stampOf, pairOf};
 ghost use Rattle.script_notation.specs.Fields.{space};
 ghost use Rattle.script_notation.specs.Parse.{firstOperations};
 ghost use Rattle.script_notation.specs.Print.{letter as letterOf, opText, opsText, recordText, recordMost, Put, tupleText, tuplesText, stampText, valuesText, print, fieldsOf, answerMost};

@@ -1,28 +1,29 @@
 -- Laws of operations in words, of the table that they write, and of a site in words.
 use mathlib.Core.Path.{_≡_, refl, sym, ap, ap₂, _∙_}
-use mathlib.Core.List.{List, [], _∷_, _++_, map, map-append}
-use Prim.Native.Nat.{ℕ, suc, _+_, _*_, _≤_, _<_}
+use mathlib.Core.List.{List, [], _∷_, _++_, map, map-append, append-nil}
+use Prim.Native.Nat.{ℕ, suc, _+_, _*_, _-_, _≤_, _<_}
 use native.Mathlib.Omega.{arith}
 use native.Mathlib.Numerals.{add-one}
 use lib.IntN.{ℤ, pos}
-use lib.ListN.{length, getD, set, drop, length-map, drop-of-length-le, List·getD-map, List·getD-eq-default}
-use lib.Seq.{drop-cons}
+use lib.ListN.{length, getD, set, take, drop, replicate, length-map, length-append, length-drop, drop-of-length-le, List·getD-map, List·getD-eq-default}
+use lib.Seq.{drop-cons, drop-at, take-all, length-take-le}
 use mathlib.Core.Bool.{Bool, true, false, cond}
 use borrow.Author.Tests.{eq-eqb, ne-eqb, le-leb}
 use mir.Val.{toZ}
 use mir.Syntax.{w32}
 use Rattle.words.specs.Words.{part, put, chunks, laid, overlaid}
-use Rattle.words.proofs.Parts.{part-getD, part-length, put-here, put-below, put-above}
+use Rattle.words.proofs.Parts.{part-getD, part-length, put-here, put-below, put-above, put-past, put-length}
 use Rattle.words.proofs.Chunks.{chunks-length, chunks-at, chunks-last, chunks-below}
 use Rattle.words.proofs.Steps.{not-stepped}
 use Rattle.words.proofs.Walks.{laid-in, overlaid-same}
 use Rattle.lists.proofs.Lists.{map-set}
-use Rattle.timestamp.specs.Timestamp.{Stamp, room}
+use Rattle.lists.proofs.Filled.{filled-more}
+use Rattle.timestamp_order.specs.Timestamp.{Stamp, room}
 use Rattle.timestamp.specs.InWords.{stampIn, stampWords, stampSize}
 use Rattle.timestamp.proofs.Words.{stamp-front, written-back, words-length}
 use Rattle.site.specs.Operations.{Op, reads, readValue, recorded, written, work, worked}
 use Rattle.site.specs.Site.{Site}
-use Rattle.site.specs.InWords.{opOf, opIn, opWords, opAt, opsIn, opsSize, opSize, tableIn, tableSize, siteIn, siteFrom, siteSize, siteRange, Changed}
+use Rattle.site.specs.InWords.{opOf, opIn, opWords, opAt, opsIn, opsSize, opSize, tableIn, tableSize, siteIn, siteFrom, siteSize, siteRange, OpsLaid, Put, Changed}
 use Rattle.limits.specs.Limits.{opsMost}
 
 -- ---- one operation, word by word
@@ -75,6 +76,51 @@ laid-op out out′ i kind item v o size h e f =
     (put-here out (i * opSize) opSize ys (omega arith) refl)
     ∙ ap {B = List Op} (λ x. opsIn i out ++ (x ∷ [])) f
 
+-- and the words behind it stay
+module _ (out out′ ys : List ℕ) (i : ℕ) (three : length ys ≡ opSize) (size : length out ≡ opsSize) (h : i < opsMost) (e : out′ ≡ laid out (opSize * i) ys) where
+  is-put : out′ ≡ put out (opSize * i) (length ys) ys
+  is-put = e ∙ laid-in out (opSize * i) ys (omega arith)
+
+  pub laid-behind : drop ((i + 1) * opSize) out′ ≡ drop ((i + 1) * opSize) out
+  laid-behind =
+      let end : (i + 1) * opSize ≡ opSize * i + length ys = omega arith in
+      rw end (ap (drop (opSize * i + length ys)) is-put ∙ put-past out (opSize * i) (length ys) ys (omega arith) refl)
+
+  pub laid-size : length out′ ≡ length out
+  laid-size = ap length is-put ∙ put-length out (opSize * i) (length ys) ys (omega arith) refl
+
+-- ---- operations at eight places, 0 past the last
+pub none-laid : OpsLaid 0 [] (replicate opsSize 0)
+unfolding chunks
+none-laid = record { ops-are = refl; filled = record { fits = omega arith; sized = refl; rest-is = refl } }
+
+pub put-as : {entry exit : List ℕ} {i : ℕ} {o o′ : Op} → o ≡ o′ → Put entry exit i o → Put entry exit i o′
+put-as {entry} {exit} {i} e p = record { laid = λ h. p .laid h ∙ ap {B = List Op} (λ x. opsIn i entry ++ (x ∷ [])) e; behind = p .behind; kept = p .kept; size = p .size }
+
+pub next-laid : (i : ℕ) (os : List Op) (out out′ : List ℕ) (o : Op) → OpsLaid i os out → i < opsMost → Put out out′ i o → OpsLaid (i + 1) (os ++ (o ∷ [])) out′
+next-laid i os out out′ o l h p =
+    record {
+      ops-are = p .laid h ∙ ap (λ (x : List Op). x ++ (o ∷ [])) (l .ops-are);
+      filled = filled-more 0 opsSize (i * opSize) ((i + 1) * opSize) out out′ (l .filled) (omega arith) (omega arith) (p .size) (p .behind h);
+    }
+
+-- the first n operations of a record's words, laid over zeros
+pub front-laid : (n : ℕ) (x : List ℕ) → length x ≡ opsSize → n ≤ opsMost → OpsLaid n (opsIn n x) (overlaid (replicate opsSize 0) (take (n * opSize) x))
+front-laid n x size few =
+    let at = n * opSize in
+    let zeros : List ℕ = replicate opsSize 0 in
+    let front : length (take at x) ≡ at = length-take-le at x (omega arith) in
+    let rest : length (drop at zeros) ≡ opsSize - at = length-drop at zeros in
+    let out : overlaid zeros (take at x) ≡ take at x ++ drop at zeros = ap₂ (λ (a b : List ℕ). a ++ b) (take-all opsSize (take at x) (omega arith)) (ap (λ (k : ℕ). drop k zeros) front) in
+    let none : drop (opsSize - at) (drop at x) ≡ [] = drop-of-length-le (drop at x) {i = opsSize - at} (omega (arith, length-drop at x)) in
+    let is-put : overlaid zeros (take at x) ≡ put x at (opsSize - at) (drop at zeros) = out ∙ sym (ap (λ (l : List ℕ). take at x ++ (drop at zeros ++ l)) none ∙ ap (λ (l : List ℕ). take at x ++ l) (append-nil (drop at zeros))) in
+    record {
+      ops-are = ap (opsIn n) is-put ∙ ap (map opIn) (chunks-below opSize n x at (opsSize - at) (drop at zeros) (omega arith) (omega arith) rest);
+      filled = filled-more 0 opsSize 0 at zeros (overlaid zeros (take at x)) (none-laid .filled) (omega arith) (omega arith)
+          (ap length out ∙ length-append (take at x) (drop at zeros) ∙ omega (arith, front, rest))
+          (ap (drop at) out ∙ drop-at (take at x) (drop at zeros) at front);
+    }
+
 -- ---- all operations
 pub ops-length : (n : ℕ) (w : List ℕ) → length (opsIn n w) ≡ n
 ops-length n w = length-map (chunks opSize n w) opIn ∙ chunks-length opSize n w
@@ -96,13 +142,8 @@ unfolding work
 work-ops b t [] = refl
 work-ops b t (o ∷ os) = ap {B = List Op} (λ l. recorded b b o ∷ l) (work-ops b (written t o) os)
 
-module _ (b : List ℤ) (ops out : List ℕ) (i : ℕ) (e : opsIn i out ≡ map (recorded b b) (opsIn i ops)) where
-  pub kept-next : (out′ : List ℕ) → opsIn (i + 1) out′ ≡ opsIn i out ++ (recorded b b (opAt ops i) ∷ []) → opsIn (i + 1) out′ ≡ map (recorded b b) (opsIn (i + 1) ops)
-  kept-next out′ f =
-      f ∙ ap (λ (l : List Op). l ++ (recorded b b (opAt ops i) ∷ [])) e ∙ sym (ap (map (recorded b b)) (ops-last i ops) ∙ map-append (recorded b b) (opsIn i ops) (opAt ops i ∷ []))
-
-  pub kept-all : (m : ℕ) → i ≡ m → opsIn m out ≡ worked b (opsIn m ops) .ops
-  kept-all m f = ap (λ (k : ℕ). opsIn k out) (sym f) ∙ e ∙ ap (λ (k : ℕ). map (recorded b b) (opsIn k ops)) f ∙ sym (work-ops b b (opsIn m ops))
+pub kept-next : (b : List ℤ) (ops : List ℕ) (i : ℕ) → map (recorded b b) (opsIn i ops) ++ (recorded b b (opAt ops i) ∷ []) ≡ map (recorded b b) (opsIn (i + 1) ops)
+kept-next b ops i = sym (ap (map (recorded b b)) (ops-last i ops) ∙ map-append (recorded b b) (opsIn i ops) (opAt ops i ∷ []))
 
 -- the table after the operations from i on
 module _ (b : List ℤ) (t : List ℤ) (n : ℕ) (ops : List ℕ) (i : ℕ) where

@@ -4,10 +4,11 @@ use mathlib.Core.Bool.{Bool}
 use mathlib.Core.List.{List, [], _∷_, _++_, map}
 use Prim.Native.Nat.{ℕ, _+_, _*_, _≤_, _<_}
 use lib.IntN.{ℤ}
-use lib.ListN.{getD, length}
+use lib.ListN.{getD, length, drop}
 use mir.Val.{toZ}
 use mir.Syntax.{w32}
 use Rattle.limits.specs.Limits.{itemsMost, opsMost}
+use Rattle.lists.specs.Lists.{Filled}
 use Rattle.words.specs.Words.{part, chunks, Stepped}
 use Rattle.timestamp.specs.InWords.{stampIn, stampSize, stampRange}
 use Rattle.site.specs.Operations.{Op, worked}
@@ -38,10 +39,17 @@ opAt w i = opIn (opWords w i)
 abbrev pub opsIn : ℕ → List ℕ → List Op
 opsIn n w = map opIn (chunks opSize n w)
 
--- what laying operation i leaves: the i before it and then it, and past the last place the words as they were
+-- of eight places the first n hold the operations `os`, and the words past them are 0
+pub record OpsLaid (n : ℕ) (os : List Op) (w : List ℕ) : Type 0 where
+  pub ops-are : opsIn n w ≡ os
+  pub filled : Filled 0 opsSize (n * opSize) w
+
+-- what laying operation i leaves: the i before it, then it, and the words behind it as they were; past the last place all words as they were
 pub record Put (entry exit : List ℕ) (i : ℕ) (o : Op) : Type 0 where
   pub laid : i < opsMost → opsIn (i + 1) exit ≡ opsIn i entry ++ (o ∷ [])
+  pub behind : i < opsMost → drop ((i + 1) * opSize) exit ≡ drop ((i + 1) * opSize) entry
   pub kept : opsMost ≤ i → exit ≡ entry
+  pub size : length exit ≡ length entry
 
 -- ---- a site
 abbrev pub tableSize : ℕ
@@ -67,7 +75,8 @@ siteRange w = stampRange w
 abbrev pub Changed : List ℕ → List ℕ → (Site → Site) → Type 0
 Changed entry exit step = Stepped siteSize siteIn siteRange step entry exit
 
--- what a commit of the operations `os` leaves, and the operations that it answers
-pub record Committed (entry exit : List ℕ) (os answered : List Op) : Type 0 where
+-- what a commit of n operations `os` leaves, and the words of the operations that it answers: 0 throughout where the words are no site
+pub record Committed (entry exit : List ℕ) (n : ℕ) (os : List Op) (answered : List ℕ) : Type 0 where
   pub changed : Changed entry exit (committed os)
-  pub sized : length entry ≡ siteSize → answered ≡ worked (siteIn entry .table) os .ops
+  pub sized : length entry ≡ siteSize → OpsLaid n (worked (siteIn entry .table) os .ops) answered
+  pub unsized : (length entry ≡ siteSize → ⊥) → OpsLaid 0 [] answered

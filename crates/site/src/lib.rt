@@ -10,7 +10,7 @@ ghost use mathlib.Core.Path.{_≡_};
 ghost use mathlib.Core.Bool.{true};
 ghost use Prim.Native.Nat.{min};
 ghost use lib.ListN.{length};
-ghost use Rattle.timestamp.specs.Timestamp.{stampOf};
+ghost use Rattle.timestamp.specs.Value.{stampOf, PlainValue};
 ghost use Rattle.site.specs.Site.{dummied, atEpoch, received};
 ghost use Rattle.site.specs.InWords.{siteIn, siteRange, siteSize, opsIn, Changed, Committed};
 ghost use Rattle.limits.specs.Limits.{opsMost};
@@ -22,14 +22,14 @@ pub const WORDS: usize = TABLE + ITEMS_WIDE;
 
 // The timestamp of a site.
 pub fn stamp(part: &[u32]) -> Timestamp
-    ensures { λ r. ⌜ stampOf r ≡ siteIn (now (part .entry)) .stamp ⌝ }
+    ensures { λ r. ⌜ PlainValue (siteIn (now (part .entry)) .stamp) r ⌝ }
 {
     timestamp::from_words(part)
 }
 
-// A commit: the operations as the history keeps them, the table after their writes, the own count one higher.
+// A commit: the operations as the history keeps them, 0 past the last; the table after their writes, the own count one higher.
 pub fn commit(part: &mut [u32], ops: &[u32], n: usize) -> [u32; OPERATIONS]
-    ensures { λ r. ⌜ Committed (now (part .entry)) (now (part .exit)) (opsIn (min n opsMost) (now (ops .entry))) (opsIn (min n opsMost) r) ⌝ }
+    ensures { λ r. ⌜ Committed (now (part .entry)) (now (part .exit)) (min n opsMost) (opsIn (min n opsMost) (now (ops .entry))) r ⌝ }
 {
     if part.len() != WORDS {
         return [0u32; OPERATIONS];

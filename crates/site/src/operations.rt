@@ -1,13 +1,12 @@
 // Operations in words, three each: kind, item, value. What they read from a table, and what they write to it.
 use limits::OPERATIONS_WIDE;
 ghost use mathlib.Core.Path.{_≡_};
-ghost use mathlib.Core.List.{[], _∷_, _++_};
-ghost use Prim.Native.Nat.{min, _+_, _<_};
+ghost use Prim.Native.Nat.{min, _<_};
 ghost use lib.ListN.{getD};
 ghost use mir.Val.{toZ};
 ghost use mir.Syntax.{w32};
 ghost use Rattle.site.specs.Operations.{written, recorded, worked};
-ghost use Rattle.site.specs.InWords.{opWords, opAt, opOf, opsIn, opSize, tableIn, Put};
+ghost use Rattle.site.specs.InWords.{opWords, opAt, opOf, opsIn, opSize, tableIn, OpsLaid, Put};
 ghost use Rattle.limits.specs.Limits.{opsMost};
 
 // The kinds.
@@ -26,9 +25,9 @@ pub const OPERATION: usize = VALUE + 1;
 
 pub const OPERATIONS: usize = OPERATIONS_WIDE * OPERATION;
 
-// The operations as the history keeps them: each read with the value that the table has.
+// The operations as the history keeps them, each read with the value that the table has; 0 past the last.
 pub fn record(table: &[u32], ops: &[u32], n: usize) -> [u32; OPERATIONS]
-    ensures { λ r. ⌜ opsIn (min n opsMost) r ≡ worked (tableIn (now (table .entry))) (opsIn (min n opsMost) (now (ops .entry))) .ops ⌝ }
+    ensures { λ r. ⌜ OpsLaid (min n opsMost) (worked (tableIn (now (table .entry))) (opsIn (min n opsMost) (now (ops .entry))) .ops) r ⌝ }
 {
     let mut out = [0u32; OPERATIONS];
     let m = few(n);
@@ -84,7 +83,7 @@ pub fn put(out: &mut [u32; OPERATIONS], i: usize, kind: u32, item: u32, value: u
 // Operation i, as the history keeps it, after the i before it.
 fn record_one(out: &mut [u32; OPERATIONS], table: &[u32], ops: &[u32], i: usize)
     requires { ⌜ i < opsMost ⌝ }
-    ensures { λ r. ⌜ opsIn (i + 1) (now (out .exit)) ≡ opsIn i (now (out .entry)) ++ (recorded (tableIn (now (table .entry))) (tableIn (now (table .entry))) (opAt (now (ops .entry)) i) ∷ []) ⌝ }
+    ensures { λ r. ⌜ Put (now (out .entry)) (now (out .exit)) i (recorded (tableIn (now (table .entry))) (tableIn (now (table .entry))) (opAt (now (ops .entry)) i)) ⌝ }
 {
     put(
         out,

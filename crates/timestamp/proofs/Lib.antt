@@ -1,7 +1,4 @@
 pub mod Value
-pub mod Steps
-pub mod Comparisons
-pub mod OrderLaws
+pub mod Plain
 pub mod Words
-pub mod Made
-pub mod Examples
+pub mod Shaped

@@ -10,7 +10,8 @@ use Rattle.lists.proofs.Lists.{spelled, map-take}
 use Rattle.words.proofs.Walks.{overlaid-same}
 use Rattle.timestamp.specs.declared.Tuple.{Tuple}
 use Rattle.timestamp.specs.declared.Epoch.{Epoch}
-use Rattle.timestamp.specs.Timestamp.{Pair, Stamp, pairOf, stampOf, noPair, room}
+use Rattle.timestamp_order.specs.Timestamp.{Pair, Stamp, noPair, room}
+use Rattle.timestamp.specs.Value.{pairOf, stampOf}
 use Rattle.timestamp.specs.InWords.{pairsAt, stampIn, stampWords, stampSize}
 
 -- ---- read

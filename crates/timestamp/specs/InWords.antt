@@ -1,10 +1,12 @@
 -- A timestamp in words: its epoch, how many tuples it has, and eight places of site and count.
-use mathlib.Core.Bool.{Bool}
+use mathlib.Core.Bool.{Bool, _&&_}
 use mathlib.Core.List.{List, [], _∷_}
 use Prim.Native.Nat.{ℕ, zero, suc, _+_, _*_}
 use lib.ListN.{length, take, getD}
 use lib.Dec.{leb}
-use Rattle.timestamp.specs.Timestamp.{Pair, Stamp, noPair, room}
+use Rattle.timestamp_order.specs.Timestamp.{Pair, Stamp, noPair, room}
+use Rattle.timestamp_order.specs.Order.{byNumber}
+use Rattle.timestamp_order.specs.Made.{madeBy}
 
 -- where the tuples start, the words of one, and where tuple i starts
 abbrev pub pairsStart : ℕ
@@ -35,6 +37,10 @@ stampIn w = record { epoch = getD w 0 0; tuples = take (getD w 1 0) (pairsAt w p
 -- they say no more tuples than there are places
 abbrev pub stampRange : List ℕ → Bool
 stampRange w = leb (getD w 1 0) room
+
+-- they are those of a timestamp that site j made: at most eight tuples, as many as they say
+unfoldable pub stampShaped : ℕ → List ℕ → Bool
+stampShaped j w = stampRange w && madeBy byNumber j (stampIn w)
 
 -- ---- written
 -- the words of n tuples from number i on, zeros where there is none

@@ -1,5 +1,2 @@
-pub mod Timestamp
-pub mod Order
+pub mod Value
 pub mod InWords
-pub mod Made
-pub mod Examples

@@ -1,12 +1,12 @@
 // The order of timestamps: epochs first, then tuple by tuple, the higher site earlier.
 use crate::Count;
 use crate::Epoch;
-use crate::Order;
 use crate::Timestamp;
 use crate::Tuple;
+use timestamp_order::Order;
 ghost use mathlib.Core.Path.{_≡_};
-ghost use Rattle.timestamp.specs.Timestamp.{stampOf, pairOf};
-ghost use Rattle.timestamp.specs.Order.{thenBy, numberOrder, pairOrder, tuplesOrder, order, byNumber};
+ghost use Rattle.timestamp.specs.Value.{stampOf, pairOf};
+ghost use Rattle.timestamp_order.specs.Order.{thenBy, numberOrder, pairOrder, tuplesOrder, order, byNumber};
 
 impl Epoch {
     // The lower epoch is earlier.

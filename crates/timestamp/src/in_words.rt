@@ -9,10 +9,11 @@ ghost use mathlib.Core.List.{map};
 ghost use Prim.Native.Nat.{_<_, _≤_};
 ghost use lib.ListN.{length, take};
 ghost use Rattle.words.specs.Words.{overlaid};
-ghost use Rattle.timestamp.specs.Timestamp.{stampOf, pairOf, room};
-ghost use Rattle.timestamp.specs.Order.{byNumber};
-ghost use Rattle.timestamp.specs.Made.{rising as risingOf, stampShaped};
-ghost use Rattle.timestamp.specs.InWords.{stampIn, stampWords, pairAt, pairsAt, pairsStart, pairPlace};
+ghost use Rattle.timestamp.specs.Value.{stampOf, pairOf, PlainValue};
+ghost use Rattle.timestamp_order.specs.Timestamp.{room};
+ghost use Rattle.timestamp_order.specs.Order.{byNumber};
+ghost use Rattle.timestamp_order.specs.Made.{rising as risingOf};
+ghost use Rattle.timestamp.specs.InWords.{stampShaped, stampIn, stampWords, pairAt, pairsAt, pairsStart, pairPlace};
 
 // Where the words have the epoch, the number of tuples and the tuples, of two words each; and their size.
 const EPOCH: usize = 0;
@@ -25,15 +26,16 @@ const TUPLE: usize = 2;
 
 pub const WORDS: usize = TUPLES + SITES_WIDE * TUPLE;
 
-// The timestamp that words stand for. Words past the end count as 0, and more than eight tuples as eight.
+// The timestamp that words stand for, plain. Words past the end count as 0, and more than eight tuples as eight.
 pub fn from_words(w: &[u32]) -> Timestamp
-    ensures { λ r. ⌜ stampOf r ≡ stampIn (now (w .entry)) ⌝ }
+    ensures { λ r. ⌜ PlainValue (stampIn (now (w .entry))) r ⌝ }
 {
-    Timestamp {
+    let t = Timestamp {
         epoch: Epoch(words::word(w, EPOCH)),
         len: words::wide(words::word(w, COUNT)),
         tuples: tuples_in(w),
-    }
+    };
+    t.plain()
 }
 
 // Whether the words are those of a timestamp that the site made: sites rising, the last its own.

@@ -1,4 +1,4 @@
-// Timestamps as values: an epoch and up to eight tuples of site and count. Each method takes one and gives a new one.
+// Timestamps as values: an epoch and up to eight tuples of site and count. Each method takes one and gives a new one, which is plain.
 mod comparison; // comparison.rt: the order of timestamps
 mod in_words; // in_words.rt: a timestamp in words of a lent slice
 
@@ -6,10 +6,14 @@ pub use in_words::WORDS;
 pub use in_words::from_words;
 pub use in_words::made_by;
 use limits::SITES_WIDE;
+pub use timestamp_order::Order;
 ghost use mathlib.Core.Path.{_≡_};
+ghost use mathlib.Core.List.{map};
 ghost use Prim.Native.Nat.{min, _≤_};
 ghost use lib.ListN.{length, getD};
-ghost use Rattle.timestamp.specs.Timestamp.{stampOf, pairOf, noPair, withEpoch, appendedOrSame, raisedOrSame, lastPair, room};
+ghost use Rattle.timestamp.specs.Value.{stampOf, pairOf, PlainValue};
+ghost use Rattle.lists.specs.Lists.{spell};
+ghost use Rattle.timestamp_order.specs.Timestamp.{noPair, noStamp, withEpoch, appendedOrSame, raisedOrSame, lastPair, room};
 
 // An epoch number. It is a type of its own, so that no count is compared with it.
 pub struct Epoch(pub u32);
@@ -25,18 +29,11 @@ pub struct Tuple {
     pub count: Count,
 }
 
-// The first `len` of eight places are tuples; where `len` is above eight, all of them. The rest means nothing.
+// The first `len` of eight places are tuples; where `len` is above eight, all of them. The rest means nothing, and is 0 in every value answered.
 pub struct Timestamp {
     pub epoch: Epoch,
     pub len: usize,
     pub tuples: [Tuple; SITES_WIDE],
-}
-
-// What a comparison finds of the first timestamp.
-pub enum Order {
-    Earlier,
-    Equal,
-    Later,
 }
 
 impl Timestamp {
@@ -74,45 +71,91 @@ impl Timestamp {
         self.tuples[n - 1]
     }
 
-    // The same tuples in another epoch.
-    pub fn at_epoch(mut self, epoch: Epoch) -> Timestamp
-        ensures { λ r. ⌜ stampOf r ≡ withEpoch (stampOf self) (epoch .0) ⌝ }
+    // The same timestamp, plain: its unused places are 0.
+    pub fn plain(self) -> Timestamp
+        ensures { λ r. ⌜ PlainValue (stampOf self) r ⌝ }
     {
-        self.epoch = epoch;
-        self
+        let epoch = self.epoch;
+        Timestamp {
+            epoch,
+            len: self.size(),
+            tuples: self.places(),
+        }
+    }
+
+    // The same tuples in another epoch.
+    pub fn at_epoch(self, epoch: Epoch) -> Timestamp
+        ensures { λ r. ⌜ PlainValue (withEpoch (stampOf self) (epoch .0)) r ⌝ }
+    {
+        let mut t = self.plain();
+        t.epoch = epoch;
+        t
     }
 
     // A tuple added at the end; where there are eight, the timestamp as it was.
-    pub fn append(mut self, site: u32, count: Count) -> Timestamp
-        ensures { λ r. ⌜ stampOf r ≡ appendedOrSame (stampOf self) site (count .0) ⌝ }
+    pub fn append(self, site: u32, count: Count) -> Timestamp
+        ensures { λ r. ⌜ PlainValue (appendedOrSame (stampOf self) site (count .0)) r ⌝ }
     {
-        let n = used(self.len);
+        let mut t = self.plain();
+        let n = t.len;
         if SITES_WIDE <= n {
-            return self;
+            return t;
         }
-        self.tuples[n] = Tuple { site, count };
-        self.len = n + 1;
-        self
+        t.tuples[n] = Tuple { site, count };
+        t.len = n + 1;
+        t
     }
 
     // The own count one higher; where it is the largest, or there is no tuple, the timestamp as it was.
-    pub fn raise(mut self) -> Timestamp
-        ensures { λ r. ⌜ stampOf r ≡ raisedOrSame (stampOf self) ⌝ }
+    pub fn raise(self) -> Timestamp
+        ensures { λ r. ⌜ PlainValue (raisedOrSame (stampOf self)) r ⌝ }
     {
-        let n = used(self.len);
+        let mut t = self.plain();
+        let n = t.len;
         if n == 0 {
-            return self;
+            return t;
         }
-        let last = self.tuples[n - 1];
+        let last = t.tuples[n - 1];
         let c = last.count.0;
         if GREATEST <= c {
-            return self;
+            return t;
         }
-        self.tuples[n - 1] = Tuple {
+        t.tuples[n - 1] = Tuple {
             site: last.site,
             count: Count(c + 1),
         };
-        self
+        t
+    }
+
+    // The eight places, 0 where there is no tuple.
+    fn places(self) -> [Tuple; SITES_WIDE]
+        ensures { λ r. ⌜ map pairOf r ≡ spell noPair 0 room (stampOf self .tuples) ⌝ }
+    {
+        [
+            self.tuple(0),
+            self.tuple(1),
+            self.tuple(2),
+            self.tuple(3),
+            self.tuple(4),
+            self.tuple(5),
+            self.tuple(6),
+            self.tuple(7),
+        ]
+    }
+}
+
+// The timestamp of nothing: epoch 0, no tuple.
+pub fn zero() -> Timestamp
+    ensures { λ r. ⌜ PlainValue noStamp r ⌝ }
+{
+    let none = Tuple {
+        site: 0,
+        count: Count(0),
+    };
+    Timestamp {
+        epoch: Epoch(0),
+        len: 0,
+        tuples: [none; SITES_WIDE],
     }
 }
 

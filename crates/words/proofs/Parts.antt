@@ -59,6 +59,13 @@ module _ (w : List ℕ) (at n : ℕ) (ys : List ℕ) (fits : at + n ≤ length w
       ∙ drop-drop (n + (off - at - n)) at w
       ∙ ap (λ (j : ℕ). drop j w) f)
 
+  pub put-past : drop (at + n) (put w at n ys) ≡ drop (at + n) w
+  put-past =
+      sym (drop-drop n at (put w at n ys))
+      ∙ ap (drop n) (drop-at (take at w) (ys ++ drop n (drop at w)) at front)
+      ∙ drop-at ys (drop n (drop at w)) n size
+      ∙ drop-drop n at w
+
   pub put-getD-below : (i : ℕ) → i < at → getD (put w at n ys) i 0 ≡ getD w i 0
   put-getD-below i h =
       let z : 0 + i ≡ i = zero-add i in

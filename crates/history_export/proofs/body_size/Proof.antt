@@ -24,7 +24,7 @@ record-requires : tie.Need-record-requires Inv-loop μ-loop
 record-requires c κs = search needs
 
 size-requires : tie.Need-size-requires Inv-loop μ-loop
-size-requires c κs = c .«record» .ensures .few
+size-requires c κs = omega (arith, c .«record» .ensures .laid .filled .fits)
 
 add-sum : tie.Need-add-sum Inv-loop μ-loop
 add-sum c = omega (arith, c .before .before .before .loop .inv, c .size .ensures .1, c .before .before .before .before .pre .few, c .before .before .loop-test .taken)

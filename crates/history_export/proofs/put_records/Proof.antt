@@ -26,7 +26,7 @@ record-requires : tie.Need-record-requires Inv-loop μ-loop
 record-requires c κs = search needs
 
 size-requires : tie.Need-size-requires Inv-loop μ-loop
-size-requires c κs = c .«record» .ensures .few
+size-requires c κs = omega (arith, c .«record» .ensures .laid .filled .fits)
 
 add-e : tie.Need-add-e Inv-loop μ-loop
 add-e c =
@@ -51,7 +51,7 @@ put-record-requires c κs =
     let hs = networkIn (c .before .before .before .before .before .before .args .state .now) .history in
     let less : c .before .before .before .before .loop .i < length hs = omega (arith, c .before .before .before .before .before .before .pre .all, c .before .before .before .loop-test .taken) in
     let room = body-room hs (c .before .before .before .before .loop .i) less (c .before .before .«record» .result) (c .before .before .«record» .ensures) (c .before .before .before .before .loop .at) (c .before .size .result) (c .before .before .before .before .loop .inv .1) (c .before .size .ensures .0) in
-    record { sized = ap length (lent-part (c .before .before .before .before .loop .b) (c .before .before .before .before .loop .at) (c .before .size .result)) ∙ part-length (c .before .before .before .before .loop .b) (c .before .before .before .before .loop .at) (c .before .size .result) (omega (arith, room, c .before .before .before .before .before .before .pre .sized, c .before .before .before .before .loop .inv .2)) ∙ c .before .size .ensures .0; few = c .before .before .«record» .ensures .few }
+    record { sized = ap length (lent-part (c .before .before .before .before .loop .b) (c .before .before .before .before .loop .at) (c .before .size .result)) ∙ part-length (c .before .before .before .before .loop .b) (c .before .before .before .before .loop .at) (c .before .size .result) (omega (arith, room, c .before .before .before .before .before .before .pre .sized, c .before .before .before .before .loop .inv .2)) ∙ c .before .size .ensures .0; few = omega (arith, c .before .before .«record» .ensures .laid .filled .fits) }
 
 add-i : tie.Need-add-i Inv-loop μ-loop
 add-i c = search needs

@@ -4,7 +4,8 @@ use mathlib.Core.List.{_++_}
 use Prim.Native.Nat.{_≤_, _<_, _-_, _*_}
 use native.Mathlib.Omega.{arith}
 use lib.ListN.{length, take, drop}
-use Rattle.timestamp.specs.Timestamp.{stampOf, noPair}
+use Rattle.timestamp.specs.Value.{stampOf}
+use Rattle.timestamp_order.specs.Timestamp.{noPair}
 use Rattle.history_file.specs.Bytes.{unitSize, joined}
 use Rattle.history_file.specs.File.{pairBytes}
 use Rattle.history_file.proofs.Written.{units-next, units-length, units-all, pair-size}

@@ -3,9 +3,9 @@ use mathlib.Core.Path.{_≡_, refl, sym, ap, _∙_}
 use Prim.Native.Nat.{ℕ, suc, _+_, _*_, _≤_, _-_}
 use native.Mathlib.Omega.{arith}
 use lib.ListN.{drop}
-use Rattle.timestamp.specs.Order.{byNumber}
-use Rattle.timestamp.specs.Made.{rising as risingOf}
-use Rattle.timestamp.proofs.Made.{rise-stops, rise-goes-on, rise-ends}
+use Rattle.timestamp_order.specs.Order.{byNumber}
+use Rattle.timestamp_order.specs.Made.{rising as risingOf}
+use Rattle.timestamp_order.proofs.Made.{rise-stops, rise-goes-on, rise-ends}
 use Rattle.history_file.proofs.Units.{pairsOf, pairs-length, pair-site}
 use borrow.Author.Needs.{needs}
 use Rattle.history_validity.proofs.rising.Statement.{statement}

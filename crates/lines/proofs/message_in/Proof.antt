@@ -1,17 +1,19 @@
--- `message_in` reads the name and the timestamp of a message.
-use mathlib.Core.Path.{ap₂}
-use mathlib.Core.Bool.{cond}
-use Prim.Native.Nat.{ℕ}
-use lib.Dec.{ltb}
-use Rattle.timestamp.specs.Timestamp.{Stamp}
-use Rattle.lines.specs.Lines.{commit, dummy}
-use Rattle.limits.specs.Limits.{recordsMost}
+-- `message_in` reads the name of a message, and of a dummy its timestamp.
+use Rattle.lines.proofs.Boxes.{value-commit, value-dummy}
 use borrow.Author.Needs.{needs}
 use Rattle.lines.proofs.message_in.Statement.{statement}
 use Rattle.lines.proofs.message_in.Tie as tie
 
 word-requires : tie.Need-word-requires
 word-requires c κs = search needs
+
+named-requires : tie.Need-named-requires
+named-requires c κs = search needs
+
+returns : tie.Need-returns
+returns c =
+    let d = c .before .before in
+    value-commit (d .before .before .args .w .now) (d .word .result) (d .word .ensures) (c .before .if1 .taken) (c .named .result) (c .named .ensures)
 
 sub-from-words : tie.Need-sub-from-words
 sub-from-words c = search needs
@@ -25,16 +27,20 @@ part-from-words-end c = search needs
 from-words-requires : tie.Need-from-words-requires
 from-words-requires c κs = search needs
 
-returns : tie.Need-returns
-returns c = ap₂ (λ (k : ℕ) (t : Stamp). cond (ltb k recordsMost) (commit k) (dummy t)) (c .before .before .word .ensures) (c .from-words .ensures)
+returns-2 : tie.Need-returns-2
+returns-2 c =
+    let d = c .before .before .before in
+    value-dummy (d .before .before .args .w .now) (d .word .result) (d .word .ensures) (c .before .before .if1 .left) (c .from-words .result) (c .from-words .ensures)
 
 pub message-in-spec : {M : Type 1} → statement M
 message-in-spec =
     tie.close
     (tie.spec
     word-requires
+    named-requires
+    returns
     sub-from-words
     part-from-words-start
     part-from-words-end
     from-words-requires
-    returns)
+    returns-2)

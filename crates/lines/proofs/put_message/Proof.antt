@@ -1,7 +1,7 @@
 -- `put_message` writes the name and then the timestamp of a message.
 use native.Mathlib.Omega.{arith}
 use lib.ListN.{length-set}
-use Rattle.timestamp.specs.Timestamp.{stampOf}
+use Rattle.timestamp.specs.Value.{stampOf}
 use Rattle.lines.proofs.Boxes.{written-length, written-message, written-range}
 use borrow.Author.Needs.{needs}
 use Rattle.lines.proofs.put_message.Statement.{statement}

@@ -1,7 +1,4 @@
 -- `entry_in` reads the fields of the record one after another.
-use mathlib.Core.Path.{ap, _∙_}
-use Prim.Native.Nat.{ℕ}
-use Rattle.site.specs.InWords.{opsIn}
 use borrow.Author.Needs.{needs}
 use Rattle.network.proofs.entry_in.Statement.{statement}
 use Rattle.network.proofs.entry_in.Tie as tie
@@ -25,9 +22,7 @@ returns c =
     record {
       site-is = stamped .before .record-site .ensures;
       stamp-is = stamped .record-stamp .ensures;
-      ops-are = ap (λ (n : ℕ). opsIn n (c .record-ops .result)) (count .ensures .0) ∙ c .record-ops .ensures;
-      few = count .ensures .1;
-      sized = c .record-ops .ok .1 .0 .1;
+      laid = rw (count .ensures .0) (c .record-ops .ensures);
     }
 
 pub entry-in-spec : {M : Type 1} → statement M

@@ -1,7 +1,6 @@
 -- `record_in` tests that there is one of that number.
 use mathlib.Core.Path.{subst}
 use native.Mathlib.Omega.{arith}
-use Rattle.timestamp.specs.Timestamp.{stampOf}
 use Rattle.records.specs.Records.{Record}
 use Rattle.network_layout.specs.Reading.{Entered}
 use Rattle.network.proofs.RecordWords.{record-past, record-beyond}
@@ -23,7 +22,7 @@ returns c =
     let counted = c .before .before .before in
     let A = counted .before .before .args in
     let e = c .no-entry .result in
-    subst (λ (r : Record). Entered r (e .site) (stampOf (e .stamp)) (e .count) (e .ops)) (record-past (A .state .now) (A .k) (omega (arith, c .before .before .wide .ensures, counted .record-count .ensures, c .before .if1 .taken))) (c .no-entry .ensures)
+    subst (λ (r : Record). Entered r e) (record-past (A .state .now) (A .k) (omega (arith, c .before .before .wide .ensures, counted .record-count .ensures, c .before .if1 .taken))) (c .no-entry .ensures)
 
 no-entry-requires-2 : tie.Need-no-entry-requires-2
 no-entry-requires-2 c κs = search needs
@@ -34,7 +33,7 @@ returns-2 c =
     let counted = tested .before .before in
     let S = counted .before .before in
     let e = c .no-entry2 .result in
-    subst (λ (r : Record). Entered r (e .site) (stampOf (e .stamp)) (e .count) (e .ops)) (record-beyond (S .args .state .now) (S .args .k) (S .pre) (omega (arith, tested .before .wide .ensures, counted .record-count .ensures, tested .if1 .left)) (c .before .if2 .taken)) (c .no-entry2 .ensures)
+    subst (λ (r : Record). Entered r e) (record-beyond (S .args .state .now) (S .args .k) (S .pre) (omega (arith, tested .before .wide .ensures, counted .record-count .ensures, tested .if1 .left)) (c .before .if2 .taken)) (c .no-entry2 .ensures)
 
 entry-in-requires : tie.Need-entry-in-requires
 entry-in-requires c κs = search needs

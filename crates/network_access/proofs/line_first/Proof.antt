@@ -1,7 +1,8 @@
 -- `line_first` reads the oldest message of the line's own words.
-use mathlib.Core.Path.{ap, _∙_}
+use mathlib.Core.Path.{subst}
 use lib.ListN.{getD}
 use Rattle.lines.specs.Lines.{Line, commit}
+use Rattle.lines.specs.InWords.{PlainMessage}
 use borrow.Author.Needs.{needs}
 use Rattle.network_access.proofs.line_first.Statement.{statement}
 use Rattle.network_access.proofs.line_first.Tie as tie
@@ -15,7 +16,7 @@ first-requires c κs = search needs
 returns : tie.Need-returns
 returns c =
     let lent = c .before .line-at .ensures in
-    c .first .ensures .sized (lent .sized) ∙ ap (λ (l : Line). getD (l .messages) 0 (commit 0)) (lent .meant)
+    subst (λ (l : Line). PlainMessage (getD (l .messages) 0 (commit 0)) (c .first .result)) (lent .meant) (c .first .ensures .sized (lent .sized))
 
 pub line-first-spec : {M : Type 1} → statement M
 line-first-spec = tie.close (tie.spec line-at-requires first-requires returns)

@@ -1,9 +1,9 @@
 -- `site_commit` changes one site of the network, as `commit` changes its words, and hands on the operations as recorded.
-use mathlib.Core.Path.{ap, _∙_}
+use mathlib.Core.Path.{subst}
 use Prim.Native.Nat.{min}
 use Rattle.site.specs.Operations.{worked}
 use Rattle.site.specs.Site.{Site, committed}
-use Rattle.site.specs.InWords.{opsIn}
+use Rattle.site.specs.InWords.{opsIn, OpsLaid}
 use Rattle.limits.specs.Limits.{opsMost}
 use Rattle.network_access.proofs.AccessLaws.{site-stepped, site-lent}
 use borrow.Author.Needs.{needs}
@@ -43,7 +43,7 @@ returns c =
     let done = c .before .before .commit in
     let os = opsIn (min (s .args .n) opsMost) (s .args .ops .now) in
     let lent = site-lent (s .args .state .now) (s .args .i) (s .pre) in
-    (site-stepped (s .args .state .now) (s .args .i) (s .pre) (committed os) (done .last .0) (done .kept .0) (done .ensures .changed), done .ensures .sized (lent .sized) ∙ ap (λ (x : Site). worked (x .table) os .ops) (lent .meant))
+    (site-stepped (s .args .state .now) (s .args .i) (s .pre) (committed os) (done .last .0) (done .kept .0) (done .ensures .changed), subst (λ (x : Site). OpsLaid (min (s .args .n) opsMost) (worked (x .table) os .ops) (done .result)) (lent .meant) (done .ensures .sized (lent .sized)))
 
 pub site-commit-spec : {M : Type 1} → statement M
 site-commit-spec =

@@ -1,6 +1,6 @@
 -- `site_receive` changes one site of the network, as `receive` changes its words.
 use Prim.Native.Nat.{min}
-use Rattle.timestamp.specs.Timestamp.{stampOf}
+use Rattle.timestamp.specs.Value.{stampOf}
 use Rattle.site.specs.Site.{received}
 use Rattle.site.specs.InWords.{opsIn}
 use Rattle.limits.specs.Limits.{opsMost}

@@ -2,7 +2,6 @@
 use mathlib.Core.Path.{_≡_, sym, _∙_}
 use mathlib.Core.Bool.{true}
 use borrow.Author.Tests.{not-true, not-false}
-use Rattle.timestamp.specs.Timestamp.{stampOf}
 use Rattle.placement.specs.Placement.{isLine}
 use Rattle.network_layout.specs.InWords.{networkIn}
 use Rattle.network_choice.proofs.ChoiceLaws.{parent-bit, better-none, better-first, better-earlier, better-not}
@@ -28,7 +27,7 @@ returns : tie.Need-returns
 returns c =
     let start = c .before .before .before in
     let A = start .args in
-    better-none (networkIn (A .state .now)) (A .j) (A .p) (A .best .parent) (stampOf (A .best .stamp)) (start .pre .best) (asked (c .before) ∙ not-true (c .before .bit .result) (c .if1 .taken))
+    better-none (networkIn (A .state .now)) (A .j) (A .p) (A .best .parent) (A .best .stamp) (start .pre .best) (asked (c .before) ∙ not-true (c .before .bit .result) (c .if1 .taken))
 
 head-stamp-requires : tie.Need-head-stamp-requires
 head-stamp-requires c κs = record { free = c .before .before .before .pre .free; line = parented c }
@@ -38,7 +37,7 @@ returns-2 c =
     let read = c .before .before in
     let start = read .before .before .before .before in
     let A = start .args in
-    better-first (networkIn (A .state .now)) (A .j) (A .p) (A .best .parent) (stampOf (A .best .stamp)) (start .pre .best) (parented (read .before)) (stampOf (read .head-stamp .result)) (read .head-stamp .ensures) (c .if2 .taken)
+    better-first (networkIn (A .state .now)) (A .j) (A .p) (A .best .parent) (A .best .stamp) (start .pre .best) (parented (read .before)) (read .head-stamp .result) (read .head-stamp .ensures) (c .if2 .taken)
 
 earlier-requires : tie.Need-earlier-requires
 earlier-requires c κs = search needs
@@ -49,7 +48,7 @@ returns-3 c =
     let read = second .before .before in
     let start = read .before .before .before .before in
     let A = start .args in
-    better-earlier (networkIn (A .state .now)) (A .j) (A .p) (A .best .parent) (stampOf (A .best .stamp)) (start .pre .best) (parented (read .before)) (stampOf (read .head-stamp .result)) (read .head-stamp .ensures) (second .if2 .left) (sym (c .before .earlier .ensures) ∙ c .if3 .taken)
+    better-earlier (networkIn (A .state .now)) (A .j) (A .p) (A .best .parent) (A .best .stamp) (start .pre .best) (parented (read .before)) (read .head-stamp .result) (read .head-stamp .ensures) (second .if2 .left) (sym (c .before .earlier .ensures) ∙ c .if3 .taken)
 
 returns-4 : tie.Need-returns-4
 returns-4 c =
@@ -57,7 +56,7 @@ returns-4 c =
     let read = second .before .before in
     let start = read .before .before .before .before in
     let A = start .args in
-    better-not (networkIn (A .state .now)) (A .j) (A .p) (A .best .parent) (stampOf (A .best .stamp)) (start .pre .best) (parented (read .before)) (stampOf (read .head-stamp .result)) (read .head-stamp .ensures) (second .if2 .left) (sym (c .before .earlier .ensures) ∙ c .if3 .left)
+    better-not (networkIn (A .state .now)) (A .j) (A .p) (A .best .parent) (A .best .stamp) (start .pre .best) (parented (read .before)) (read .head-stamp .result) (read .head-stamp .ensures) (second .if2 .left) (sym (c .before .earlier .ensures) ∙ c .if3 .left)
 
 pub better-spec : {M : Type 1} → statement M
 better-spec =

@@ -2,7 +2,6 @@
 use mathlib.Core.Path.{_≡_, subst}
 use Prim.Native.Nat.{ℕ, _≤_, _-_}
 use native.Mathlib.Omega.{arith}
-use Rattle.timestamp.specs.Timestamp.{stampOf}
 use Rattle.limits.specs.Limits.{sitesMost}
 use Rattle.network_choice.specs.Choice.{Best}
 use Rattle.network_layout.specs.InWords.{networkIn}
@@ -14,7 +13,7 @@ use Rattle.network_choice.proofs.chosen.Statement.{statement}
 use Rattle.network_choice.proofs.chosen.Tie as tie
 
 abbrev Inv-loop : tie.InvT-loop
-Inv-loop state j mask best₀ p₀ best p = (p ≤ sitesMost) × Best (networkIn state) j p (best .parent) (stampOf (best .stamp))
+Inv-loop state j mask best₀ p₀ best p = (p ≤ sitesMost) × Best (networkIn state) j p (best .parent) (best .stamp)
 
 abbrev μ-loop : tie.MeasureT-loop
 μ-loop state j mask best₀ p₀ best p = sitesMost - p
@@ -25,13 +24,13 @@ parents-requires c κs =
     let at : AtState w = at-state w (c .before .pre .net) in
     search needs
 
-no-stamp-requires : tie.Need-no-stamp-requires Inv-loop μ-loop
-no-stamp-requires c κs = search needs
+zero-requires : tie.Need-zero-requires Inv-loop μ-loop
+zero-requires c κs = search needs
 
 loop-holds : tie.Need-loop-holds Inv-loop μ-loop
 loop-holds c =
     let A = c .before .before .before .args in
-    (omega arith, best-none (networkIn (A .state .now)) (A .j) (stampOf (c .no-stamp .result)))
+    (omega arith, best-none (networkIn (A .state .now)) (A .j) (c .zero .result))
 
 better-requires : tie.Need-better-requires Inv-loop μ-loop
 better-requires c κs =
@@ -54,7 +53,7 @@ returns c =
     let start = turn .before .before .before .before in
     let best = turn .loop .best in
     let all : turn .loop .p ≡ sitesMost = omega arith in
-    subst (λ (k : ℕ). Best (networkIn (start .args .state .now)) (start .args .j) k (best .parent) (stampOf (best .stamp))) all (turn .loop .inv .1)
+    subst (λ (k : ℕ). Best (networkIn (start .args .state .now)) (start .args .j) k (best .parent) (best .stamp)) all (turn .loop .inv .1)
 
 pub chosen-spec : {M : Type 1} → statement M
 chosen-spec =
@@ -63,7 +62,7 @@ chosen-spec =
     Inv-loop
     μ-loop
     parents-requires
-    no-stamp-requires
+    zero-requires
     loop-holds
     better-requires
     add-p

@@ -1,6 +1,6 @@
 -- `earlier` asks which of the three the order is.
 use mathlib.Core.Path.{sym, ap, _∙_}
-use Rattle.timestamp.specs.Order.{isEarlier}
+use Rattle.timestamp_order.specs.Order.{isEarlier}
 use borrow.Author.Needs.{needs}
 use Rattle.network_choice.proofs.earlier.Statement.{statement}
 use Rattle.network_choice.proofs.earlier.Tie as tie

@@ -1,5 +1,4 @@
 -- `head_stamp` reads the line's oldest message: the record that it names has its timestamp, or it has one of its own.
-use Rattle.timestamp.specs.Timestamp.{stampOf}
 use Rattle.network_layout.specs.At.{AtLine, HasRecord}
 use Rattle.network_layout.proofs.OnNetwork.{at-record}
 use Rattle.network_choice.proofs.ChoiceLaws.{parent-line, head-recorded, stamp-commit, stamp-dummy}
@@ -38,7 +37,7 @@ returns c =
     let A = start .args in
     let k = read .before .line-number in
     let m = read .line-first in
-    stamp-commit (A .state .now) (A .j) (start .pre .free) (A .p) (start .pre .line) (k .result) (k .ensures) (m .result) (m .ensures) (c .before .before .if1 .taken) (stampOf (c .record-stamp .result)) (c .before .wide .result) (c .before .wide .ensures) (c .record-stamp .ensures)
+    stamp-commit (A .state .now) (A .j) (start .pre .free) (A .p) (start .pre .line) (k .result) (k .ensures) (m .result) (m .ensures) (c .before .before .if1 .taken) (c .record-stamp .result) (c .before .wide .result) (c .before .wide .ensures) (c .record-stamp .ensures)
 
 returns-2 : tie.Need-returns-2
 returns-2 c =

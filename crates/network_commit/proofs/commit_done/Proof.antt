@@ -6,7 +6,7 @@ use lib.ListN.{getD}
 use lib.Dec.{ltb}
 use borrow.Author.Tests.{lt-ltb}
 use Rattle.limits.specs.Limits.{sitesMost, recordsMost}
-use Rattle.timestamp.specs.Timestamp.{stampOf}
+use Rattle.timestamp.specs.Value.{stampOf}
 use Rattle.site.specs.Operations.{valuesRead}
 use Rattle.site.specs.InWords.{opsIn}
 use Rattle.placement.specs.Masks.{bit}
@@ -51,7 +51,7 @@ send-all-requires c κs =
       sized = done .kept .0 ∙ at start .sized;
       ranged = done .ensures .ranged;
       from = at start .few;
-      room = room-now (A .state .now) (A .site) (A .n) (A .mask) (opsIn (A .n) (A .ops .now)) (start .pre) (done .last .0) (stampOf (done .result .stamp)) (opsIn (A .n) (done .result .ops)) (done .ensures);
+      room = room-now (A .state .now) (A .site) (A .n) (A .mask) (opsIn (A .n) (A .ops .now)) (start .pre) (done .last .0) (done .result .stamp) (opsIn (A .n) (done .result .ops)) (done .ensures);
     }
 
 slice-aggregate-values-read : tie.Need-slice-aggregate-values-read
@@ -75,17 +75,16 @@ returns c =
     let t = stampOf (done .result .stamp) in
     let name = getD w 2 0 in
     let named : cond (ltb name recordsMost) (commitMessage name) (dummy t) ≡ commitMessage name
-    = ap (λ (b : Bool). cond b (commitMessage name) (dummy t)) (lt-ltb name recordsMost (omega (arith, records-count w, start .pre .allowed .room))) in (
-      record {
-        number-is = refl;
-        stamp-is = done .ensures .stamp-is;
-        values-are = c .before .values-read .ensures .0 ∙ ap valuesRead (done .ensures .ops-are);
-        network-is = network-now w (A .site) (A .n) (A .mask) os (start .pre) (done .last .0) t (opsIn (A .n) (done .result .ops)) (done .ensures) name (sym (records-count w)) (sent .send-all .last .0)
-            (subst (λ (m : Message). SentStep (done .last .0) (sent .send-all .last .0) (bit (A .mask)) (A .site) m sitesMost) named (sent .send-all .ensures));
-        ranged = sent .send-all .ensures .ranged;
-      },
-      c .before .values-read .ensures .1,
-    )
+    = ap (λ (b : Bool). cond b (commitMessage name) (dummy t)) (lt-ltb name recordsMost (omega (arith, records-count w, start .pre .allowed .room))) in
+    record {
+      number-is = refl;
+      stamp-is = done .ensures .stamp-is;
+      values-are = c .before .values-read .ensures .0 ∙ ap valuesRead (done .ensures .ops-are);
+      filled = c .before .values-read .ensures .1;
+      network-is = network-now w (A .site) (A .n) (A .mask) os (start .pre) (done .last .0) (done .result .stamp) (opsIn (A .n) (done .result .ops)) (done .ensures) name (sym (records-count w)) (sent .send-all .last .0)
+          (subst (λ (m : Message). SentStep (done .last .0) (sent .send-all .last .0) (bit (A .mask)) (A .site) m sitesMost) named (sent .send-all .ensures));
+      ranged = sent .send-all .ensures .ranged;
+    }
 
 pub commit-done-spec : {M : Type 1} → statement M
 commit-done-spec = tie.close (tie.spec slice-read-name work-requires send-all-requires slice-aggregate-values-read values-read-requires same-length returns)

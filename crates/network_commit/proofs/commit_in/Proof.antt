@@ -1,11 +1,6 @@
 -- `commit_in` tests the shape, and goes on where it is that of a network.
-use mathlib.Core.Path.{sym, ap, subst, _∙_}
-use Prim.Native.Nat.{ℕ}
-use lib.ListN.{take}
+use mathlib.Core.Path.{sym, _∙_}
 use borrow.Author.Tests.{not-true, not-false}
-use Rattle.timestamp.specs.Timestamp.{stampOf}
-use Rattle.protocol.specs.Calls.{commit}
-use Rattle.network_layout.specs.Promises.{Performed}
 use Rattle.network_commit.proofs.CommitLaws.{commit-unshaped}
 use borrow.Author.Needs.{needs}
 use Rattle.network_commit.proofs.commit_in.Statement.{statement}
@@ -24,14 +19,7 @@ returns : tie.Need-returns
 returns c =
     let tested = c .before .before in
     let A = tested .before .before .before .before .before .args in
-    let r = c .refused .result in
-    let t = stampOf (r .stamp) in
-    let xs = take (r .count) (r .values) in
-    let is = c .refused .ensures in (
-      subst (λ (k : ℕ). Performed (commit (A .site) (A .kinds .now) (A .items .now) (A .values .now)) (A .state .now) (A .state .now) k 0 t xs) (sym (is .0))
-          (commit-unshaped (A .state .now) (A .site) (A .kinds .now) (A .items .now) (A .values .now) t xs (is .1) (ap (λ (k : ℕ). take k (r .values)) (is .3)) (sym (tested .shaped .ensures) ∙ not-true (tested .shaped .result) (c .before .if1 .taken))),
-      (λ _. (is .2, is .3), is .4),
-    )
+    commit-unshaped (A .state .now) (A .site) (A .kinds .now) (A .items .now) (A .values .now) (c .refused .result) (c .refused .ensures) (sym (tested .shaped .ensures) ∙ not-true (tested .shaped .result) (c .before .if1 .taken))
 
 commit-on-requires : tie.Need-commit-on-requires
 commit-on-requires c κs =

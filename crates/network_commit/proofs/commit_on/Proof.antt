@@ -1,20 +1,16 @@
 -- `commit_on` asks for the site and the lists, and goes on with the operations in words.
-use mathlib.Core.Path.{_≡_, sym, ap, subst, _∙_}
+use mathlib.Core.Path.{_≡_, sym, subst, _∙_}
 use mathlib.Core.Bool.{false}
 use mathlib.Core.List.{List}
-use Prim.Native.Nat.{ℕ}
 use native.Mathlib.Omega.{arith}
-use lib.ListN.{length, take}
+use lib.ListN.{length}
 use borrow.Author.Tests.{leb-false, not-true, not-false}
-use Rattle.timestamp.specs.Timestamp.{stampOf}
 use Rattle.site.specs.Operations.{Op}
 use Rattle.lists.proofs.Numbers.{flip-false, flip-true}
-use Rattle.protocol.specs.Calls.{commit}
 use Rattle.protocol.specs.Steps.{noSuchSite, wrongLists}
 use Rattle.protocol.specs.Allowed.{ListsAllowed}
 use Rattle.protocol.proofs.Allowed.{lists-allowed}
 use Rattle.network_layout.specs.InWords.{networkIn}
-use Rattle.network_layout.specs.Promises.{Performed}
 use Rattle.network_commit.specs.Done.{CommitTried}
 use Rattle.network_commit.proofs.CommitLaws.{commit-nowhere, commit-lists, commit-refused, commit-tried}
 use borrow.Author.Needs.{needs}
@@ -48,15 +44,8 @@ returns c =
     let start = asked .before .before .before .before .before in
     let A = start .args in
     let n = networkIn (A .state .now) in
-    let r = c .refused .result in
-    let t = stampOf (r .stamp) in
-    let xs = take (r .count) (r .values) in
-    let is = c .refused .ensures in
-    let none = flip-false (asked .is-site .result) (noSuchSite n (A .site)) (asked .is-site .ensures) (not-true (asked .is-site .result) (c .before .if1 .taken)) in (
-      subst (λ (k : ℕ). Performed (commit (A .site) (A .kinds .now) (A .items .now) (A .values .now)) (A .state .now) (A .state .now) k 0 t xs) (sym (is .0))
-          (commit-refused (A .state .now) (A .site) (A .kinds .now) (A .items .now) (A .values .now) (start .pre) 7 t xs (sym (commit-nowhere n (A .site) (A .kinds .now) (A .items .now) (A .values .now) none)) (λ z. omega arith) (is .1) (ap (λ (k : ℕ). take k (r .values)) (is .3))),
-      (λ _. (is .2, is .3), is .4),
-    )
+    let none = flip-false (asked .is-site .result) (noSuchSite n (A .site)) (asked .is-site .ensures) (not-true (asked .is-site .result) (c .before .if1 .taken)) in
+    commit-refused (A .state .now) (A .site) (A .kinds .now) (A .items .now) (A .values .now) (start .pre) 7 (c .refused .result) (c .refused .ensures) (sym (commit-nowhere n (A .site) (A .kinds .now) (A .items .now) (A .values .now) none)) (λ z. omega arith)
 
 wrong-lists-requires : tie.Need-wrong-lists-requires
 wrong-lists-requires c κs = search needs
@@ -74,15 +63,8 @@ returns-2 c =
     let start = found .before .before .before .before .before .before in
     let A = start .args in
     let n = networkIn (A .state .now) in
-    let r = c .refused2 .result in
-    let t = stampOf (r .stamp) in
-    let xs = take (r .count) (r .values) in
-    let is = c .refused2 .ensures in
-    let wrong = sym (asked .wrong-lists .ensures) ∙ c .before .if2 .taken in (
-      subst (λ (k : ℕ). Performed (commit (A .site) (A .kinds .now) (A .items .now) (A .values .now)) (A .state .now) (A .state .now) k 0 t xs) (sym (is .0))
-          (commit-refused (A .state .now) (A .site) (A .kinds .now) (A .items .now) (A .values .now) (start .pre) 8 t xs (sym (commit-lists n (A .site) (A .kinds .now) (A .items .now) (A .values .now) (there found) wrong)) (λ z. omega arith) (is .1) (ap (λ (k : ℕ). take k (r .values)) (is .3))),
-      (λ _. (is .2, is .3), is .4),
-    )
+    let wrong = sym (asked .wrong-lists .ensures) ∙ c .before .if2 .taken in
+    commit-refused (A .state .now) (A .site) (A .kinds .now) (A .items .now) (A .values .now) (start .pre) 8 (c .refused2 .result) (c .refused2 .ensures) (sym (commit-lists n (A .site) (A .kinds .now) (A .items .now) (A .values .now) (there found) wrong)) (λ z. omega arith)
 
 op-words-requires : tie.Need-op-words-requires
 op-words-requires c κs = lists c
@@ -112,9 +94,8 @@ returns-3 c =
     let A = start .args in
     let r = tried .result in
     let w = A .state .now in
-    let same : CommitTried w (tried .last .0) (A .site) _ (r .number) (stampOf (r .stamp)) (take (r .count) (r .values))
-    = subst (λ (os : List Op). CommitTried w (tried .last .0) (A .site) os (r .number) (stampOf (r .stamp)) (take (r .count) (r .values))) (worded .op-words .ensures) (tried .ensures .0) in
-    (commit-tried w (A .site) (A .kinds .now) (A .items .now) (A .values .now) (start .pre) (there found) (right listed) (tried .last .0) (r .number) (stampOf (r .stamp)) (take (r .count) (r .values)) same, tried .ensures .1)
+    let same = subst (λ (os : List Op). CommitTried w (tried .last .0) (A .site) os r) (worded .op-words .ensures) (tried .ensures) in
+    commit-tried w (A .site) (A .kinds .now) (A .items .now) (A .values .now) (start .pre) (there found) (right listed) (tried .last .0) r same
 
 pub commit-on-spec : {M : Type 1} → statement M
 commit-on-spec =

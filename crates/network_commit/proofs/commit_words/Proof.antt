@@ -1,11 +1,12 @@
 -- `commit_words` refuses with the first cause from 9 on, or does the commit.
-use mathlib.Core.Path.{refl, sym, ap, _∙_}
+use mathlib.Core.Path.{refl, sym, subst, _∙_}
 use Prim.Native.Nat.{ℕ}
-use lib.ListN.{length, take}
+use lib.ListN.{length}
 use borrow.Author.Tests.{lt-leb}
 use Rattle.site.specs.InWords.{opsIn}
 use Rattle.network_layout.specs.InWords.{networkIn}
 use Rattle.protocol.proofs.Allowed.{causes-allowed}
+use Rattle.network_commit.specs.Done.{Refused}
 use borrow.Author.Needs.{needs}
 use Rattle.network_commit.proofs.commit_words.Statement.{statement}
 use Rattle.network_commit.proofs.commit_words.Tie as tie
@@ -26,16 +27,13 @@ returns : tie.Need-returns
 returns c =
     let cause = c .before .before .commit-cause in
     let some = c .before .if1 .taken in
-    let is = c .refused .ensures in (
-      record {
-        number-is = is .0 ∙ cause .ensures;
-        done = λ z. absurd (some (sym (is .0) ∙ z));
-        kept = λ _. refl;
-        no-stamp = λ _. is .1;
-        no-values = λ _. ap (λ (k : ℕ). take k (c .refused .result .values)) (is .3);
-      },
-      (λ _. (is .2, is .3), is .4),
-    )
+    let is = c .refused .ensures in
+    record {
+      number-is = is .number-is ∙ cause .ensures;
+      done = λ z. absurd (some (sym (is .number-is) ∙ z));
+      refused = λ _. subst (λ (k : ℕ). Refused k (c .refused .result)) (sym (is .number-is)) is;
+      kept = λ _. refl;
+    }
 
 commit-done-requires : tie.Need-commit-done-requires
 commit-done-requires c κs =
@@ -56,16 +54,13 @@ returns-2 : tie.Need-returns-2
 returns-2 c =
     let made = c .before .before .commit-done in
     let asked = c .before .before .before .before .before in
-    let none = made .ensures .0 .number-is in (
-      record {
-        number-is = none ∙ sym (sym (asked .commit-cause .ensures) ∙ c .before .before .before .before .if1 .left);
-        done = λ _. made .ensures .0;
-        kept = λ some. absurd (some none);
-        no-stamp = λ some. absurd (some none);
-        no-values = λ some. absurd (some none);
-      },
-      (λ some. absurd (some none), made .ensures .1),
-    )
+    let none = made .ensures .number-is in
+    record {
+      number-is = none ∙ sym (sym (asked .commit-cause .ensures) ∙ c .before .before .before .before .if1 .left);
+      done = λ _. made .ensures;
+      refused = λ some. absurd (some none);
+      kept = λ some. absurd (some none);
+    }
 
 pub commit-words-spec : {M : Type 1} → statement M
 commit-words-spec = tie.close (tie.spec due-mask-requires commit-cause-requires refused-requires same-length returns commit-done-requires same-length-2 returns-2)

@@ -5,7 +5,8 @@ use Prim.Native.Nat.{ℕ, min, _≤_, _<_}
 use native.Mathlib.Omega.{arith}
 use lib.ListN.{length, getD}
 use Rattle.limits.specs.Limits.{opsMost, recordsMost}
-use Rattle.timestamp.specs.Timestamp.{stampOf}
+use Rattle.timestamp.specs.Value.{stampOf, PlainValue}
+use Rattle.timestamp.proofs.Plain.{plain-as}
 use Rattle.site.specs.Operations.{worked}
 use Rattle.site.specs.Site.{committed}
 use Rattle.site.specs.InWords.{opsIn}
@@ -34,7 +35,7 @@ recorded : (c : tie.After-site-commit) → opsIn (c .before .before .before .bef
 recorded c =
     let start = c .before .before .before .before .before in
     let A = start .args in
-    subst₂ (λ (k m : ℕ). opsIn m (c .site-commit .result) ≡ worked (siteAt (networkIn (A .state .now)) k .table) (opsIn m (A .ops .now)) .ops) (c .before .before .wide .ensures) (all (A .n) (start .pre .few-ops)) (c .site-commit .ensures .1)
+    subst₂ (λ (k m : ℕ). opsIn m (c .site-commit .result) ≡ worked (siteAt (networkIn (A .state .now)) k .table) (opsIn m (A .ops .now)) .ops) (c .before .before .wide .ensures) (all (A .n) (start .pre .few-ops)) (c .site-commit .ensures .1 .ops-are)
 
 there : (c : tie.Start) → c .args .site < length (networkIn (c .args .state .now) .sites)
 there c = omega (arith, c .pre .there, sites-count (c .args .state .now))
@@ -49,13 +50,13 @@ room c =
     omega (arith, records-count v, records-count (A .state .now), same, start .pre .room)
 
 -- the timestamp that is read is the commit's
-stamped : (c : tie.After-site-stamp) → stampOf (c .site-stamp .result) ≡ recordOf (networkIn (c .before .before .before .before .before .before .before .before .before .args .state .now)) (c .before .before .before .before .before .before .before .before .before .args .site) (opsIn (c .before .before .before .before .before .before .before .before .before .args .n) (c .before .before .before .before .before .before .before .before .before .args .ops .now)) .stamp
+stamped : (c : tie.After-site-stamp) → PlainValue (recordOf (networkIn (c .before .before .before .before .before .before .before .before .before .args .state .now)) (c .before .before .before .before .before .before .before .before .before .args .site) (opsIn (c .before .before .before .before .before .before .before .before .before .args .n) (c .before .before .before .before .before .before .before .before .before .args .ops .now)) .stamp) (c .site-stamp .result)
 stamped c =
     let done = c .before .before .before .before in
     let start = done .before .before .before .before .before in
     let A = start .args in
     let v = done .site-commit .last .0 in
-    c .site-stamp .ensures ∙ ap (λ (k : ℕ). siteAt (networkIn v) k .stamp) (done .before .before .wide .ensures) ∙ stamp-now (A .state .now) (A .site) (opsIn (A .n) (A .ops .now)) (there start) v (stepped done)
+    plain-as (ap (λ (k : ℕ). siteAt (networkIn v) k .stamp) (done .before .before .wide .ensures) ∙ stamp-now (A .state .now) (A .site) (opsIn (A .n) (A .ops .now)) (there start) v (stepped done)) (c .site-stamp .ensures)
 
 wide-requires : tie.Need-wide-requires
 wide-requires c κs = search needs
@@ -110,7 +111,7 @@ returns c =
     let count : min (added .before .before .short .result) opsMost ≡ A .n = omega (arith, added .before .before .short .ensures, start .pre .few-ops) in
     let ops = ap (λ (m : ℕ). opsIn m (done .site-commit .result)) count ∙ recorded done in
     let added-record : Record = record { site = A .site; stamp = stampOf (read .site-stamp .result); ops = opsIn (min (added .before .before .short .result) opsMost) (done .site-commit .result) } in
-    let same : added-record ≡ recordOf n (A .site) os = λ j. record { site = A .site; stamp = stamped read j; ops = ops j } in
+    let same : added-record ≡ recordOf n (A .site) os = λ j. record { site = A .site; stamp = stamped read .means j; ops = ops j } in
     let middle : Network = withSite n (A .site) (committed os (siteAt n (A .site))) in
     record {
       network-is = added .add-record .ensures .meant ∙ ap (λ (m : Network). withRecord m added-record) (stepped done .meant) ∙ ap (withRecord middle) same;

@@ -1,7 +1,5 @@
 -- `dummy_done` raises the site's count and sends the dummy to the children.
-use mathlib.Core.Path.{_∙_}
-use mathlib.Core.Path.{refl}
-use Rattle.timestamp.specs.Timestamp.{stampOf}
+use mathlib.Core.Path.{refl, _∙_}
 use Rattle.network_layout.specs.At.{AtState}
 use Rattle.network_layout.proofs.OnNetwork.{at-state, at-site}
 use Rattle.network_dummy.proofs.DummyLaws.{room-after, done-by}
@@ -31,7 +29,7 @@ send-all-requires c κs =
       sized = raised .raise .kept .0 ∙ at .sized;
       ranged = raised .raise .ensures .step .ranged;
       from = at .few;
-      room = room-after (A .state .now) (A .site) (start .pre) (asked .children .result) (asked .children .ensures) (raised .raise .last .0) (stampOf (raised .raise .result)) (raised .raise .ensures);
+      room = room-after (A .state .now) (A .site) (start .pre) (asked .children .result) (asked .children .ensures) (raised .raise .last .0) (raised .raise .result) (raised .raise .ensures);
     }
 
 same-length : tie.Need-same-length
@@ -44,7 +42,7 @@ returns c =
     let asked = raised .before .before in
     let start = asked .before .before .before in
     let A = start .args in
-    done-by (A .state .now) (A .site) (start .pre) (asked .children .result) (asked .children .ensures) (raised .raise .last .0) (stampOf (raised .raise .result)) (raised .raise .ensures) (sent .send-all .last .0) (sent .send-all .ensures)
+    done-by (A .state .now) (A .site) (start .pre) (asked .children .result) (asked .children .ensures) (raised .raise .last .0) (raised .raise .result) (raised .raise .ensures) (sent .send-all .last .0) (sent .send-all .ensures)
 
 pub dummy-done-spec : {M : Type 1} → statement M
 dummy-done-spec = tie.close (tie.spec children-requires raise-requires send-all-requires same-length returns)

@@ -1,11 +1,6 @@
 -- `dummy_in` tests the shape, and goes on where it is that of a network.
-use mathlib.Core.Path.{sym, subst, _∙_}
-use mathlib.Core.List.{[]}
-use Prim.Native.Nat.{ℕ}
+use mathlib.Core.Path.{sym, _∙_}
 use borrow.Author.Tests.{not-true, not-false}
-use Rattle.timestamp.specs.Timestamp.{stampOf}
-use Rattle.protocol.specs.Calls.{dummy}
-use Rattle.network_layout.specs.Promises.{Performed}
 use Rattle.network_dummy.proofs.DummyLaws.{dummy-unshaped}
 use borrow.Author.Needs.{needs}
 use Rattle.network_dummy.proofs.dummy_in.Statement.{statement}
@@ -24,12 +19,7 @@ returns : tie.Need-returns
 returns c =
     let tested = c .before .before in
     let A = tested .before .before .before .args in
-    let t = stampOf (c .refused .result .stamp) in
-    let is = c .refused .ensures in (
-      subst (λ (r : ℕ). Performed (dummy (A .site)) (A .state .now) (A .state .now) r 0 t []) (sym (is .0))
-          (dummy-unshaped (A .state .now) (A .site) t (is .1) (sym (tested .shaped .ensures) ∙ not-true (tested .shaped .result) (c .before .if1 .taken))),
-      λ _. is .2,
-    )
+    dummy-unshaped (A .state .now) (A .site) (c .refused .result) (c .refused .ensures) (sym (tested .shaped .ensures) ∙ not-true (tested .shaped .result) (c .before .if1 .taken))
 
 dummy-on-requires : tie.Need-dummy-on-requires
 dummy-on-requires c κs =

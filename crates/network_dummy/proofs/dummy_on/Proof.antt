@@ -1,12 +1,7 @@
 -- `dummy_on` refuses with its number, or does the dummy.
-use mathlib.Core.Path.{refl, sym, subst, _∙_}
-use Prim.Native.Nat.{ℕ}
-use mathlib.Core.List.{[]}
-use Rattle.timestamp.specs.Timestamp.{stampOf}
-use Rattle.protocol.specs.Calls.{dummy}
+use mathlib.Core.Path.{sym, _∙_}
 use Rattle.protocol.proofs.Allowed.{dummy-allowed}
 use Rattle.network_layout.specs.InWords.{networkIn}
-use Rattle.network_layout.specs.Promises.{Performed}
 use Rattle.network_dummy.proofs.DummyLaws.{dummy-refused, dummy-performed}
 use borrow.Author.Needs.{needs}
 use Rattle.network_dummy.proofs.dummy_on.Statement.{statement}
@@ -26,12 +21,7 @@ returns c =
     let asked = c .before .before in
     let start = asked .before .before .before in
     let A = start .args in
-    let t = stampOf (c .refused .result .stamp) in
-    let is = c .refused .ensures in (
-      subst (λ (r : ℕ). Performed (dummy (A .site)) (A .state .now) (A .state .now) r 0 t []) (sym (is .0))
-          (dummy-refused (A .state .now) (A .site) (start .pre) (asked .dummy-number .result) t (asked .dummy-number .ensures) (c .before .if1 .taken) (is .1)),
-      λ _. is .2,
-    )
+    dummy-refused (A .state .now) (A .site) (start .pre) (asked .dummy-number .result) (c .refused .result) (c .refused .ensures) (asked .dummy-number .ensures) (c .before .if1 .taken)
 
 dummy-done-requires : tie.Need-dummy-done-requires
 dummy-done-requires c κs =
@@ -49,7 +39,7 @@ returns-2 c =
     let asked = done .before .before .before in
     let start = asked .before .before .before in
     let A = start .args in
-    (dummy-performed (A .state .now) (A .site) (start .pre) (sym (asked .dummy-number .ensures) ∙ done .before .before .if1 .left) (done .dummy-done .last .0) (stampOf (done .dummy-done .result)) (done .dummy-done .ensures), λ z. absurd (z refl))
+    dummy-performed (A .state .now) (A .site) (start .pre) (sym (asked .dummy-number .ensures) ∙ done .before .before .if1 .left) (done .dummy-done .last .0) (done .dummy-done .result) (done .dummy-done .ensures)
 
 pub dummy-on-spec : {M : Type 1} → statement M
 dummy-on-spec = tie.close (tie.spec dummy-number-requires refused-requires same-length returns dummy-done-requires same-length-2 returns-2)

@@ -2,6 +2,7 @@
 use mathlib.Core.Path.{ap, subst, _∙_}
 use Prim.Native.Nat.{ℕ}
 use native.Mathlib.Omega.{arith}
+use Rattle.timestamp.proofs.Plain.{plain-as}
 use Rattle.site.specs.Site.{dummied}
 use Rattle.protocol.specs.Network.{siteAt}
 use Rattle.network_layout.specs.InWords.{networkIn, SiteStep}
@@ -46,7 +47,7 @@ returns : tie.Need-returns
 returns c =
     let done = c .before .before .before .before in
     let v = done .site-dummy .last .0 in
-    record { step = stepped done; stamp-is = c .site-stamp .ensures ∙ ap (λ (k : ℕ). siteAt (networkIn v) k .stamp) (done .before .before .wide .ensures) }
+    record { step = stepped done; stamp-is = plain-as (ap (λ (k : ℕ). siteAt (networkIn v) k .stamp) (done .before .before .wide .ensures)) (c .site-stamp .ensures) }
 
 pub raise-spec : {M : Type 1} → statement M
 raise-spec = tie.close (tie.spec wide-requires site-dummy-requires site-stamp-requires same-length returns)

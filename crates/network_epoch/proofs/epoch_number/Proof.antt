@@ -5,7 +5,7 @@ use Prim.Native.Nat.{ℕ}
 use native.Mathlib.Omega.{arith}
 use borrow.Author.Tests.{leb-false, not-true, not-false}
 use lib.ListN.{length}
-use Rattle.timestamp.specs.Timestamp.{Stamp}
+use Rattle.timestamp_order.specs.Timestamp.{Stamp}
 use Rattle.lists.proofs.Numbers.{flip-true, flip-false}
 use Rattle.protocol.specs.Network.{siteAt}
 use Rattle.protocol.specs.Steps.{noSuchSite}
@@ -27,7 +27,7 @@ there c =
 present : (c : tie.After-site-stamp) → c .site-stamp .result .epoch .0 ≡ siteAt (networkIn (c .before .before .before .before .before .before .before .args .state .now)) (c .before .before .before .before .before .before .before .args .site) .stamp .epoch
 present c =
     let w = c .before .before .before .before .before .before .before .args .state .now in
-    ap (λ (t : Stamp). t .epoch) (c .site-stamp .ensures) ∙ ap (λ (j : ℕ). siteAt (networkIn w) j .stamp .epoch) (c .before .wide .ensures)
+    ap (λ (t : Stamp). t .epoch) (c .site-stamp .ensures .means) ∙ ap (λ (j : ℕ). siteAt (networkIn w) j .stamp .epoch) (c .before .wide .ensures)
 
 is-site-requires : tie.Need-is-site-requires
 is-site-requires c κs = search needs

@@ -43,7 +43,7 @@ commit-requires c κs = search needs
 returns : tie.Need-returns
 returns c =
     let A = c .before .before .before .before .before .before .before .before .args in
-    (λ os e. performs-all (A .site) os (A .gathered) e _ _ _ _ _ (c .commit .ensures .0), c .commit .ensures .1)
+    λ os e. performs-all (A .site) os (A .gathered) e _ _ (c .commit .result) (c .commit .ensures)
 
 pub commit-gathered-spec : {M : Type 1} → statement M
 commit-gathered-spec =

@@ -38,15 +38,12 @@ use denote.Triple.Spec.{Meets, tripleOf}
 use denote.Triple.Table.{entered, cited}
 use denote.Triple.Walked.{says, Stays, gave-ref, stay-none, stay-none-slice, walkOf, goes-gave-ref, goes-none, goes-none-slice, Walks, ends-at, walked, walk-meets}
 use denote.Exit.{yes}
-use Rattle.timestamp.specs.Timestamp.{stampOf}
 use Rattle.network_layout.specs.declared.Operation.{Operation}
 use Rattle.network_layout.specs.declared.Committed.{Committed}
 use Rattle.network_operations.specs.declared.Gathered.{Gathered}
 use Rattle.network_layout.specs.Layout.{stateSize}
 use Rattle.network_operations.specs.Gathered.{Gathers, gatheredMost, operationsCall}
-use lib.IntN.{pos}
-use Rattle.limits.specs.Limits.{opsMost}
-use Rattle.network_layout.specs.Promises.{Performed, Blank, Filled}
+use Rattle.network_layout.specs.Promises.{CommitAnswered}
 use Rattle.network_operations.proofs.GatherLaws.{gathered-few}
 use Rattle.network_layout.proofs.Operation as T
 use Rattle.network_layout.proofs.Committed as R
@@ -76,14 +73,6 @@ words-slot = ArrayOf (plain (λ _. u32)) (λ _. tt) stateSize
 
 abbrev stayed : Stays (entry.ended .signature .params) (entry.ended .kept)
 stayed = (gave-ref (0 ∷ []) tt words-slot, (stay-none (λ _. u32) yes, (stay-none-slice (1 ∷ []) tt (plain (λ _. T.the-row)) yes, tt)))
-
--- several clauses of an `ensures`
-module _ {M : Type 1} (𝓤 : URA M) where
-  both : {P Q : SProp 𝓤} → ent 𝓤 (emp 𝓤) P → ent 𝓤 (emp 𝓤) Q → ent 𝓤 (emp 𝓤) (sep 𝓤 P Q)
-  both {P} p q = via 𝓤 (sep 𝓤 (emp 𝓤) (emp 𝓤)) (emp∗ 𝓤 (emp 𝓤)) (via 𝓤 (sep 𝓤 P (emp 𝓤)) (monoL 𝓤 (emp 𝓤) p) (monoR 𝓤 P q))
-
-says-all : {M : Type 1} {𝓤 : URA M} {H : Heap 𝓤} {A : Atoms 𝓤} {K : Type 0} {W : Given 𝓤 H A} {Γ : List (Item 𝓤)} → K → {P Q : SProp 𝓤} → ent 𝓤 (emp 𝓤) Q → Step K W Γ (prop P) Γ (prop (sep 𝓤 P Q))
-says-all {𝓤 = 𝓤} t {P} {Q} x = step (λ s. record { prf = via 𝓤 P (s .prf) (via 𝓤 (sep 𝓤 (emp 𝓤) P) (emp∗ 𝓤 P) (via 𝓤 (sep 𝓤 Q P) (monoL 𝓤 P x) (comm∗ 𝓤 Q P))) })
 
 module _ {M : Type 1} (𝓤 : URA M) (H : Heap 𝓤) (A : Atoms 𝓤) (mem : Memory → SProp 𝓤) (run : Routine → Fun 𝓤) where
   -- the contracts that the proof cites
@@ -116,19 +105,15 @@ module _ {M : Type 1} (𝓤 : URA M) (H : Heap 𝓤) (A : Atoms 𝓤) (W : Given
   abbrev State : Fml
   State = MutRef (named 0) κ₁ Words .own x (vptr b o ∷ [])
 
-  -- what a refused commit answers, and what an answer has past its values
-  abbrev Zero : Committed → Type 0
-  Zero r = (r .number ≡ 0 → ⊥) → Blank (r .stamp) × (r .count ≡ 0)
-
   abbrev Done : List Operation → List ℕ → Committed → Type 0
-  Done os zs r = Performed (operationsCall site os) ws zs (r .number) 0 (stampOf (r .stamp)) (take (r .count) (r .values))
+  Done os zs r = CommitAnswered (operationsCall site os) ws zs r
 
-  exits : (r : Committed) (w : Val) (zs : List ℕ) → Done (s .now) zs r → Zero r → Filled (pos 0) opsMost (r .count) (r .values)
+  exits : (r : Committed) (w : Val) (zs : List ℕ) → Done (s .now) zs r
       → ent 𝓤 (⋆ 𝓤 H A ((‵ (flft κ₁ q₁) ⊛ ‵ ftrue) ∷ (‵ (flft κ₂ q₂) ⊛ ‵ ftrue) ∷ ‵ (fres γ (Words .coded .code zs)) ∷ ‵ Own ∷ ‵ (R.the-row .own r (w ∷ [])) ∷ [])) (Post w)
-  exits r w zs d z p =
+  exits r w zs d =
       qed W ((‵ (flft κ₁ q₁) ⊛ ‵ ftrue) ∷ (‵ (flft κ₂ q₂) ⊛ ‵ ftrue) ∷ ‵ (fres γ (Words .coded .code zs)) ∷ ‵ Own ∷ ‵ (R.the-row .own r (w ∷ [])) ∷ []) ∵
       suffices ! _ (ends-at 𝓤 H A entry.ended stayed (entry.clauses 𝓤 H A mem run) W bound w r (zs, (tt, (tt, tt))) (tt, (tt, (tt, tt)))) $
-      says-all ! (both 𝓤 (factI 𝓤 _ (emp 𝓤) d) (both 𝓤 (factI 𝓤 _ (emp 𝓤) z) (factI 𝓤 _ (emp 𝓤) p))) $
+      says ! d $
       split ! $ move ! (0 ∷ 2 ∷ []) $ join ! $ frame ! $
       -- [true; the state's last words; what the slice owns; the answer]
       move ! (2 ∷ 0 ∷ []) $ fjoin ! $ owned ! u32 (Is u32) (uint-makes 𝓤 H A W w32) site _ (refl, fits) $ fjoin ! $ move ! (1 ∷ 0 ∷ []) $ fjoin ! $ done !
@@ -202,14 +187,14 @@ module _ {M : Type 1} (𝓤 : URA M) (H : Heap 𝓤) (A : Atoms 𝓤) (W : Given
         calls-at ! (fmOf 𝓤 H (W .laws) 𝓣) (Commits 𝓤 H A mem run) known-commits (to-commits g u) (and-then ! (load ! (from ! (stop !)) (look ! 4 refl)) (and-then ! (load ! (from ! (stop !)) (look ! 10 refl)) (and-then ! (load ! (from ! (stop !)) (look ! 6 refl)) (no-more !)))) (λ w.
         use1 W (later (some (λ (r : Committed). ((‵ (flft κ₁ q₁) ⊛ ‵ ftrue) ⊛ ‵ (R.the-row .own r (w ∷ []))) ⊛ raw (ensured 𝓤 H A commits.ended (commits.clauses 𝓤 H A mem run) (κ₁, tt) (x, (site, (g, tt))) tt r)))) (id⊢ 𝓤 _) $ await ! tt $ pick ! (λ r.
         -- what `commit_gathered` ensures, at some last words
-        split ! $ move ! (1 ∷ []) $ use1 W (some (λ (zs : List ℕ × (Unit {0} × (Unit {0} × Unit {0}))). ‵ (lasts commits.ended (κ₁, tt) (x, (site, (g, tt))) zs) ⊛ (raw (fact 𝓤 (All g (zs .0) r)) ⊛ (raw (fact 𝓤 (Zero r)) ⊛ raw (fact 𝓤 (Filled (pos 0) opsMost (r .count) (r .values))))))) (id⊢ 𝓤 _) $ pick ! (λ zs.
-        split ! $ move ! (1 ∷ []) $ split ! $ heard ! (All g (zs .0) r) (λ d. split ! $ heard ! (Zero r) (λ z. heard ! (Filled (pos 0) opsMost (r .count) (r .values)) (λ p.
+        split ! $ move ! (1 ∷ []) $ use1 W (some (λ (zs : List ℕ × (Unit {0} × (Unit {0} × Unit {0}))). ‵ (lasts commits.ended (κ₁, tt) (x, (site, (g, tt))) zs) ⊛ raw (fact 𝓤 (All g (zs .0) r)))) (id⊢ 𝓤 _) $ pick ! (λ zs.
+        split ! $ move ! (1 ∷ []) $ heard ! (All g (zs .0) r) (λ d.
         -- [the last words; the token and the answer; the second token; what the slice owns; true; _5; …]
         fsplit ! $ move ! (2 ∷ []) $ split ! $ move ! (1 ∷ []) $ peeks ! R.the-row (Is R.the-row) (shows 𝓤 H A R.the-row) r (w ∷ []) (λ is′.
         land ! (from ! (stop !)) (init ! 17 refl (LL.lawful R.the-type R′.the-laws 𝓤 H A W .typed r _ is′ .0)) $
         returns ! (look ! 17 refl) $ forget ! 7 refl $ forget ! 9 refl $ forget ! 11 refl $ forget ! 13 refl $ forget ! 15 refl $ forget ! 17 refl $
         move ! (17 ∷ 18 ∷ []) $ free1 ! $ move ! (15 ∷ 16 ∷ []) $ free1 ! $ move ! (13 ∷ 14 ∷ []) $ free1 ! $ move ! (11 ∷ 12 ∷ []) $ free1 ! $ move ! (9 ∷ 10 ∷ []) $ free1 ! $ move ! (7 ∷ 8 ∷ []) $ free1 ! $ free0 ! $
-        keep ! (1 ∷ 4 ∷ 2 ∷ 5 ∷ 0 ∷ []) $ by ! (exits r w (zs .0) (d (s .now) e) z p))))))))))))
+        keep ! (1 ∷ 4 ∷ 2 ∷ 5 ∷ 0 ∷ []) $ by ! (exits r w (zs .0) (d (s .now) e)))))))))))
 
   walk : (𝓣 : Tables 𝓤 H) → Triple 𝓤 (𝓣 .C #gather) (Gather 𝓤 H A mem run) → Triple 𝓤 (𝓣 .C #commits) (Commits 𝓤 H A mem run) → Is (ShrSlice (named 1) κ₂ T.the-row) s (v ∷ [])
       → ent 𝓤 (onEntry 𝓤 H A entry.signature (κ₁, (κ₂, tt)) (q₁, (q₂, tt)) (x, (site, (s, tt))) at) (WpFn 𝓤 H (𝓣 .C) (𝓣 .Λ) code.function (vptr b o ∷ vint w32 site ∷ v ∷ []) Post)

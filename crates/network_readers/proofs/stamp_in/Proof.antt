@@ -12,8 +12,8 @@ use Rattle.network_readers.proofs.stamp_in.Tie as tie
 site-number-requires : tie.Need-site-number-requires
 site-number-requires c κs = search needs
 
-no-stamp-requires : tie.Need-no-stamp-requires
-no-stamp-requires c κs = search needs
+zero-requires : tie.Need-zero-requires
+zero-requires c κs = search needs
 
 returns : tie.Need-returns
 unfolding questionNumber
@@ -22,8 +22,8 @@ returns c =
     let n = c .before .before .site-number in
     record {
       performed = asked (stamp (A .site)) (A .state .now) (n .result) (n .ensures);
-      stamp-is = c .no-stamp .ensures .0 ∙ unanswered (stamp (A .site)) (A .state .now) _ _ (λ z. c .before .if1 .taken (n .ensures ∙ z));
-      blank = λ _. c .no-stamp .ensures .1;
+      stamp-is = c .zero .ensures .means ∙ unanswered (stamp (A .site)) (A .state .now) _ _ (λ z. c .before .if1 .taken (n .ensures ∙ z));
+      plain = c .zero .ensures .plain;
     }
 
 wide-requires : tie.Need-wide-requires
@@ -44,8 +44,8 @@ returns-2 c =
     let none = sym (n .ensures) ∙ c .before .before .if1 .left in
     record {
       performed = asked (stamp (A .site)) w 0 (sym none);
-      stamp-is = c .site-stamp .ensures ∙ ap (λ (i : ℕ). siteAt (networkIn w) i .stamp) (c .before .wide .ensures) ∙ answered (stamp (A .site)) w _ (λ m. siteAt m (A .site) .stamp) none;
-      blank = λ h. absurd (h refl);
+      stamp-is = c .site-stamp .ensures .means ∙ ap (λ (i : ℕ). siteAt (networkIn w) i .stamp) (c .before .wide .ensures) ∙ answered (stamp (A .site)) w _ (λ m. siteAt m (A .site) .stamp) none;
+      plain = c .site-stamp .ensures .plain;
     }
 
 pub stamp-in-spec : {M : Type 1} → statement M
@@ -53,7 +53,7 @@ stamp-in-spec =
     tie.close
     (tie.spec
     site-number-requires
-    no-stamp-requires
+    zero-requires
     returns
     wide-requires
     site-stamp-requires

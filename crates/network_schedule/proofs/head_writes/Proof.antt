@@ -1,6 +1,6 @@
 -- `head_writes` reads the line's oldest message: the record that it names has its writes, or it has none.
 use native.Mathlib.Omega.{arith}
-use Rattle.timestamp.specs.Timestamp.{stampOf}
+use Rattle.timestamp.specs.Value.{stampOf}
 use Rattle.protocol.specs.Steps.{head}
 use Rattle.network_layout.specs.InWords.{networkIn}
 use Rattle.network_layout.specs.At.{AtLine}

@@ -1,5 +1,5 @@
 -- `receive` hands the writes that the site wants to it.
-use Rattle.timestamp.specs.Timestamp.{stampOf}
+use Rattle.timestamp.specs.Value.{stampOf}
 use Rattle.protocol.specs.Steps.{head, writesFor}
 use Rattle.network_layout.specs.InWords.{networkIn}
 use Rattle.network_layout.specs.At.{AtSite}

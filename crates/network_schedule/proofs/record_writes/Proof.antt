@@ -37,7 +37,7 @@ returns c =
     let counted = read .before in
     let A = counted .before .before .args in
     let n = networkIn (A .state .now) in
-    laid-record (wantedAt (n .items) (A .j)) (getD (n .history) (A .k) noRecord .ops) (counted .operation-count .result) (read .record-ops .result) (counted .operation-count .ensures) (read .record-ops .ensures) (c .wanted .result .count) (c .wanted .result .ops) (c .wanted .ensures)
+    laid-record (wantedAt (n .items) (A .j)) (getD (n .history) (A .k) noRecord .ops) (counted .operation-count .result) (read .record-ops .result) (counted .operation-count .ensures) (read .record-ops .ensures .ops-are) (c .wanted .result .count) (c .wanted .result .ops) (c .wanted .ensures)
 
 pub record-writes-spec : {M : Type 1} → statement M
 record-writes-spec =

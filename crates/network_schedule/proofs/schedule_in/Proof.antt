@@ -18,10 +18,8 @@ same-length c = search needs
 returns : tie.Need-returns
 returns c =
     let asked = c .before .before in
-    let A = asked .before .before .before .args in (
-      answered (A .state .now) (A .site) 6 (c .refused .result) (c .refused .ensures) (schedule-unshaped (A .state .now) (A .site) (sym (asked .shaped .ensures) ∙ not-true (asked .shaped .result) (c .before .if1 .taken))),
-      λ _. c .refused .ensures .blank,
-    )
+    let A = asked .before .before .before .args in
+    answered (A .state .now) (A .site) 6 (c .refused .result) (c .refused .ensures) (schedule-unshaped (A .state .now) (A .site) (sym (asked .shaped .ensures) ∙ not-true (asked .shaped .result) (c .before .if1 .taken)))
 
 schedule-on-requires : tie.Need-schedule-on-requires
 schedule-on-requires c κs =

@@ -19,10 +19,8 @@ returns c =
     let start = asked .before .before .before in
     let A = start .args in
     let r = c .refused .result in
-    let number = asked .schedule-number .result in (
-      answered (A .state .now) (A .site) number r (c .refused .ensures) (schedule-refused (A .state .now) (start .pre) (A .site) number (asked .schedule-number .ensures) (c .before .if1 .taken)),
-      λ _. c .refused .ensures .blank,
-    )
+    let number = asked .schedule-number .result in
+    answered (A .state .now) (A .site) number r (c .refused .ensures) (schedule-refused (A .state .now) (start .pre) (A .site) number (asked .schedule-number .ensures) (c .before .if1 .taken))
 
 take-chosen-requires : tie.Need-take-chosen-requires
 take-chosen-requires c κs = search needs
@@ -31,9 +29,7 @@ same-length-2 : tie.Need-same-length-2
 same-length-2 c = search needs
 
 returns-2 : tie.Need-returns-2
-returns-2 c =
-    let done = c .before .before .take-chosen .ensures in
-    (done .performed, λ z. absurd (z (done .number-is)))
+returns-2 c = search needs
 
 pub schedule-on-spec : {M : Type 1} → statement M
 schedule-on-spec =

@@ -1,6 +1,5 @@
 -- `take_chosen` does the chosen parent's oldest message at the site and takes it off its line.
-use mathlib.Core.Path.{refl, _∙_}
-use Rattle.timestamp.specs.Timestamp.{stampOf}
+use mathlib.Core.Path.{_∙_}
 use Rattle.network_layout.specs.At.{AtLine}
 use Rattle.network_choice.proofs.ChoiceLaws.{best-line, parent-line}
 use Rattle.network_schedule.proofs.ScheduleLaws.{schedule-done}
@@ -17,7 +16,7 @@ receive-requires c κs =
     let start = asked .before .before .before in
     let A = start .args in
     let best = asked .chosen .result in
-    record { free = start .pre; line = best-line (A .state .now) (A .j) (start .pre) (best .parent) (stampOf (best .stamp)) (asked .chosen .ensures) }
+    record { free = start .pre; line = best-line (A .state .now) (A .j) (start .pre) (best .parent) (best .stamp) (asked .chosen .ensures) }
 
 line-number-requires : tie.Need-line-number-requires
 line-number-requires c κs = search needs
@@ -29,7 +28,7 @@ line-take-requires c κs =
     let start = asked .before .before .before in
     let A = start .args in
     let best = asked .chosen .result in
-    let line = best-line (A .state .now) (A .j) (start .pre) (best .parent) (stampOf (best .stamp)) (asked .chosen .ensures) in
+    let line = best-line (A .state .now) (A .j) (start .pre) (best .parent) (best .stamp) (asked .chosen .ensures) in
     let at : AtLine (done .receive .last .0) (c .line-number .result)
     = record {
       sized = done .receive .kept .0 ∙ start .pre .net .sized;
@@ -50,10 +49,7 @@ returns c =
     let start = asked .before .before .before in
     let A = start .args in
     let best = asked .chosen .result in
-    record {
-      performed = schedule-done (A .state .now) (A .j) (start .pre) (done .receive .last .0) (taken .line-take .last .0) (best .parent) (stampOf (best .stamp)) (named .line-number .result) (named .line-number .ensures) (asked .chosen .ensures) (done .receive .ensures) (taken .line-take .ensures);
-      number-is = refl;
-    }
+    schedule-done (A .state .now) (A .j) (start .pre) (done .receive .last .0) (taken .line-take .last .0) (best .parent) (best .stamp) (named .line-number .result) (named .line-number .ensures) (asked .chosen .ensures) (done .receive .ensures) (taken .line-take .ensures)
 
 pub take-chosen-spec : {M : Type 1} → statement M
 take-chosen-spec =

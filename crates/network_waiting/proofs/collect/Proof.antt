@@ -1,21 +1,21 @@
 -- `collect` asks one item after another: those below k that are waiting have been put down, in order.
-use mathlib.Core.Path.{_≡_, refl, _∙_}
+use mathlib.Core.Path.{_≡_, refl}
 use Prim.Native.Nat.{_≤_, _-_}
 use native.Mathlib.Omega.{arith}
-use lib.ListN.{length, take}
+use lib.ListN.{take}
 use borrow.Author.Needs.{needs}
 use Rattle.limits.specs.Limits.{itemsMost}
+use Rattle.lists.specs.Lists.{Filled}
+use Rattle.lists.proofs.Filled.{filled-more}
 use Rattle.protocol.specs.Waiting.{isWaiting}
 use Rattle.network_layout.specs.Layout.{itemCount}
 use Rattle.network_layout.specs.InWords.{networkIn}
-use Rattle.network_layout.specs.Promises.{Filled}
-use Rattle.network_layout.proofs.Places.{filled-more}
 use Rattle.network_waiting.proofs.WaitingLaws.{passing, each-once, collected-next, few-placed}
 use Rattle.network_waiting.proofs.collect.Statement.{statement}
 use Rattle.network_waiting.proofs.collect.Tie as tie
 
 abbrev Inv-loop : tie.InvT-loop
-Inv-loop state site items₀ placed count₀ k₀ items count k = (k ≤ placed) × (count ≤ k) × (length items ≡ itemsMost) × (take count items ≡ passing (isWaiting (networkIn state) site) k) × Filled 0 itemsMost count items
+Inv-loop state site items₀ placed count₀ k₀ items count k = (k ≤ placed) × (count ≤ k) × (take count items ≡ passing (isWaiting (networkIn state) site) k) × Filled 0 itemsMost count items
 
 abbrev μ-loop : tie.MeasureT-loop
 μ-loop state site items₀ placed count₀ k₀ items count k = placed - k
@@ -24,7 +24,7 @@ item-count-requires : tie.Need-item-count-requires Inv-loop μ-loop
 item-count-requires c κs = search needs
 
 loop-holds : tie.Need-loop-holds Inv-loop μ-loop
-loop-holds c = (omega arith, omega arith, refl, refl, record { fits = omega arith; rest-is = refl })
+loop-holds c = (omega arith, omega arith, refl, record { fits = omega arith; sized = refl; rest-is = refl })
 
 slice-aggregate-collect-one : tie.Need-slice-aggregate-collect-one Inv-loop μ-loop
 slice-aggregate-collect-one c = search needs
@@ -34,7 +34,7 @@ collect-one-requires c κs =
     let l = c .before .before .loop in
     let counted = c .before .before .before in
     let s = counted .before .before in
-    record { at = s .pre; low = l .inv .1; few = omega (arith, c .before .loop-test .taken, counted .item-count .ensures, few-placed (s .args .state .now) (s .pre .ranged)); places = l .inv .2 }
+    record { at = s .pre; low = l .inv .1; few = omega (arith, c .before .loop-test .taken, counted .item-count .ensures, few-placed (s .args .state .now) (s .pre .ranged)); places = l .inv .3 .sized }
 
 add-k : tie.Need-add-k Inv-loop μ-loop
 add-k c = search needs
@@ -53,9 +53,8 @@ loop-again c =
     let few : q .result ≤ itemsMost = omega (arith, q .ensures .below, turn .loop-test .taken, counted .item-count .ensures, few-placed (A .state .now) (s .pre .ranged)) in (
       omega arith,
       q .ensures .below,
-      q .kept .0 ∙ l .inv .2,
-      collected-next (isWaiting (networkIn (A .state .now)) (A .site)) (l .items) (q .last .0) (l .count) (q .result) (l .k) (l .inv .3) (q .ensures),
-      filled-more 0 itemsMost (l .count) (q .result) (l .items) (q .last .0) (l .inv .4) (q .ensures .above) few (q .ensures .rest-is),
+      collected-next (isWaiting (networkIn (A .state .now)) (A .site)) (l .items) (q .last .0) (l .count) (q .result) (l .k) (l .inv .2) (q .ensures),
+      filled-more 0 itemsMost (l .count) (q .result) (l .items) (q .last .0) (l .inv .3) (q .ensures .above) few (q .kept .0) (q .ensures .rest-is),
     )
 
 returns : tie.Need-returns Inv-loop μ-loop
@@ -63,7 +62,7 @@ returns c =
     let l = c .before .loop in
     let A = c .before .before .before .before .args in
     let all : l .k ≡ itemCount (A .state .now) = omega (arith, l .inv .0, c .loop-test .left, c .before .before .item-count .ensures) in
-    record { accepted = refl; each-once = each-once (A .state .now) (A .site) (take (l .count) (l .items)) (l .k) all (l .inv .3); filled = l .inv .4 }
+    record { accepted = refl; each-once = each-once (A .state .now) (A .site) (take (l .count) (l .items)) (l .k) all (l .inv .2); filled = l .inv .3 }
 
 pub collect-spec : {M : Type 1} → statement M
 collect-spec =

@@ -19,7 +19,7 @@ returns c =
       performed = asked (waiting (A .site)) (A .state .now) (n .result) (n .ensures);
       each-once = λ z. absurd (c .if1 .taken z);
       none-refused = λ _. refl;
-      filled = record { fits = omega arith; rest-is = refl };
+      filled = record { fits = omega arith; sized = refl; rest-is = refl };
     }
 
 collect-requires : tie.Need-collect-requires

@@ -1,5 +1,5 @@
 -- `stamp` reads the timestamp from the third word on.
-use Rattle.timestamp.specs.Timestamp.{stampOf}
+use Rattle.timestamp.proofs.Plain.{plain-as}
 use Rattle.records.proofs.Laws.{stamp-short, stamp-long}
 use borrow.Author.Needs.{needs}
 use Rattle.records.proofs.stamp.Statement.{statement}
@@ -12,7 +12,7 @@ from-words-requires : tie.Need-from-words-requires
 from-words-requires c κs = search needs
 
 returns : tie.Need-returns
-returns c = stamp-short (c .before .before .before .before .args .w .now) (stampOf (c .from-words .result)) (c .before .before .if1 .taken) (c .from-words .ensures)
+returns c = plain-as (stamp-short (c .before .before .before .before .args .w .now) (c .before .before .if1 .taken)) (c .from-words .ensures)
 
 sub-from-words : tie.Need-sub-from-words
 sub-from-words c = search needs
@@ -27,7 +27,7 @@ from-words-requires-2 : tie.Need-from-words-requires-2
 from-words-requires-2 c κs = search needs
 
 returns-2 : tie.Need-returns-2
-returns-2 c = stamp-long (c .before .before .before .before .args .w .now) (stampOf (c .from-words2 .result)) (c .from-words2 .ensures)
+returns-2 c = plain-as (stamp-long (c .before .before .before .before .args .w .now)) (c .from-words2 .ensures)
 
 pub stamp-spec : {M : Type 1} → statement M
 stamp-spec =

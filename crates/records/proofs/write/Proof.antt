@@ -1,7 +1,7 @@
 -- `write` stores the site and the number of operations, and then the words of the timestamp and of the operations.
 use lib.ListN.{length-set}
 use native.Mathlib.Omega.{arith}
-use Rattle.timestamp.specs.Timestamp.{stampOf}
+use Rattle.timestamp.specs.Value.{stampOf}
 use Rattle.records.proofs.Laws.{not-written, stamped-size, filled-size, written}
 use borrow.Author.Needs.{needs}
 use Rattle.records.proofs.write.Statement.{statement}

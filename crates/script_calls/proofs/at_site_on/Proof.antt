@@ -21,7 +21,7 @@ same-length c = search needs
 
 returns : tie.Need-returns
 unfolding print
-returns c = let A = c .before .before .before .before .before .before .before .before .args in replied-as (ap (λ (b : Bool). some (siteCall b (A .site))) (sym (c .before .before .before .before .before .before .if1 .taken))) (replied-some (schedule (A .site)) (c .before .before .before .before .schedule-on .ensures .0) (c .before .before .scheduled .ensures))
+returns c = let A = c .before .before .before .before .before .before .before .before .args in replied-as (ap (λ (b : Bool). some (siteCall b (A .site))) (sym (c .before .before .before .before .before .before .if1 .taken))) (replied-some (schedule (A .site)) (c .before .before .before .before .schedule-on .ensures .performed) (c .before .before .scheduled .ensures))
 
 dummy-on-requires : tie.Need-dummy-on-requires
 dummy-on-requires c κs = search needs
@@ -34,7 +34,7 @@ same-length-2 c = search needs
 
 returns-2 : tie.Need-returns-2
 unfolding print
-returns-2 c = let A = c .before .before .before .before .before .before .before .before .args in replied-as (ap (λ (b : Bool). some (siteCall b (A .site))) (sym (c .before .before .before .before .before .before .if1 .left))) (replied-some (dummy (A .site)) (c .before .before .before .before .dummy-on .ensures .0) (c .before .before .dummied .ensures))
+returns-2 c = let A = c .before .before .before .before .before .before .before .before .args in replied-as (ap (λ (b : Bool). some (siteCall b (A .site))) (sym (c .before .before .before .before .before .before .if1 .left))) (replied-some (dummy (A .site)) (c .before .before .before .before .dummy-on .ensures .performed) (c .before .before .dummied .ensures))
 
 pub at-site-on-spec : {M : Type 1} → statement M
 at-site-on-spec =

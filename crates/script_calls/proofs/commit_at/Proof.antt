@@ -126,7 +126,7 @@ returns-3 c =
     answered-kept (S .args .site) (all operation (fieldsFrom (S .args .text .now) (S .args .from))) (keptIn d) (is-some (q .result .ok) (keptIn d) (c .before .before .before .before .before .before .before .before .before .before .if1 .left) ∙ q .ensures .0)
     (answered-as
     (commit-with (S .args .site) k (kindsIn d) (itemsIn d) (valuesIn d) (size .1 ∙ sym (size .0)) (size .2 ∙ sym (size .0)))
-    (answered-formed call (S .pre .formed-is) (c .before .before .before .before .before .before .before .before .before .if2 .left) (replied-some call (c .before .before .before .before .commit-on .ensures .0) (c .before .before .committed .ensures))))
+    (answered-formed call (S .pre .formed-is) (c .before .before .before .before .before .before .before .before .before .if2 .left) (replied-some call (c .before .before .before .before .commit-on .ensures .performed) (c .before .before .committed .ensures))))
 
 pub commit-at-spec : {M : Type 1} → statement M
 commit-at-spec =

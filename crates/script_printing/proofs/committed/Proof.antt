@@ -2,7 +2,7 @@
 use mathlib.Core.List.{[]}
 use native.Mathlib.Omega.{arith}
 use lib.ListN.{take}
-use Rattle.timestamp.specs.Timestamp.{stampOf}
+use Rattle.timestamp.specs.Value.{stampOf}
 use Rattle.protocol.specs.Calls.{commit}
 use Rattle.script_notation.specs.Print.{fieldsOf}
 use Rattle.script_notation.proofs.Putting.{put-as, put-then, put-end, print-refused, print-accepted}

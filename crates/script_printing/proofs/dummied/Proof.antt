@@ -1,7 +1,7 @@
 -- `dummied` prints the number and, of an accepted dummy, its timestamp.
 use mathlib.Core.List.{[]}
 use native.Mathlib.Omega.{arith}
-use Rattle.timestamp.specs.Timestamp.{stampOf}
+use Rattle.timestamp.specs.Value.{stampOf}
 use Rattle.protocol.specs.Calls.{dummy}
 use Rattle.script_notation.specs.Print.{fieldsOf}
 use Rattle.script_notation.proofs.Putting.{put-as, put-then, print-refused, print-accepted}

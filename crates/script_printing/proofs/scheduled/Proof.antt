@@ -1,7 +1,7 @@
 -- `scheduled` prints the number and, of an accepted schedule, the parent and the timestamp.
 use mathlib.Core.List.{[]}
 use native.Mathlib.Omega.{arith}
-use Rattle.timestamp.specs.Timestamp.{stampOf}
+use Rattle.timestamp.specs.Value.{stampOf}
 use Rattle.protocol.specs.Calls.{schedule}
 use Rattle.script_notation.specs.Print.{fieldsOf}
 use Rattle.script_notation.proofs.Putting.{put-as, put-then, put-end, print-refused, print-accepted}

@@ -5,7 +5,8 @@ use Prim.Native.Nat.{ℕ, _+_, _-_, _*_, _≤_}
 use native.Mathlib.Omega.{arith}
 use lib.ListN.{length, take}
 use lib.Seq.{take-all}
-use Rattle.timestamp.specs.Timestamp.{Pair, stampOf, pairOf}
+use Rattle.timestamp_order.specs.Timestamp.{Pair}
+use Rattle.timestamp.specs.Value.{stampOf, pairOf}
 use Rattle.script_notation.specs.Print.{tupleText, tuplesText, Put}
 use Rattle.script_notation.proofs.Putting.{separatorOf, put-none, put-then, put-as, put-end, tuples-next}
 use borrow.Author.Needs.{needs}

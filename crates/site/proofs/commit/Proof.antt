@@ -1,18 +1,19 @@
 -- `commit` records the operations on the table as it was, writes it, and raises the own count.
-use mathlib.Core.Path.{ap, _∙_}
+use mathlib.Core.Path.{subst, _∙_}
 use mathlib.Core.List.{List}
 use Prim.Native.Nat.{min}
 use native.Mathlib.Omega.{arith}
 use lib.IntN.{ℤ}
 use Rattle.words.specs.Words.{put}
 use Rattle.words.proofs.Parts.{part-length}
-use Rattle.timestamp.specs.Timestamp.{stampOf, raisedOrSame}
+use Rattle.timestamp.specs.Value.{stampOf}
+use Rattle.timestamp_order.specs.Timestamp.{raisedOrSame}
 use Rattle.timestamp.specs.InWords.{stampSize}
 use Rattle.site.specs.Operations.{worked}
 use Rattle.site.specs.Site.{committed}
-use Rattle.site.specs.InWords.{siteIn, opsIn, tableSize}
+use Rattle.site.specs.InWords.{siteIn, opsIn, tableSize, OpsLaid}
 use Rattle.limits.specs.Limits.{opsMost}
-use Rattle.site.proofs.Laws.{table-law, table-put, stepped, changed, unchanged}
+use Rattle.site.proofs.Laws.{none-laid, table-law, table-put, stepped, changed, unchanged}
 use borrow.Author.Needs.{needs}
 use Rattle.site.proofs.commit.Statement.{statement}
 use Rattle.site.proofs.commit.Tie as tie
@@ -20,7 +21,7 @@ use Rattle.site.proofs.commit.Tie as tie
 returns : tie.Need-returns
 returns c =
     let A = c .before .before .before .args in
-    record { changed = unchanged (A .part .now) (committed (opsIn (min (A .n) opsMost) (A .ops .now))) (c .if1 .taken); sized = λ h. absurd (c .if1 .taken h) }
+    record { changed = unchanged (A .part .now) (committed (opsIn (min (A .n) opsMost) (A .ops .now))) (c .if1 .taken); sized = λ h. absurd (c .if1 .taken h); unsized = λ _. none-laid }
 
 sub-record : tie.Need-sub-record
 sub-record c = search needs
@@ -74,8 +75,9 @@ returns-2 c =
           (stepped (siteIn w) (siteIn (put w stampSize tableSize ys)) (siteIn (p .put-stamp .last .0)) (worked (siteIn w .table) os .table)
           raisedOrSame (stampOf (k .stamp .result)) (stampOf (p .before .raise .result))
           (table-put w size ys os (q .write .kept .0 ∙ part-length w stampSize tableSize (omega arith)) (q .write .ensures))
-          (k .stamp .ensures) (p .before .raise .ensures) (p .put-stamp .ensures .0)) (p .put-stamp .ensures .1);
-      sized = λ _. r .record .ensures ∙ ap (λ (b : List ℤ). worked b os .ops) (table-law w);
+          (k .stamp .ensures .means) (p .before .raise .ensures .means) (p .put-stamp .ensures .0)) (p .put-stamp .ensures .1);
+      sized = λ _. subst (λ (b : List ℤ). OpsLaid (min (A .n) opsMost) (worked b os .ops) (r .record .result)) (table-law w) (r .record .ensures);
+      unsized = λ h. absurd (h size);
     }
 
 pub commit-spec : {M : Type 1} → statement M

@@ -1,6 +1,7 @@
 -- `dummy` reads the timestamp, raises its own count, and writes it back.
 use mathlib.Core.Path.{refl}
-use Rattle.timestamp.specs.Timestamp.{stampOf, raisedOrSame}
+use Rattle.timestamp.specs.Value.{stampOf}
+use Rattle.timestamp_order.specs.Timestamp.{raisedOrSame}
 use Rattle.site.specs.Site.{dummied}
 use Rattle.site.specs.InWords.{siteIn}
 use Rattle.site.proofs.Laws.{stepped, changed, unchanged}
@@ -27,7 +28,7 @@ returns c =
     let w = k .before .before .before .before .before .args .part .now in
     changed w dummied (p .put-stamp .last .0) (k .before .before .before .if1 .taken)
     (stepped (siteIn w) (siteIn w) (siteIn (p .put-stamp .last .0)) (siteIn w .table) raisedOrSame (stampOf (k .stamp .result)) (stampOf (p .before .raise .result))
-    refl (k .stamp .ensures) (p .before .raise .ensures) (p .put-stamp .ensures .0)) (p .put-stamp .ensures .1)
+    refl (k .stamp .ensures .means) (p .before .raise .ensures .means) (p .put-stamp .ensures .0)) (p .put-stamp .ensures .1)
 
 returns-2 : tie.Need-returns-2
 returns-2 c = unchanged (c .before .before .args .part .now) dummied (c .if1 .left)

@@ -4,7 +4,8 @@ use Prim.Native.Nat.{min}
 use native.Mathlib.Omega.{arith}
 use Rattle.words.specs.Words.{put}
 use Rattle.words.proofs.Parts.{part-length}
-use Rattle.timestamp.specs.Timestamp.{Stamp, Pair, stampOf, appendedOrSame, ownSite, ownCount}
+use Rattle.timestamp_order.specs.Timestamp.{Stamp, Pair, appendedOrSame, ownSite, ownCount}
+use Rattle.timestamp.specs.Value.{stampOf}
 use Rattle.timestamp.specs.InWords.{stampSize}
 use Rattle.site.specs.Operations.{worked}
 use Rattle.site.specs.Site.{received}
@@ -58,7 +59,7 @@ returns c =
     (stepped (siteIn w) (siteIn (put w stampSize tableSize ys)) (siteIn (p .put-stamp .last .0)) (worked (siteIn w .table) os .table)
     (λ (s : Stamp). appendedOrSame t (ownSite s) (ownCount s)) (stampOf (k .stamp .result)) (stampOf (p .before .append .result))
     (table-put w size ys os (q .write .kept .0 ∙ part-length w stampSize tableSize (omega arith)) (q .write .ensures))
-    (k .stamp .ensures) (p .before .append .ensures ∙ ap (λ (x : Pair). appendedOrSame t (x .site) (x .count)) (o .own .ensures)) (p .put-stamp .ensures .0)) (p .put-stamp .ensures .1)
+    (k .stamp .ensures .means) (p .before .append .ensures .means ∙ ap (λ (x : Pair). appendedOrSame t (x .site) (x .count)) (o .own .ensures)) (p .put-stamp .ensures .0)) (p .put-stamp .ensures .1)
 
 returns-2 : tie.Need-returns-2
 returns-2 c =

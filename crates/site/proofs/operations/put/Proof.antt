@@ -1,8 +1,9 @@
 -- `put` lays the three words where there is a place for them.
 use mathlib.Core.Path.{refl}
+use mathlib.Core.List.{[], _∷_}
 use native.Mathlib.Omega.{arith}
 use Rattle.site.specs.InWords.{opOf}
-use Rattle.site.proofs.Laws.{laid-op}
+use Rattle.site.proofs.Laws.{laid-op, laid-behind, laid-size}
 use borrow.Author.Needs.{needs}
 use Rattle.site.proofs.operations.put.Statement.{statement}
 use Rattle.site.proofs.operations.put.Tie as tie
@@ -23,11 +24,13 @@ returns c =
     let there = c .before .before .before .if1 .taken in
     record {
       laid = λ h. laid-op (A .out .now) (c .lay .last .0) (A .i) (A .kind) (A .item) (A .value) (opOf (A .kind) (A .item) (A .value)) (omega (arith, s .good)) h (c .lay .ensures) refl;
+      behind = λ h. laid-behind (A .out .now) (c .lay .last .0) (A .kind ∷ (A .item ∷ (A .value ∷ []))) (A .i) refl (omega (arith, s .good)) h (c .lay .ensures);
       kept = λ h. absurd (omega arith);
+      size = laid-size (A .out .now) (c .lay .last .0) (A .kind ∷ (A .item ∷ (A .value ∷ []))) (A .i) refl (omega (arith, s .good)) there (c .lay .ensures);
     }
 
 returns-2 : tie.Need-returns-2
-returns-2 c = record { laid = λ h. absurd (omega (arith, c .if1 .left)); kept = λ h. refl }
+returns-2 c = record { laid = λ h. absurd (omega (arith, c .if1 .left)); behind = λ h. refl; kept = λ h. refl; size = refl }
 
 pub put-spec : {M : Type 1} → statement M
 put-spec = tie.close (tie.spec mul-lay slice-aggregate-lay lay-requires returns returns-2)

@@ -1,9 +1,6 @@
 -- `record_one` lays one operation after those before it, as the history keeps it.
-use mathlib.Core.Path.{ap, _∙_}
-use mathlib.Core.List.{[], _∷_, _++_}
-use Rattle.site.specs.Operations.{Op}
-use Rattle.site.specs.InWords.{opAt, opsIn, tableIn}
-use Rattle.site.proofs.Laws.{kept-op}
+use Rattle.site.specs.InWords.{opAt, tableIn}
+use Rattle.site.proofs.Laws.{kept-op, put-as}
 use borrow.Author.Needs.{needs}
 use Rattle.site.proofs.operations.record_one.Statement.{statement}
 use Rattle.site.proofs.operations.record_one.Tie as tie
@@ -27,8 +24,8 @@ returns c =
     let kind = c .before .before .before .kind in
     let s = c .before .before .before .before .before .before .before in
     let A = s .args in
-    c .put .ensures .laid (s .pre)
-    ∙ ap (λ (o : Op). opsIn (A .i) (A .out .now) ++ (o ∷ [])) (kept-op (opAt (A .ops .now) (A .i)) (tableIn (A .table .now)) (kind .result) (item .result) (value .result) (kind .ensures) (item .ensures) (value .ensures))
+    put-as (kept-op (opAt (A .ops .now) (A .i)) (tableIn (A .table .now)) (kind .result) (item .result) (value .result) (kind .ensures) (item .ensures) (value .ensures))
+    (c .put .ensures)
 
 pub record-one-spec : {M : Type 1} → statement M
 record-one-spec =

@@ -1,6 +1,6 @@
 -- `Timestamp::compare` answers what the order says: epochs, then tuples.
 use mathlib.Core.Path.{ap₂, _∙_}
-use Rattle.timestamp.specs.Order.{thenBy, orderBy}
+use Rattle.timestamp_order.specs.Order.{thenBy, orderBy}
 use borrow.Author.Needs.{needs}
 use Rattle.timestamp.proofs.Timestamp.compare.Statement.{statement}
 use Rattle.timestamp.proofs.Timestamp.compare.Tie as tie

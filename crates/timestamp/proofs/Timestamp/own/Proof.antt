@@ -14,7 +14,7 @@ returns c =
     let s = c .before .before in
     let t = s .args .t1 in
     let eight : length (t .tuples) ≡ 8 = simp length-map at (s .good .0 .1 .1 .1 .1 .0 .1 .0 .1) in
-    no-own-law (t .epoch) (t .tuples) (t .len) eight (sym (c .before .used .ensures) ∙ c .if1 .taken)
+    no-own-law (t .tuples) (t .len) eight (sym (c .before .used .ensures) ∙ c .if1 .taken)
 
 sub-result : tie.Need-sub-result
 sub-result c = search needs
@@ -31,7 +31,7 @@ returns-2 c =
     let s = d .before in
     let t = s .args .t1 in
     let eight : length (t .tuples) ≡ 8 = simp length-map at (s .good .0 .1 .1 .1 .1 .0 .1 .0 .1) in
-    own-law (t .epoch) (t .tuples) (t .len) eight (d .used .result) (d .used .ensures) (c .before .if1 .left)
+    own-law (t .tuples) (t .len) eight (d .used .result) (d .used .ensures) (c .before .if1 .left)
 
 pub own-spec : {M : Type 1} → statement M
 own-spec =

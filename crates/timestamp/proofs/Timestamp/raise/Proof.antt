@@ -1,20 +1,17 @@
--- `Timestamp::raise` gives the last tuple the next count, or the value back where there is no tuple or no higher count.
-use mathlib.Core.Path.{_≡_}
-use lib.ListN.{length, length-map}
-use Rattle.timestamp.proofs.Value.{raise-law, raise-full-law, raise-none-law}
+-- `Timestamp::raise` gives the last tuple the next count, or the plain value where there is no tuple or no higher count.
+use Rattle.timestamp.specs.Value.{stampOf}
+use Rattle.timestamp.proofs.Plain.{raise-law, raise-full-law, raise-none-law}
 use borrow.Author.Needs.{needs}
 use Rattle.timestamp.proofs.Timestamp.raise.Statement.{statement}
 use Rattle.timestamp.proofs.Timestamp.raise.Tie as tie
 
-used-requires : tie.Need-used-requires
-used-requires c κs = search needs
+plain-requires : tie.Need-plain-requires
+plain-requires c κs = search needs
 
 returns : tie.Need-returns
 returns c =
-    let s = c .before .before in
-    let t = s .args .t1 in
-    let eight : length (t .tuples) ≡ 8 = simp length-map at (s .good .0 .1 .1 .1 .1 .0 .1 .0 .1) in
-    raise-none-law (t .epoch) (t .tuples) (t .len) eight (c .before .used .result) (c .before .used .ensures) (c .if1 .taken)
+    let d = c .before in
+    raise-none-law (stampOf (d .before .args .self)) (d .plain .result) (d .plain .ensures) (c .if1 .taken)
 
 sub-last : tie.Need-sub-last
 sub-last c = search needs
@@ -27,44 +24,38 @@ element-copy-out-last c = search needs
 
 returns-2 : tie.Need-returns-2
 returns-2 c =
-    let d = c .before .before .before in
-    let s = d .before in
-    let t = s .args .t1 in
-    let eight : length (t .tuples) ≡ 8 = simp length-map at (s .good .0 .1 .1 .1 .1 .0 .1 .0 .1) in
-    raise-full-law (t .epoch) (t .tuples) (t .len) eight (d .used .result) (d .used .ensures) (c .before .before .if1 .left) (c .if2 .taken)
+    let d = c .before .before in
+    raise-full-law (stampOf (d .before .before .args .self)) (d .before .plain .result) (d .before .plain .ensures) (d .if1 .left) (c .if2 .taken)
 
-add-t12 : tie.Need-add-t12
-add-t12 c = search needs
+add-t13 : tie.Need-add-t13
+add-t13 c = search needs
 
-sub-t6 : tie.Need-sub-t6
-sub-t6 c = search needs
+sub-t8 : tie.Need-sub-t8
+sub-t8 c = search needs
 
-mul-t8 : tie.Need-mul-t8
-mul-t8 c = search needs
+mul-t9 : tie.Need-mul-t9
+mul-t9 c = search needs
 
-element-set-from-self : tie.Need-element-set-from-self
-element-set-from-self c = search needs
+element-set-from-t : tie.Need-element-set-from-t
+element-set-from-t c = search needs
 
 returns-3 : tie.Need-returns-3
 returns-3 c =
-    let d = c .before .before .before in
-    let s = d .before in
-    let t = s .args .t1 in
-    let eight : length (t .tuples) ≡ 8 = simp length-map at (s .good .0 .1 .1 .1 .1 .0 .1 .0 .1) in
-    raise-law (t .epoch) (t .tuples) (t .len) eight (d .used .result) (d .used .ensures) (c .before .before .if1 .left) (c .if2 .left)
+    let d = c .before .before in
+    raise-law (stampOf (d .before .before .args .self)) (d .before .plain .result) (d .before .plain .ensures) (d .if1 .left) (c .if2 .left)
 
 pub raise-spec : {M : Type 1} → statement M
 raise-spec =
     tie.close
     (tie.spec
-    used-requires
+    plain-requires
     returns
     sub-last
     mul-last
     element-copy-out-last
     returns-2
-    add-t12
-    sub-t6
-    mul-t8
-    element-set-from-self
+    add-t13
+    sub-t8
+    mul-t9
+    element-set-from-t
     returns-3)

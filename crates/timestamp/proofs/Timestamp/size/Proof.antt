@@ -14,7 +14,7 @@ returns : tie.Need-returns
 returns c =
     let t = c .before .args .self in
     let eight : length (t .tuples) ≡ 8 = simp length-map at (c .before .good .0 .1 .1 .1 .1 .0 .1 .0 .1) in
-    (c .used .ensures ∙ sym (size-law (t .epoch) (t .tuples) (t .len) eight), omega (arith, c .used .ensures))
+    (c .used .ensures ∙ sym (size-law (t .tuples) (t .len) eight), omega (arith, c .used .ensures))
 
 pub size-spec : {M : Type 1} → statement M
 size-spec = tie.close (tie.spec used-requires returns)

@@ -21,14 +21,14 @@ returns c =
     let s = c .before .before .before in
     let t = s .args .t1 in
     let eight : length (t .tuples) ≡ 8 = simp length-map at (s .good .0 .1 .1 .1 .1 .0 .1 .0 .1) in
-    tuple-law (t .epoch) (t .tuples) (t .len) eight (s .args .i) (omega (arith, c .before .before .used .ensures, c .before .if1 .taken))
+    tuple-law (t .tuples) (t .len) eight (s .args .i) (omega (arith, c .before .before .used .ensures, c .before .if1 .taken))
 
 returns-2 : tie.Need-returns-2
 returns-2 c =
     let s = c .before .before in
     let t = s .args .t1 in
     let eight : length (t .tuples) ≡ 8 = simp length-map at (s .good .0 .1 .1 .1 .1 .0 .1 .0 .1) in
-    past-law (t .epoch) (t .tuples) (t .len) eight (s .args .i) (omega arith)
+    past-law (t .tuples) (t .len) eight (s .args .i) (omega arith)
 
 pub tuple-spec : {M : Type 1} → statement M
 tuple-spec =

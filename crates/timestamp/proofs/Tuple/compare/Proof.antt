@@ -1,6 +1,6 @@
 -- `Tuple::compare` answers what the order of tuples says: sites, the higher one first, then counts.
 use mathlib.Core.Path.{ap₂, _∙_}
-use Rattle.timestamp.specs.Order.{thenBy, pairOrder}
+use Rattle.timestamp_order.specs.Order.{thenBy, pairOrder}
 use borrow.Author.Needs.{needs}
 use Rattle.timestamp.proofs.Tuple.compare.Statement.{statement}
 use Rattle.timestamp.proofs.Tuple.compare.Tie as tie

@@ -1,6 +1,6 @@
 -- `number_order` answers what the order of numbers says.
 use mathlib.Core.Path.{sym}
-use Rattle.timestamp.proofs.Steps.{number-earlier, number-later, number-equal}
+use Rattle.timestamp_order.proofs.Steps.{number-earlier, number-later, number-equal}
 use Rattle.timestamp.proofs.comparison.number_order.Statement.{statement}
 use Rattle.timestamp.proofs.comparison.number_order.Tie as tie
 

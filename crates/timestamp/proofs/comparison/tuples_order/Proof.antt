@@ -5,11 +5,12 @@ use Prim.Native.Nat.{suc, _≤_, _-_}
 use native.Mathlib.Omega.{arith}
 use native.Mathlib.Numerals.{add-one}
 use lib.ListN.{drop}
-use Rattle.timestamp.specs.declared.Order.{Order}
-use Rattle.timestamp.specs.declared.Order.the-variants.{Earlier, Equal, Later}
-use Rattle.timestamp.specs.Timestamp.{Pair, stampOf}
-use Rattle.timestamp.specs.Order.{byNumber, thenBy, pairOrder, tuplesOrder}
-use Rattle.timestamp.proofs.Steps.{both-go-on, second-ends, first-ends, both-end}
+use Rattle.timestamp_order.specs.declared.Order.{Order}
+use Rattle.timestamp_order.specs.declared.Order.the-variants.{Earlier, Equal, Later}
+use Rattle.timestamp_order.specs.Timestamp.{Pair}
+use Rattle.timestamp.specs.Value.{stampOf}
+use Rattle.timestamp_order.specs.Order.{byNumber, thenBy, pairOrder, tuplesOrder}
+use Rattle.timestamp_order.proofs.Steps.{both-go-on, second-ends, first-ends, both-end}
 use borrow.Author.Needs.{needs}
 use Rattle.timestamp.proofs.comparison.tuples_order.Statement.{statement}
 use Rattle.timestamp.proofs.comparison.tuples_order.Tie as tie

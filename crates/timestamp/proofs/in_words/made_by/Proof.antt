@@ -2,7 +2,7 @@
 use mathlib.Core.Path.{_∙_}
 use native.Mathlib.Omega.{arith}
 use borrow.Author.Tests.{not-true, not-false}
-use Rattle.timestamp.proofs.Made.{shaped-many, shaped-none, shaped-not-rising, shaped-by-site}
+use Rattle.timestamp.proofs.Shaped.{shaped-many, shaped-none, shaped-not-rising, shaped-by-site}
 use borrow.Author.Needs.{needs}
 use Rattle.timestamp.proofs.in_words.made_by.Statement.{statement}
 use Rattle.timestamp.proofs.in_words.made_by.Tie as tie

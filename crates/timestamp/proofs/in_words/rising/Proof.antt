@@ -4,11 +4,12 @@ use mathlib.Core.List.{List}
 use Prim.Native.Nat.{ℕ, suc, _+_, _≤_, _<_, _-_}
 use native.Mathlib.Omega.{arith}
 use lib.ListN.{length, getD, take, drop}
-use Rattle.timestamp.specs.Timestamp.{Pair, noPair, room}
-use Rattle.timestamp.specs.Order.{byNumber}
+use Rattle.timestamp_order.specs.Timestamp.{Pair, noPair, room}
+use Rattle.timestamp_order.specs.Order.{byNumber}
 use Rattle.timestamp.specs.InWords.{pairsAt, pairsStart}
-use Rattle.timestamp.specs.Made.{rising}
-use Rattle.timestamp.proofs.Made.{held-length, held-site, rise-stops, rise-goes-on, rise-ends}
+use Rattle.timestamp_order.specs.Made.{rising}
+use Rattle.timestamp.proofs.Shaped.{held-length, held-site}
+use Rattle.timestamp_order.proofs.Made.{rise-stops, rise-goes-on, rise-ends}
 use borrow.Author.Needs.{needs}
 use Rattle.timestamp.proofs.in_words.rising.Statement.{statement}
 use Rattle.timestamp.proofs.in_words.rising.Tie as tie

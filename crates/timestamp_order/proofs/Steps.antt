@@ -6,10 +6,10 @@ use native.Mathlib.Omega.{arith}
 use lib.ListN.{length, getD, drop, drop-of-length-le}
 use lib.Seq.{drop-cons}
 use borrow.Author.Tests.{lt-ltb, le-ltb}
-use Rattle.timestamp.specs.declared.Order.{Order}
-use Rattle.timestamp.specs.declared.Order.the-variants.{Earlier, Equal, Later}
-use Rattle.timestamp.specs.Timestamp.{Pair, noPair}
-use Rattle.timestamp.specs.Order.{thenBy, numberOrder, pairOrder, tuplesOrder}
+use Rattle.timestamp_order.specs.declared.Order.{Order}
+use Rattle.timestamp_order.specs.declared.Order.the-variants.{Earlier, Equal, Later}
+use Rattle.timestamp_order.specs.Timestamp.{Pair, noPair}
+use Rattle.timestamp_order.specs.Order.{thenBy, numberOrder, pairOrder, tuplesOrder}
 
 module _ (a b : ℕ) where
   pub number-earlier : a < b → numberOrder a b ≡ Earlier

@@ -2,9 +2,9 @@
 use mathlib.Core.Path.{_≡_, refl}
 use mathlib.Core.List.{map}
 use lib.ListN.{replicate}
-use Rattle.timestamp.specs.declared.Order.the-variants.{Earlier}
-use Rattle.timestamp.specs.Order.{order, orderBy, tuplesOrder, pairOrder, numberOrder}
-use Rattle.timestamp.specs.Examples.{Comparison, comparisons}
+use Rattle.timestamp_order.specs.declared.Order.the-variants.{Earlier}
+use Rattle.timestamp_order.specs.Order.{order, orderBy, tuplesOrder, pairOrder, numberOrder}
+use Rattle.timestamp_order.specs.Examples.{Comparison, comparisons}
 
 pub comparisons-hold : map (λ (c : Comparison). order (c .first) (c .second)) comparisons ≡ replicate 3 Earlier
 unfolding orderBy tuplesOrder pairOrder numberOrder

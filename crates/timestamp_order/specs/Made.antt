@@ -4,9 +4,7 @@ use mathlib.Core.List.{List, [], _∷_}
 use Prim.Native.Nat.{ℕ}
 use lib.ListN.{length}
 use lib.Dec.{eqb, ltb}
-use Rattle.timestamp.specs.Timestamp.{Pair, Stamp, ownSite}
-use Rattle.timestamp.specs.Order.{byNumber}
-use Rattle.timestamp.specs.InWords.{stampIn, stampRange}
+use Rattle.timestamp_order.specs.Timestamp.{Pair, Stamp, ownSite}
 
 -- each site stands before the next
 unfoldable pub rising : (ℕ → ℕ) → List Pair → Bool
@@ -17,7 +15,3 @@ rising place (x ∷ (y ∷ ys)) = ltb (place (x .site)) (place (y .site)) && ris
 -- a timestamp that site j made: it has a tuple, its sites rise, and it ends with j
 unfoldable pub madeBy : (ℕ → ℕ) → ℕ → Stamp → Bool
 madeBy place j s = ltb 0 (length (s .tuples)) && (rising place (s .tuples) && eqb (ownSite s) j)
-
--- words of such a timestamp: at most eight tuples, as many as they say
-unfoldable pub stampShaped : ℕ → List ℕ → Bool
-stampShaped j w = stampRange w && madeBy byNumber j (stampIn w)

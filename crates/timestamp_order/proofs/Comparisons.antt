@@ -4,9 +4,9 @@ use mathlib.Core.Bool.{true, false, false≢true}
 use mathlib.Core.Logic.{_⊎_, inl, inr}
 use Prim.Native.Nat.{ℕ}
 use native.Mathlib.Omega.{arith}
-use Rattle.timestamp.specs.declared.Order.{Order}
-use Rattle.timestamp.specs.declared.Order.the-variants.{Earlier, Equal, Later}
-use Rattle.timestamp.specs.Order.{thenBy, notLater}
+use Rattle.timestamp_order.specs.declared.Order.{Order}
+use Rattle.timestamp_order.specs.declared.Order.the-variants.{Earlier, Equal, Later}
+use Rattle.timestamp_order.specs.Order.{thenBy, notLater}
 
 abbrev pub turned : Order → Order
 turned Earlier = Later

@@ -7,13 +7,13 @@ use native.Mathlib.Omega.{arith}
 use lib.ListN.{length}
 use lib.Dec.{ltb}
 use borrow.Author.Tests.{ltb-true, ltb-false}
-use Rattle.timestamp.specs.declared.Order.{Order}
-use Rattle.timestamp.specs.declared.Order.the-variants.{Earlier, Equal, Later}
-use Rattle.timestamp.specs.Timestamp.{Pair, Stamp, appended, lastPair, raisedLast, raised}
-use Rattle.timestamp.specs.Order.{thenBy, numberOrder, pairOrder, tuplesOrder, orderBy, notLater, IsEarlier, NotLater, Below}
-use Rattle.timestamp.proofs.Steps.{number-earlier, number-later, number-equal}
-use Rattle.timestamp.proofs.Comparisons.{Laws, turned, later≢earlier, equal≢earlier, later≢equal, both-laws, split-same, turn-then, linked, then-trans}
-use Rattle.timestamp.proofs.Value.{last-snoc, raised-snoc}
+use Rattle.timestamp_order.specs.declared.Order.{Order}
+use Rattle.timestamp_order.specs.declared.Order.the-variants.{Earlier, Equal, Later}
+use Rattle.timestamp_order.specs.Timestamp.{Pair, Stamp, appended, lastPair, raisedLast, raised}
+use Rattle.timestamp_order.specs.Order.{thenBy, numberOrder, pairOrder, tuplesOrder, orderBy, notLater, IsEarlier, NotLater, Below}
+use Rattle.timestamp_order.proofs.Steps.{number-earlier, number-later, number-equal}
+use Rattle.timestamp_order.proofs.Comparisons.{Laws, turned, later≢earlier, equal≢earlier, later≢equal, both-laws, split-same, turn-then, linked, then-trans}
+use Rattle.timestamp_order.proofs.Timestamp.{last-snoc, raised-snoc}
 
 -- ---- numbers
 module _ (a b : ℕ) where

@@ -1,7 +1,7 @@
 -- The three comparisons printed under Definition 3.3; in each the first timestamp is the earlier one.
 use mathlib.Core.List.{List, [], _∷_}
 use Prim.Native.Nat.{ℕ}
-use Rattle.timestamp.specs.Timestamp.{Pair, Stamp}
+use Rattle.timestamp_order.specs.Timestamp.{Pair, Stamp}
 
 pub record Comparison : Type 0 where
   pub first : Stamp

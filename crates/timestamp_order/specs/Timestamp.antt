@@ -1,12 +1,10 @@
 -- What a timestamp is, an epoch and a list of tuples of site and count, and the three ways to make a new one of it.
 use mathlib.Core.Bool.{cond}
-use mathlib.Core.List.{List, [], _∷_, _++_, map}
+use mathlib.Core.List.{List, [], _∷_, _++_}
 use Prim.Native.Nat.{ℕ, _+_}
-use lib.ListN.{length, take}
+use lib.ListN.{length}
 use lib.Dec.{ltb}
 use Rattle.limits.specs.Limits.{sitesMost}
-use Rattle.timestamp.specs.declared.Tuple.{Tuple}
-use Rattle.timestamp.specs.declared.Timestamp.{Timestamp}
 
 -- a tuple of a timestamp
 pub record Pair : Type 0 where
@@ -18,13 +16,6 @@ pub record Stamp : Type 0 where
   pub epoch : ℕ
   pub tuples : List Pair
 
--- ---- what the values of the code mean: of eight places the first `len` are tuples, all eight where `len` is more
-abbrev pub pairOf : Tuple → Pair
-pairOf t = record { site = t .site; count = t .count .0 }
-
-abbrev pub stampOf : Timestamp → Stamp
-stampOf t = record { epoch = t .epoch .0; tuples = map pairOf (take (t .len) (t .tuples)) }
-
 -- ---- the most tuples that a value holds, one for each site that there can be; and the largest count
 abbrev pub room : ℕ
 room = sitesMost
@@ -32,9 +23,12 @@ room = sitesMost
 abbrev pub greatest : ℕ
 greatest = 4294967295
 
--- what stands where there is no tuple
+-- what stands where there is no tuple, and where there is no timestamp
 abbrev pub noPair : Pair
 noPair = record { site = 0; count = 0 }
+
+abbrev pub noStamp : Stamp
+noStamp = record { epoch = 0; tuples = [] }
 
 -- ---- another epoch
 abbrev pub withEpoch : Stamp → ℕ → Stamp

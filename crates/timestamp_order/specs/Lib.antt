@@ -1,0 +1,4 @@
+pub mod Timestamp
+pub mod Order
+pub mod Made
+pub mod Examples
