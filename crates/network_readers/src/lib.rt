@@ -126,10 +126,10 @@ fn line_number(state: &[u32], parent: u32, child: u32) -> u32
     requires { ⌜ AtNetwork (now state) ⌝ }
     ensures { λ r. ⌜ r ≡ askedLine (networkIn (now (state .entry))) parent child ⌝ }
 {
-    if !network_shape::is_site(state, parent) {
+    if !network_placement::is_site(state, parent) {
         return 7;
     }
-    if !network_shape::is_site(state, child) {
+    if !network_placement::is_site(state, child) {
         return 7;
     }
     if !network_placement::is_line(state, parent, child) {
