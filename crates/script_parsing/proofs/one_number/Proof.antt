@@ -6,6 +6,7 @@ use Prim.Native.Nat.{ℕ, _-_}
 use native.Mathlib.Omega.{arith}
 use lib.ListN.{length, take, drop, length-drop}
 use lib.Seq.{take-all}
+use Rattle.decimal.proofs.Values.{number-means}
 use Rattle.decimal.specs.Decimal.{natural}
 use Rattle.protocol.specs.Calls.{Call}
 use Rattle.script_notation.specs.Parse.{on}
@@ -34,7 +35,7 @@ returns-2 c =
     let T = c .before .before .before .before .args .text .now in
     let n = c .natural .result in
     let rest = take-all (length T - 2) (drop 2 T) (omega (arith, length-drop 2 T)) in
-    record { each = λ f. of-number (n .ok) (n .value) f (c .natural .ensures ∙ ap natural rest) ∙ one-number f T (c .before .before .if1 .left) }
+    record { each = λ f. of-number (n .ok) (n .value) f (number-means (c .natural .ensures) ∙ ap natural rest) ∙ one-number f T (c .before .before .if1 .left) }
 
 pub one-number-spec : {M : Type 1} → statement M
 one-number-spec =

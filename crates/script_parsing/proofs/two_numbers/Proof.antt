@@ -5,6 +5,7 @@ use Prim.Native.Nat.{ℕ, _+_, _-_}
 use native.Mathlib.Omega.{arith}
 use lib.ListN.{length, take, drop, length-drop}
 use lib.Seq.{take-all}
+use Rattle.decimal.proofs.Values.{number-means}
 use Rattle.decimal.specs.Decimal.{natural}
 use Rattle.script_notation.specs.Parse.{on}
 use Rattle.script_notation.proofs.Walks.{is-false}
@@ -64,7 +65,7 @@ returns-2 c =
     record {
       each =
           λ f. c .both .ensures .each f
-          ∙ ap₂ (λ (o p : Option ℕ). on o (λ a. on p (λ b. some (f a b)))) (c .before .before .before .natural .ensures) (c .before .natural2 .ensures ∙ ap natural rest)
+          ∙ ap₂ (λ (o p : Option ℕ). on o (λ a. on p (λ b. some (f a b)))) (number-means (c .before .before .before .natural .ensures)) (number-means (c .before .natural2 .ensures) ∙ ap natural rest)
           ∙ two-numbers f T (found .result) (found .ensures) (c .before .before .before .before .before .if1 .left);
     }
 
