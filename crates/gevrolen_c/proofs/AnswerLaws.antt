@@ -16,13 +16,15 @@ use Rattle.words.specs.Words.{part, put, laid}
 use Rattle.words.proofs.Parts.{part-length}
 use Rattle.words.proofs.Walks.{laid-in}
 use Rattle.words.proofs.Chunks.{chunks-length}
-use Rattle.timestamp.specs.Timestamp.{Stamp, stampOf}
+use Rattle.timestamp.specs.Value.{stampOf}
+use Rattle.timestamp_order.specs.Timestamp.{Stamp}
 use Rattle.timestamp.specs.InWords.{stampWords}
 use Rattle.site.specs.Operations.{Op, noOp}
 use Rattle.site.specs.InWords.{opsIn, opsSize}
 use Rattle.protocol.specs.Steps.{opsOf}
 use Rattle.protocol.specs.Calls.{Call}
-use Rattle.network_layout.specs.Promises.{Performed, Filled}
+use Rattle.lists.specs.Lists.{Filled}
+use Rattle.network_layout.specs.Promises.{Performed}
 use Rattle.network_readers.specs.Readers.{padded}
 use Rattle.history_file.specs.File.{trailerSize}
 use Rattle.history_file.specs.Bytes.{unitSize}
@@ -33,7 +35,7 @@ use Rattle.history_file.proofs.Files.{accepted, numbered-refused, numbered-past
 use Rattle.console_lines.specs.declared.Next.{Next}
 use Rattle.console_lines.specs.Promises.{Ended}
 use Rattle.history_file.specs.declared.Found.{Found}
-use Rattle.gevrolen_c.specs.Answers.{listed, valueWords, committedWords, dummiedWords, scheduledWords, Answered, startAnswered, fileWords, FileRead, RecordLaid, reached}
+use Rattle.gevrolen_c.specs.Answers.{listed, valueWords, committedWords, dummiedWords, scheduledWords, Answered, startAnswered, fileWords, FileRead, RecordLaid, LinesRun}
 
 -- ---- values in places
 pub map-append : {A B : Type 0} (f : A → B) (xs ys : List A) → map f (xs ++ ys) ≡ map f xs ++ map f ys
@@ -161,8 +163,8 @@ pub file-read : (b : List ℕ) (number : ℕ) (answer : List ℕ) → number ≡
 file-read b number answer n e = record { number-is = n; answer-is = e; part-is = rw e (part-there b) }
 
 -- ---- many lines
-pub run-ended : (text entry exit out₀ out : List ℕ) (at : ℕ) (r : Next) (p : List ℕ) → p ≡ r .from ∷ (r .filled ∷ []) → Ended text entry exit out₀ out at r → Ended text entry exit out₀ out at (reached text p)
-run-ended text entry exit out₀ out at r p e x = rw e (record { walked = x .walked; end-is = refl; used-is = sym (x .end-is) ∙ x .used-is })
+pub lines-run : {text entry exit out₀ out : List ℕ} {r : Next} (p : List ℕ) → p ≡ r .from ∷ (r .filled ∷ []) → Ended text entry exit out₀ out 0 r → LinesRun text entry exit out₀ out p
+lines-run p e x = rw e (record { walked = x .walked; used-is = sym (x .end-is) ∙ x .used-is })
 
 -- ---- a record: at most eight operations, at eight places
 pub step-few : (b : List ℕ) (at sites items : ℕ) → length (stepOf b at sites items .found .ops) ≤ opsMost

@@ -10,8 +10,8 @@ use mir.Val.{toZ, ofZ}
 use mir.Syntax.{w32}
 use Rattle.limits.specs.Limits.{opsMost, itemsMost}
 use Rattle.words.specs.Words.{part}
-use Rattle.timestamp.specs.declared.Order.{Order}
-use Rattle.timestamp.specs.declared.Order.the-variants.{Earlier, Equal, Later}
+use Rattle.timestamp_order.specs.declared.Order.{Order}
+use Rattle.timestamp_order.specs.declared.Order.the-variants.{Earlier, Equal, Later}
 use Rattle.timestamp.specs.InWords.{stampSize, stampWords}
 use Rattle.site.specs.Operations.{noOp}
 use Rattle.site.specs.InWords.{opsIn, opsSize}
@@ -21,8 +21,8 @@ use Rattle.network_layout.specs.declared.Operation.{Operation}
 use Rattle.network_layout.specs.InWords.{meaning}
 use Rattle.network_readers.specs.Readers.{padded, tableAnswer, heldAnswer, arrivedAnswer}
 use Rattle.script_notation.specs.Fields.{position}
-use Rattle.console_lines.specs.declared.Next.{Next}
-use Rattle.console_lines.specs.Lines.{newline}
+use Rattle.console_notation.specs.Lines.{newline, used}
+use Rattle.console_lines.specs.Promises.{Walked}
 use Rattle.history_file.specs.File.{trailerSize}
 use Rattle.history_file.specs.Reading.{fileNumber, historyRead}
 use Rattle.history_file.specs.Promises.{partAnswered}
@@ -94,7 +94,6 @@ pub record RecordLaid (r : Record) (answer : List ℕ) : Type 0 where
 
 -- ---- many lines
 -- how far they came: the bytes that are answered, up to the start of a line that does not end in them or finds no room, and the bytes of the answers
-abbrev pub reached : List ℕ → List ℕ → Next
-reached text progress =
-    let from = getD progress 0 0 in
-    record { from = from; end = from + position newline (drop from text); filled = getD progress 1 0 }
+pub record LinesRun (text entry exit out₀ out progress : List ℕ) : Type 0 where
+  pub walked : Walked text entry exit out₀ out 0 (getD progress 0 0) (getD progress 1 0)
+  pub used-is : getD progress 0 0 + position newline (drop (getD progress 0 0) text) ≡ used (meaning entry) (length out₀) 0 [] text

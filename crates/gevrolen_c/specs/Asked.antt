@@ -11,7 +11,7 @@ use Rattle.network_layout.specs.declared.Committed.{Committed}
 use Rattle.network_layout.specs.declared.Lined.{Lined}
 use Rattle.network_layout.specs.declared.Tabled.{Tabled}
 use Rattle.network_readers.specs.Readers.{padded}
-use Rattle.network_layout.specs.Promises.{Filled}
+use Rattle.lists.specs.Lists.{Filled}
 use Rattle.history_file.specs.declared.Found.{Found}
 use Rattle.history_file.specs.File.{trailerSize}
 

@@ -5,7 +5,7 @@ use network_layout::Committed;
 use network_layout::Lined;
 use network_layout::Report;
 use network_layout::Tabled;
-use timestamp::Order;
+use timestamp_order::Order;
 use timestamp::Timestamp;
 ghost use mathlib.Core.Path.{_≡_};
 ghost use mathlib.Core.Bool.{cond};
@@ -14,7 +14,7 @@ ghost use Prim.Native.Nat.{_+_, _-_, _<_};
 ghost use lib.ListN.{length, take, drop};
 ghost use lib.Dec.{eqb};
 ghost use Rattle.limits.specs.Limits.{opsMost, itemsMost};
-ghost use Rattle.timestamp.specs.Timestamp.{stampOf};
+ghost use Rattle.timestamp.specs.Value.{stampOf};
 ghost use Rattle.timestamp.specs.InWords.{stampSize, stampWords};
 ghost use Rattle.site.specs.InWords.{opsSize};
 ghost use Rattle.history_file.specs.File.{trailerSize};
@@ -157,7 +157,7 @@ pub fn order_number(found: Order) -> i32
 pub fn part_size(b: &[u8]) -> usize
     ensures { λ r. ⌜ r ≡ length (partAnswered (now (b .entry))) ⌝ }
 {
-    let part = history::read(b);
+    let part = history::part(b);
     part.len()
 }
 

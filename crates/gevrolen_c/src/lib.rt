@@ -8,7 +8,7 @@ ghost use mathlib.Core.Path.{_≡_};
 ghost use mathlib.Core.List.{[], map};
 ghost use lib.ListN.{getD, drop};
 ghost use Rattle.timestamp.specs.InWords.{stampIn, stampWords};
-ghost use Rattle.timestamp.specs.Order.{order};
+ghost use Rattle.timestamp_order.specs.Order.{order};
 ghost use Rattle.protocol.specs.Network.{noStamp};
 ghost use Rattle.protocol.specs.Questions.{table as tableOf, stamp as stampOf, line as lineOf};
 ghost use Rattle.protocol.specs.Calls.{setUp, commit, dummy, epoch, deliver, schedule, ask};
@@ -19,8 +19,7 @@ ghost use Rattle.network_readers.specs.Readers.{stampAnswer};
 ghost use Rattle.history_file.specs.Promises.{exportOf, stepNumbered, stepOf};
 ghost use Rattle.script_notation.specs.Parse.{parse};
 ghost use Rattle.script_notation.specs.Answers.{Replied};
-ghost use Rattle.console_lines.specs.Promises.{Ended};
-ghost use Rattle.gevrolen_c.specs.Answers.{committedWords, dummiedWords, scheduledWords, Answered, operationOf, tableWords, lineWords, orderNumber, FileRead, RecordLaid, reached};
+ghost use Rattle.gevrolen_c.specs.Answers.{committedWords, dummiedWords, scheduledWords, Answered, operationOf, tableWords, lineWords, orderNumber, FileRead, RecordLaid, LinesRun};
 
 // The words of the header's structs.
 const STAMP: usize = timestamp::WORDS;
@@ -242,8 +241,9 @@ pub extern "C" fn gevrolen_run(
     answers: &mut [u8],
     progress: &mut [usize; 2],
 )
-    ensures { λ _. ⌜ Ended (now (text .entry)) (now (state .entry)) (now (state .exit)) (now (answers .entry)) (now (answers .exit)) 0 (reached (now (text .entry)) (now (progress .exit))) ⌝ }
+    ensures { λ _. ⌜ LinesRun (now (text .entry)) (now (state .entry)) (now (state .exit)) (now (answers .entry)) (now (answers .exit)) (now (progress .exit)) ⌝ }
 {
-    let given = console_lines::lines(text, state, answers, 0);
+    let formed = network::well_shaped(state);
+    let given = console_lines::lines(text, state, formed, answers, 0);
     *progress = [given.from, given.filled];
 }

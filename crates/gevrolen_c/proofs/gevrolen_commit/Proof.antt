@@ -16,14 +16,16 @@ commit-gathered-requires c κs =
     gathered-few (map operationOf (c .before .before .args .operations .now)) (g .result) (g .ensures)
 
 put-committed-requires : tie.Need-put-committed-requires
-put-committed-requires c κs = search needs
+put-committed-requires c κs =
+    let g = c .before .before in
+    record { sized = search needs; filled = c .commit-gathered .ensures (map operationOf (g .before .before .args .operations .now)) (g .gather .ensures) .filled }
 
 returns : tie.Need-returns
 returns c =
     let ws = c .before .before .before .before .before .args .operations .now in
     let e = c .before .before .commit-gathered .ensures in
     let said = c .put-committed .ensures in
-    committed-call _ _ _ _ _ _ _ (e .0 (map operationOf ws) (c .before .before .before .before .gather .ensures)) _ _ (said .0) (said .1)
+    committed-call _ _ _ _ _ _ _ (e (map operationOf ws) (c .before .before .before .before .gather .ensures) .performed) _ _ (said .0) (said .1)
 
 pub gevrolen-commit-spec : {M : Type 1} → statement M
 gevrolen-commit-spec =

@@ -14,7 +14,7 @@ returns : tie.Need-returns
 returns c =
     let e = c .before .before .commit .ensures in
     let said = c .put-committed .ensures in
-    committed-call _ _ _ _ _ _ _ (e .0) _ _ (said .0) (said .1)
+    committed-call _ _ _ _ _ _ _ (e .performed) _ _ (said .0) (said .1)
 
 pub gevrolen-commit-lists-spec : {M : Type 1} → statement M
 gevrolen-commit-lists-spec = tie.close (tie.spec commit-requires put-committed-requires returns)

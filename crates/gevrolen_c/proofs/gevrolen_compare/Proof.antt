@@ -2,9 +2,9 @@
 use mathlib.Core.Path.{ap, ap₂, _∙_}
 use mir.Syntax.{w32}
 use mir.ValLaws.{toZ-ofZ}
-use Rattle.timestamp.specs.declared.Order.{Order}
-use Rattle.timestamp.specs.Timestamp.{Stamp}
-use Rattle.timestamp.specs.Order.{order}
+use Rattle.timestamp_order.specs.declared.Order.{Order}
+use Rattle.timestamp_order.specs.Timestamp.{Stamp}
+use Rattle.timestamp_order.specs.Order.{order}
 use Rattle.gevrolen_c.specs.Answers.{orderNumber}
 use borrow.Author.Needs.{needs}
 use Rattle.gevrolen_c.proofs.gevrolen_compare.Statement.{statement}

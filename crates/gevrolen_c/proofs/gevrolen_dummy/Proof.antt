@@ -11,7 +11,7 @@ put-stamp-requires : tie.Need-put-stamp-requires
 put-stamp-requires c κs = search needs
 
 returns : tie.Need-returns
-returns c = dummied-answer _ _ _ _ _ _ _ (c .before .before .dummy .ensures .0) _ (c .put-stamp .ensures)
+returns c = dummied-answer _ _ _ _ _ _ _ (c .before .before .dummy .ensures .performed) _ (c .put-stamp .ensures)
 
 pub gevrolen-dummy-spec : {M : Type 1} → statement M
 gevrolen-dummy-spec = tie.close (tie.spec dummy-requires put-stamp-requires returns)

@@ -11,7 +11,7 @@ put-scheduled-requires : tie.Need-put-scheduled-requires
 put-scheduled-requires c κs = search needs
 
 returns : tie.Need-returns
-returns c = scheduled-answer _ _ _ _ _ _ _ (c .before .before .schedule .ensures .0) _ (c .put-scheduled .ensures)
+returns c = scheduled-answer _ _ _ _ _ _ _ (c .before .before .schedule .ensures .performed) _ (c .put-scheduled .ensures)
 
 pub gevrolen-schedule-spec : {M : Type 1} → statement M
 gevrolen-schedule-spec = tie.close (tie.spec schedule-requires put-scheduled-requires returns)

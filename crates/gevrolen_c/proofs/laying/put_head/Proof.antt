@@ -5,7 +5,7 @@ use Prim.Native.Nat.{ℕ, _+_, _-_}
 use native.Mathlib.Omega.{arith}
 use lib.ListN.{set}
 use Rattle.words.specs.Words.{laid}
-use Rattle.timestamp.specs.Timestamp.{stampOf}
+use Rattle.timestamp.specs.Value.{stampOf}
 use Rattle.timestamp.specs.InWords.{stampWords}
 use lib.Seq.{drop-drop}
 use Rattle.gevrolen_c.proofs.AnswerLaws.{head-laid}

@@ -7,7 +7,7 @@ use lib.ListN.{length, drop, length-map}
 use Rattle.words.specs.Words.{put, part}
 use Rattle.words.proofs.Parts.{part-length}
 use Rattle.words.proofs.Walks.{overlaid-same}
-use Rattle.timestamp.specs.Timestamp.{stampOf}
+use Rattle.timestamp.specs.Value.{stampOf}
 use Rattle.timestamp.specs.InWords.{stampWords}
 use Rattle.site.specs.InWords.{opsIn, opsSize}
 use Rattle.limits.specs.Limits.{opsMost}

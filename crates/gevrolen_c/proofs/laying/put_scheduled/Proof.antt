@@ -5,7 +5,7 @@ use Prim.Native.Nat.{ℕ, _-_}
 use native.Mathlib.Omega.{arith}
 use lib.ListN.{length, set}
 use Rattle.words.specs.Words.{put}
-use Rattle.timestamp.specs.Timestamp.{stampOf}
+use Rattle.timestamp.specs.Value.{stampOf}
 use Rattle.timestamp.specs.InWords.{stampWords}
 use Rattle.gevrolen_c.proofs.AnswerLaws.{first-behind}
 use borrow.Author.Needs.{needs}

@@ -1,7 +1,7 @@
 -- `put_stamp` lays all 18 words.
 use mathlib.Core.Path.{sym, _∙_}
 use Rattle.words.proofs.Walks.{overlaid-same}
-use Rattle.timestamp.specs.Timestamp.{stampOf}
+use Rattle.timestamp.specs.Value.{stampOf}
 use Rattle.timestamp.specs.InWords.{stampWords}
 use borrow.Author.Needs.{needs}
 use Rattle.gevrolen_c.proofs.laying.put_stamp.Statement.{statement}
