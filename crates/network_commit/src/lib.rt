@@ -6,6 +6,7 @@ use lines::Message;
 use network_layout::Committed;
 use network_layout::RECORD_COUNT;
 use network_layout::WORDS;
+pub use operations::op_words;
 use site::OPERATIONS;
 use timestamp::Timestamp;
 ghost use mathlib.Core.Path.{_≡_};

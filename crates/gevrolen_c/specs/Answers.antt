@@ -1,0 +1,100 @@
+-- The structs that C lends, as words: what each call writes to them, all of it on each call, zeros where it is refused.
+use mathlib.Core.Path.{_≡_}
+use mathlib.Core.Bool.{cond}
+use mathlib.Core.List.{List, [], _∷_, _++_, map}
+use Prim.Native.Nat.{ℕ, _+_, _-_, min}
+use lib.IntN.{ℤ, pos, negsuc}
+use lib.ListN.{length, getD, drop}
+use lib.Dec.{eqb}
+use mir.Val.{toZ, ofZ}
+use mir.Syntax.{w32}
+use Rattle.limits.specs.Limits.{opsMost, itemsMost}
+use Rattle.words.specs.Words.{part}
+use Rattle.timestamp.specs.declared.Order.{Order}
+use Rattle.timestamp.specs.declared.Order.the-variants.{Earlier, Equal, Later}
+use Rattle.timestamp.specs.InWords.{stampSize, stampWords}
+use Rattle.site.specs.Operations.{noOp}
+use Rattle.site.specs.InWords.{opsIn, opsSize}
+use Rattle.records.specs.Records.{Record}
+use Rattle.protocol.specs.Calls.{Call, Outcome, perform}
+use Rattle.network_layout.specs.declared.Operation.{Operation}
+use Rattle.network_layout.specs.InWords.{meaning}
+use Rattle.network_readers.specs.Readers.{padded, tableAnswer, heldAnswer, arrivedAnswer}
+use Rattle.script_notation.specs.Fields.{position}
+use Rattle.console_lines.specs.declared.Next.{Next}
+use Rattle.console_lines.specs.Lines.{newline}
+use Rattle.history_file.specs.File.{trailerSize}
+use Rattle.history_file.specs.Reading.{fileNumber, historyRead}
+use Rattle.history_file.specs.Promises.{partAnswered}
+
+-- ---- lists in places: how many, and 0 past them
+abbrev pub listed : ℕ → List ℕ → List ℕ
+listed places xs = length xs ∷ padded places 0 xs
+
+abbrev pub valueWords : List ℤ → List ℕ
+valueWords vs = map (ofZ w32) vs
+
+-- ---- the steps
+abbrev pub committedWords : Outcome → List ℕ
+committedWords o = stampWords (o .stamp) ++ listed opsMost (valueWords (o .values))
+
+abbrev pub dummiedWords : Outcome → List ℕ
+dummiedWords o = stampWords (o .stamp)
+
+abbrev pub scheduledWords : Outcome → List ℕ
+scheduledWords o = o .parent ∷ stampWords (o .stamp)
+
+-- a call on the words of a state: its number, the words of its answer, and the state afterwards, every word as it was where it is refused
+pub record Answered (call : Call) (answerWords : Outcome → List ℕ) (entry exit : List ℕ) (number : ℕ) (answer : List ℕ) : Type 0 where
+  pub number-is : number ≡ perform (meaning entry) call .number
+  pub answer-is : answer ≡ answerWords (perform (meaning entry) call)
+  pub after-is : meaning exit ≡ perform (meaning entry) call .after
+  pub kept : (number ≡ 0 → ⊥) → exit ≡ entry
+
+-- an operation of a commit in three words: a kind above 255 counts as 255, which is unknown as well
+abbrev pub operationOf : List ℕ → Operation
+operationOf w = record { kind = min (getD w 0 0) 255; item = getD w 1 0; value = toZ w32 (getD w 2 0) }
+
+-- ---- the readers
+abbrev pub tableWords : ℕ → List ℕ → List ℕ
+tableWords site w = listed itemsMost (valueWords (tableAnswer site w))
+
+abbrev pub lineWords : ℕ → ℕ → List ℕ → List ℕ
+lineWords parent child w = heldAnswer parent child w ∷ (arrivedAnswer parent child w ∷ [])
+
+-- ---- the order of two timestamps
+abbrev pub orderNumber : Order → ℤ
+orderNumber Earlier = negsuc 0
+orderNumber Equal = pos 0
+orderNumber Later = pos 1
+
+-- ---- the history file
+-- where its part starts in the buffer: before the trailer, as far as it is long
+abbrev pub startAnswered : List ℕ → ℕ
+startAnswered b = cond (eqb (fileNumber b) 0) (length b - trailerSize - length (partAnswered b)) 0
+
+abbrev pub fileWords : List ℕ → List ℕ
+fileWords b =
+    startAnswered b
+    ∷ (length (partAnswered b) ∷ (length (historyRead b .records) ∷ (historyRead b .sites ∷ (historyRead b .items ∷ []))))
+
+-- the part is that of the buffer from there on
+pub record FileRead (b : List ℕ) (number : ℕ) (answer : List ℕ) : Type 0 where
+  pub number-is : number ≡ fileNumber b
+  pub answer-is : answer ≡ fileWords b
+  pub part-is : part b (getD answer 0 0) (getD answer 1 0) ≡ partAnswered b
+
+-- a record's words: its site, how many operations it has, its timestamp, and eight places of operations
+pub record RecordLaid (r : Record) (answer : List ℕ) : Type 0 where
+  pub sized : length answer ≡ 2 + stampSize + opsSize
+  pub site-is : getD answer 0 0 ≡ r .site
+  pub count-is : getD answer 1 0 ≡ length (r .ops)
+  pub stamp-is : part answer 2 stampSize ≡ stampWords (r .stamp)
+  pub ops-are : opsIn opsMost (drop (2 + stampSize) answer) ≡ padded opsMost noOp (r .ops)
+
+-- ---- many lines
+-- how far they came: the bytes that are answered, up to the start of a line that does not end in them or finds no room, and the bytes of the answers
+abbrev pub reached : List ℕ → List ℕ → Next
+reached text progress =
+    let from = getD progress 0 0 in
+    record { from = from; end = from + position newline (drop from text); filled = getD progress 1 0 }

@@ -1,0 +1,249 @@
+// The engine for C and what calls C: each call under its name in the header, its answer laid into an array that the caller lends.
+mod laying; // laying.rt: answers laid into words
+mod operations; // operations.rt: a commit's operations, three words each
+
+use network::WORDS;
+use script::ANSWER;
+ghost use mathlib.Core.Path.{_≡_};
+ghost use mathlib.Core.List.{[], map};
+ghost use lib.ListN.{getD, drop};
+ghost use Rattle.timestamp.specs.InWords.{stampIn, stampWords};
+ghost use Rattle.timestamp.specs.Order.{order};
+ghost use Rattle.protocol.specs.Network.{noStamp};
+ghost use Rattle.protocol.specs.Questions.{table as tableOf, stamp as stampOf, line as lineOf};
+ghost use Rattle.protocol.specs.Calls.{setUp, commit, dummy, epoch, deliver, schedule, ask};
+ghost use Rattle.network_layout.specs.InWords.{meaning};
+ghost use Rattle.network_layout.specs.Promises.{Performed, Reported};
+ghost use Rattle.network_operations.specs.Gathered.{operationsCall};
+ghost use Rattle.network_readers.specs.Readers.{stampAnswer};
+ghost use Rattle.history_file.specs.Promises.{exportOf, stepNumbered, stepOf};
+ghost use Rattle.script_notation.specs.Parse.{parse};
+ghost use Rattle.script_notation.specs.Answers.{Replied};
+ghost use Rattle.console_lines.specs.Promises.{Ended};
+ghost use Rattle.gevrolen_c.specs.Answers.{committedWords, dummiedWords, scheduledWords, Answered, operationOf, tableWords, lineWords, orderNumber, FileRead, RecordLaid, reached};
+
+// The words of the header's structs.
+const STAMP: usize = timestamp::WORDS;
+
+const COMMITTED: usize = STAMP + 1 + limits::OPERATIONS_WIDE;
+
+const SCHEDULED: usize = 1 + STAMP;
+
+const LISTED: usize = 1 + limits::ITEMS_WIDE;
+
+const RECORD: usize = 2 + STAMP + site::OPERATIONS;
+
+// ---- set-up and steps
+#[no_mangle]
+pub extern "C" fn gevrolen_set_up(
+    state: &mut [u32; WORDS],
+    sites: u32,
+    items: u32,
+    primaries: &[u32],
+    masks: &[u8],
+) -> u32
+    ensures { λ r. ⌜ Performed (setUp sites items (now (primaries .entry)) (now (masks .entry))) (now (state .entry)) (now (state .exit)) r 0 noStamp [] ⌝ }
+{
+    network::set_up(state, sites, items, primaries, masks)
+}
+
+#[no_mangle]
+pub extern "C" fn gevrolen_commit(
+    state: &mut [u32; WORDS],
+    site: u32,
+    operations: &[[u32; 3]],
+    answer: &mut [u32; COMMITTED],
+) -> u32
+    ensures { λ r. ⌜ Answered (operationsCall site (map operationOf (now (operations .entry)))) committedWords (now (state .entry)) (now (state .exit)) r (now (answer .exit)) ⌝ }
+{
+    let gathered = operations::gather(operations);
+    let given = network_operations::commit_gathered(state, site, gathered);
+    laying::put_committed(answer, given)
+}
+
+#[no_mangle]
+pub extern "C" fn gevrolen_commit_lists(
+    state: &mut [u32; WORDS],
+    site: u32,
+    kinds: &[u8],
+    items: &[u32],
+    values: &[i32],
+    answer: &mut [u32; COMMITTED],
+) -> u32
+    ensures { λ r. ⌜ Answered (commit site (now (kinds .entry)) (now (items .entry)) (now (values .entry))) committedWords (now (state .entry)) (now (state .exit)) r (now (answer .exit)) ⌝ }
+{
+    let given = network::commit(state, site, kinds, items, values);
+    laying::put_committed(answer, given)
+}
+
+#[no_mangle]
+pub extern "C" fn gevrolen_dummy(
+    state: &mut [u32; WORDS],
+    site: u32,
+    answer: &mut [u32; STAMP],
+) -> u32
+    ensures { λ r. ⌜ Answered (dummy site) dummiedWords (now (state .entry)) (now (state .exit)) r (now (answer .exit)) ⌝ }
+{
+    let given = network::dummy(state, site);
+    laying::put_stamp(answer, given.stamp);
+    given.number
+}
+
+#[no_mangle]
+pub extern "C" fn gevrolen_epoch(state: &mut [u32; WORDS], site: u32, number: u32) -> u32
+    ensures { λ r. ⌜ Performed (epoch site number) (now (state .entry)) (now (state .exit)) r 0 noStamp [] ⌝ }
+{
+    network::epoch(state, site, number)
+}
+
+#[no_mangle]
+pub extern "C" fn gevrolen_deliver(state: &mut [u32; WORDS], parent: u32, child: u32) -> u32
+    ensures { λ r. ⌜ Performed (deliver parent child) (now (state .entry)) (now (state .exit)) r 0 noStamp [] ⌝ }
+{
+    network::deliver(state, parent, child)
+}
+
+#[no_mangle]
+pub extern "C" fn gevrolen_schedule(
+    state: &mut [u32; WORDS],
+    site: u32,
+    answer: &mut [u32; SCHEDULED],
+) -> u32
+    ensures { λ r. ⌜ Answered (schedule site) scheduledWords (now (state .entry)) (now (state .exit)) r (now (answer .exit)) ⌝ }
+{
+    let given = network::schedule(state, site);
+    laying::put_scheduled(answer, given.parent, given.stamp);
+    given.number
+}
+
+// ---- calls that only look
+#[no_mangle]
+pub extern "C" fn gevrolen_waiting(
+    state: &[u32; WORDS],
+    site: u32,
+    answer: &mut [u32; LISTED],
+) -> u32
+    ensures { λ r. ⌜ Reported site (now (state .entry)) r (getD (now (answer .exit)) 0 0) (drop 1 (now (answer .exit))) ⌝ }
+{
+    laying::put_report(answer, network::waiting(state, site))
+}
+
+#[no_mangle]
+pub extern "C" fn gevrolen_table(state: &[u32; WORDS], site: u32, answer: &mut [u32; LISTED]) -> u32
+    ensures { λ r. ⌜ Performed (ask (tableOf site)) (now (state .entry)) (now (state .entry)) r 0 noStamp [] × (now (answer .exit) ≡ tableWords site (now (state .entry))) ⌝ }
+{
+    laying::put_table(answer, network::table(state, site))
+}
+
+#[no_mangle]
+pub extern "C" fn gevrolen_stamp(state: &[u32; WORDS], site: u32, answer: &mut [u32; STAMP]) -> u32
+    ensures { λ r. ⌜ Performed (ask (stampOf site)) (now (state .entry)) (now (state .entry)) r 0 noStamp [] × (now (answer .exit) ≡ stampWords (stampAnswer site (now (state .entry)))) ⌝ }
+{
+    let given = network::stamp(state, site);
+    laying::put_stamp(answer, given.stamp);
+    given.number
+}
+
+#[no_mangle]
+pub extern "C" fn gevrolen_line(
+    state: &[u32; WORDS],
+    parent: u32,
+    child: u32,
+    answer: &mut [u32; 2],
+) -> u32
+    ensures { λ r. ⌜ Performed (ask (lineOf parent child)) (now (state .entry)) (now (state .entry)) r 0 noStamp [] × (now (answer .exit) ≡ lineWords parent child (now (state .entry))) ⌝ }
+{
+    laying::put_line(answer, network::line(state, parent, child))
+}
+
+// -1, 0 or 1, where the first timestamp is earlier, the same or later.
+#[no_mangle]
+pub extern "C" fn gevrolen_compare(first: &[u32; STAMP], second: &[u32; STAMP]) -> i32
+    ensures { λ r. ⌜ r ≡ orderNumber (order (stampIn (now (first .entry))) (stampIn (now (second .entry)))) ⌝ }
+{
+    let a = timestamp::from_words(first);
+    let b = timestamp::from_words(second);
+    laying::order_number(a.compare(b))
+}
+
+// ---- the history file
+#[no_mangle]
+pub extern "C" fn gevrolen_export(
+    state: &[u32; WORDS],
+    buffer: &mut [u8],
+    length: &mut usize,
+) -> u32
+    ensures { λ r. ⌜ exportOf (meaning (now (state .entry))) (now (buffer .entry)) ≡ record { number = r; size = now (length .exit); buffer = now (buffer .exit) } ⌝ }
+{
+    let given = history::export(state, buffer);
+    *length = given.length;
+    given.number
+}
+
+#[no_mangle]
+pub extern "C" fn gevrolen_read(buffer: &[u8], answer: &mut [usize; 5]) -> u32
+    ensures { λ r. ⌜ FileRead (now (buffer .entry)) r (now (answer .exit)) ⌝ }
+{
+    let given = history::check(buffer);
+    let size = laying::part_size(buffer);
+    let start = laying::part_start(given.number, buffer.len(), size);
+    *answer = [
+        start,
+        size,
+        words::wide(given.records),
+        words::wide(given.sites),
+        words::wide(given.items),
+    ];
+    given.number
+}
+
+#[no_mangle]
+pub extern "C" fn gevrolen_record(buffer: &[u8], number: usize, answer: &mut [u32; RECORD]) -> u32
+    ensures { λ r. ⌜ (r ≡ stepNumbered (now (buffer .entry)) number .number) × RecordLaid (stepNumbered (now (buffer .entry)) number .found) (now (answer .exit)) ⌝ }
+{
+    let given = history::record(buffer, number);
+    laying::put_record(answer, given);
+    given.number
+}
+
+#[no_mangle]
+pub extern "C" fn gevrolen_record_from(
+    part: &[u8],
+    place: usize,
+    sites: u32,
+    items: u32,
+    answer: &mut [u32; RECORD],
+    next: &mut usize,
+) -> u32
+    ensures { λ r. ⌜ (r ≡ stepOf (now (part .entry)) place sites items .number) × RecordLaid (stepOf (now (part .entry)) place sites items .found) (now (answer .exit)) × (now (next .exit) ≡ stepOf (now (part .entry)) place sites items .next) ⌝ }
+{
+    let given = history::record_from(part, place, sites, items);
+    laying::put_record(answer, given);
+    *next = given.next;
+    given.number
+}
+
+// ---- scripts
+#[no_mangle]
+pub extern "C" fn gevrolen_script(
+    state: &mut [u32; WORDS],
+    text: &[u8],
+    answer: &mut [u8; ANSWER],
+) -> usize
+    ensures { λ r. ⌜ Replied (parse (now (text .entry))) (now (state .entry)) (now (state .exit)) (now (answer .entry)) (now (answer .exit)) r ⌝ }
+{
+    script::line(text, state, answer)
+}
+
+#[no_mangle]
+pub extern "C" fn gevrolen_run(
+    state: &mut [u32; WORDS],
+    text: &[u8],
+    answers: &mut [u8],
+    progress: &mut [usize; 2],
+)
+    ensures { λ _. ⌜ Ended (now (text .entry)) (now (state .entry)) (now (state .exit)) (now (answers .entry)) (now (answers .exit)) 0 (reached (now (text .entry)) (now (progress .exit))) ⌝ }
+{
+    let given = console_lines::lines(text, state, answers, 0);
+    *progress = [given.from, given.filled];
+}
