@@ -105,8 +105,7 @@ class Pair:
     def __init__(self):
         self.network = gevrolen.Network()
         self.engine = model.Engine()
-        self.seen = collections.Counter()  # calls by name and number
-        self.count = 0
+        self.seen = collections.Counter()  # how many calls of each name had each number
 
     def words(self):
         return array.array("I", bytes(self.network))
@@ -118,7 +117,6 @@ class Pair:
     def play(self, call, thorough=True):
         """Makes a call on both and compares; the meaning of the words after an accepted step only where that is asked for."""
         name, arguments = call[0], call[1:]
-        self.count += 1
         if name in ("poke", "state", "noise", "copy"):
             return self.load(getattr(self, name)(*arguments))
         before = bytes(self.network)
@@ -315,7 +313,7 @@ def run(seed, pair, journal):
 def runs(seconds, seed, path):
     """Runs until the time is up. What differs is told in words, else nothing; the last run's seed and calls stand in the file."""
     until = time.monotonic() + seconds
-    seen, calls, first = collections.Counter(), 0, seed
+    seen, first = collections.Counter(), seed
     while time.monotonic() < until:
         pair = Pair()
         with open(path, "w") as journal:
@@ -325,9 +323,8 @@ def runs(seconds, seed, path):
             except Difference as difference:
                 return str(difference)
         seen += pair.seen
-        calls += pair.count
         seed += 1
-    print("%d calls in %d runs: the library and the model agree" % (calls, seed - first), flush=True)
+    print("%d calls in %d runs: the library and the model agree" % (sum(seen.values()), seed - first), flush=True)
     missing = set(range(26)) - {number for _, number in seen}
     if missing and seconds >= 30:
         return "no call answered %s: the runs do not reach what they should" % sorted(missing)
