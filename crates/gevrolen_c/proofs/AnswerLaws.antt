@@ -219,7 +219,7 @@ record-laid g s e few ys a size ops is =
       sized = omega (arith, size);
       site-is = e .site-is;
       count-is = e .count-is;
-      stamp-is = ap stampWords (e .stamp-is);
+      stamp-is = ap stampWords (e .stamp-is .means);
       ops-are = ops ∙ fields;
     })
 

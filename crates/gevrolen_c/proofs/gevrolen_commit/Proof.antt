@@ -17,8 +17,8 @@ commit-gathered-requires c κs =
 
 put-committed-requires : tie.Need-put-committed-requires
 put-committed-requires c κs =
-    let g = c .before .before in
-    record { sized = search needs; filled = c .commit-gathered .ensures (map operationOf (g .before .before .args .operations .now)) (g .gather .ensures) .filled }
+    let g = c .before .before .before in
+    record { sized = search needs; filled = c .before .commit-gathered .ensures (map operationOf (g .before .args .operations .now)) (g .gather .ensures) .filled }
 
 returns : tie.Need-returns
 returns c =

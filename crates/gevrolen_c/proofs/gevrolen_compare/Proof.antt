@@ -26,7 +26,7 @@ returns : tie.Need-returns
 returns c =
     toZ-ofZ w32 _ (record { sfits = c .order-number .ok })
     ∙ c .order-number .ensures
-    ∙ ap orderNumber (c .before .compare .ensures ∙ ap₂ {C = Order} (λ (s t : Stamp). order s t) (c .before .before .before .before .from-words .ensures) (c .before .before .from-words2 .ensures))
+    ∙ ap orderNumber (c .before .compare .ensures ∙ ap₂ {C = Order} (λ (s t : Stamp). order s t) (c .before .before .before .before .from-words .ensures .means) (c .before .before .from-words2 .ensures .means))
 
 pub gevrolen-compare-spec : {M : Type 1} → statement M
 gevrolen-compare-spec =

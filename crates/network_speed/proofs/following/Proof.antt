@@ -10,8 +10,8 @@ Inv-loop file part at₀ sum₀ i₀ at sum i = i ≤ 256
 abbrev μ-loop : tie.MeasureT-loop
 μ-loop file part at₀ sum₀ i₀ at sum i = 256 - i
 
-read-requires : tie.Need-read-requires Inv-loop μ-loop
-read-requires c κs = search needs
+part-requires : tie.Need-part-requires Inv-loop μ-loop
+part-requires c κs = search needs
 
 loop-holds : tie.Need-loop-holds Inv-loop μ-loop
 loop-holds c = search needs
@@ -43,7 +43,7 @@ following-spec =
     (tie.spec
     Inv-loop
     μ-loop
-    read-requires
+    part-requires
     loop-holds
     record-from-requires
     digest-requires
