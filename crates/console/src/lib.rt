@@ -28,7 +28,7 @@ pub struct Run {
 pub fn run_on(state: &mut [u32; WORDS], from: i32, out: i32) -> bool
     ensures { λ r. ⌜ Ran (now (state .entry)) (now (state .exit)) ⌝ }
 {
-    let mut block = [0u8; 65536];
+    let mut block = [0u8; 57344];
     let mut answers = [0u8; 65536];
     let mut at = begun(state);
     // Nothing says that an input ends, so the turns are counted down, from a number that no run uses up.

@@ -11,7 +11,7 @@ use Rattle.console.proofs.run_on.Statement.{statement}
 use Rattle.console.proofs.run_on.Tie as tie
 
 abbrev Inv-loop : tie.InvT-loop
-Inv-loop state₀ from out block₀ answers₀ at₀ turns₀ state block answers at turns = Went [] state₀ state at × (length block ≡ 65536) × (length answers ≡ 65536)
+Inv-loop state₀ from out block₀ answers₀ at₀ turns₀ state block answers at turns = Went [] state₀ state at × (length block ≡ 57344) × (length answers ≡ 65536)
 
 abbrev μ-loop : tie.MeasureT-loop
 μ-loop state₀ from out block₀ answers₀ at₀ turns₀ state block answers at turns = turns
