@@ -1,39 +1,18 @@
--- A line in words: how many messages it holds, how many have arrived, and 16 places of a name and a timestamp.
+-- A line in words: how many messages it holds, how many have arrived, and 16 places of a message.
+use mathlib.Core.Bool.{Bool, _&&_}
 use mathlib.Core.Path.{_≡_}
-use mathlib.Core.Bool.{Bool, cond, _&&_, _||_}
 use mathlib.Core.List.{List, map}
 use Prim.Native.Nat.{ℕ, _+_, _*_}
 use lib.ListN.{length, take, getD}
-use lib.Dec.{ltb, leb}
-use Rattle.words.specs.Words.{part, chunks}
+use lib.Dec.{leb}
+use Rattle.limits.specs.Limits.{heldMost}
 use Rattle.lists.specs.Lists.{every}
-use Rattle.timestamp.specs.Value.{stampOf, PlainValue}
-use Rattle.timestamp.specs.InWords.{stampIn, stampSize, stampRange}
-use Rattle.lines.specs.declared.Message.{Message as MessageValue}
-use Rattle.lines.specs.Lines.{Message, commit, dummy, nameOf, ownStamp, Line}
-use Rattle.limits.specs.Limits.{heldMost, recordsMost}
+use Rattle.words.specs.Words.{part, chunks}
+use Rattle.messages.specs.declared.Message.{Message as MessageValue}
+use Rattle.messages.specs.Messages.{commit}
+use Rattle.messages.specs.InWords.{messageSize, messageIn, messageRange, PlainMessage}
+use Rattle.lines.specs.Lines.{Line}
 
-abbrev pub messageSize : ℕ
-messageSize = 1 + stampSize
-
-abbrev pub messageIn : List ℕ → Message
-messageIn w = cond (ltb (getD w 0 0) recordsMost) (commit (getD w 0 0)) (dummy (stampIn (part w 1 stampSize)))
-
--- a dummy's words say at most eight tuples
-abbrev pub messageRange : List ℕ → Bool
-messageRange w = ltb (getD w 0 0) recordsMost || stampRange (part w 1 stampSize)
-
--- what a value of the code means
-abbrev pub messageOf : MessageValue → Message
-messageOf m = cond (ltb (m .name) recordsMost) (commit (m .name)) (dummy (stampOf (m .stamp)))
-
--- the value of a message: its name, 256 of every dummy, and its own timestamp, plain
-pub record PlainMessage (m : Message) (v : MessageValue) : Type 0 where
-  pub means : messageOf v ≡ m
-  pub name-is : v .name ≡ nameOf m
-  pub stamp-is : PlainValue (ownStamp m) (v .stamp)
-
--- ---- the line
 -- where its messages start, and the words of all of them
 abbrev pub boxesAt : ℕ
 boxesAt = 2

@@ -8,10 +8,11 @@ use lib.ListN.{length, getD, set, take, replicate}
 use Rattle.words.specs.Words.{part, put, overlaid, Stepped}
 use Rattle.words.proofs.Parts.{part-length, lent-part, lent-put, lent-size}
 use Rattle.timestamp_order.specs.Timestamp.{Stamp}
-use Rattle.site.specs.Operations.{Op}
+use Rattle.site_operations.specs.Operations.{Op}
 use Rattle.site.specs.Site.{Site}
-use Rattle.site.specs.InWords.{siteIn, siteRange, siteSize, opsIn, opSize, opsSize, OpsLaid}
-use Rattle.site.proofs.Laws.{front-laid}
+use Rattle.site.specs.InWords.{siteIn, siteRange, siteSize}
+use Rattle.site_operations.specs.InWords.{opsIn, opSize, opsSize, OpsLaid}
+use Rattle.site_operations.proofs.Laws.{front-laid}
 use Rattle.limits.specs.Limits.{opsMost, sitesMost}
 use Rattle.lines.specs.Lines.{Line, noLine}
 use Rattle.lines.specs.InWords.{lineIn, lineRange, lineSize}

@@ -1,6 +1,6 @@
 // Which message a schedule takes: its number, and of the parents' oldest messages the earliest.
-use timestamp::Order;
 use timestamp::Timestamp;
+use timestamp_order::Order;
 ghost use mathlib.Core.Path.{_≡_};
 ghost use Prim.Native.Nat.{_+_};
 ghost use Rattle.timestamp.specs.Value.{stampOf, PlainValue};
@@ -102,7 +102,7 @@ fn better(state: &[u32], mask: u32, p: u32, j: u32, best: Head) -> Head
 fn earlier(a: Timestamp, b: Timestamp) -> bool
     ensures { λ r. ⌜ r ≡ isEarlier (order (stampOf a) (stampOf b)) ⌝ }
 {
-    match a.compare(b) {
+    match timestamp_comparison::compare(a, b) {
         Order::Earlier => true,
         Order::Equal => false,
         Order::Later => false,

@@ -3,14 +3,13 @@ use limits::ITEMS_WIDE;
 use limits::SITES;
 use network_layout::Report;
 use network_layout::WORDS;
-use site::operations;
-use site::operations::WRITE;
+use site_operations::WRITE;
 ghost use mathlib.Core.Path.{_≡_};
 ghost use lib.ListN.{length, getD};
 ghost use Rattle.lists.specs.Lists.{any};
-ghost use Rattle.site.specs.Operations.{writesItem};
-ghost use Rattle.site.specs.InWords.{opAt, opsIn};
-ghost use Rattle.lines.specs.Lines.{commit};
+ghost use Rattle.site_operations.specs.Operations.{writesItem};
+ghost use Rattle.site_operations.specs.InWords.{opAt, opsIn};
+ghost use Rattle.messages.specs.Messages.{commit};
 ghost use Rattle.protocol.specs.Network.{noRecord};
 ghost use Rattle.protocol.specs.Waiting.{isWaiting};
 ghost use Rattle.network_layout.specs.Layout.{stateSize};
@@ -146,8 +145,8 @@ fn writes_item(ops: &[u32], n: usize, item: u32) -> bool
 fn is_write_of(ops: &[u32], k: usize, item: u32) -> bool
     ensures { λ r. ⌜ r ≡ writesItem item (opAt (now (ops .entry)) k) ⌝ }
 {
-    if operations::kind(ops, k) != WRITE {
+    if site_operations::kind(ops, k) != WRITE {
         return false;
     }
-    operations::item(ops, k) == item
+    site_operations::item(ops, k) == item
 }

@@ -15,13 +15,13 @@ use Rattle.words.proofs.Walks.{overlaid-same}
 use Rattle.lists.proofs.Every.{every-false, every-next, every-done}
 use Rattle.timestamp_order.specs.Timestamp.{Stamp, room}
 use Rattle.timestamp_order.specs.Order.{byNumber}
-use Rattle.timestamp.specs.InWords.{stampIn, stampSize, stampRange, stampWords, stampShaped}
+use Rattle.timestamp_words.specs.InWords.{stampIn, stampSize, stampRange, stampWords, stampShaped}
 use Rattle.timestamp_order.specs.Made.{madeBy}
-use Rattle.timestamp.proofs.Words.{stamp-front, words-back, words-length}
-use Rattle.site.specs.Operations.{Op}
-use Rattle.site.specs.InWords.{opIn, opAt, opsIn, opsSize}
+use Rattle.timestamp_words.proofs.Words.{stamp-front, words-back, words-length}
+use Rattle.site_operations.specs.Operations.{Op}
+use Rattle.site_operations.specs.InWords.{opIn, opAt, opsIn, opsSize}
 use Rattle.limits.specs.Limits.{opsMost}
-use Rattle.site.proofs.Laws.{ops-at, ops-length}
+use Rattle.site_operations.proofs.Laws.{ops-at, ops-length}
 use Rattle.records.specs.Records.{opFits, recordFits}
 use Rattle.records.specs.InWords.{stampAt, opsAt, opsWords, recordSize, recordIn, recordRange, Written}
 

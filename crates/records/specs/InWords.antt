@@ -7,8 +7,8 @@ use lib.ListN.{length, getD}
 use lib.Dec.{leb}
 use Rattle.words.specs.Words.{part}
 use Rattle.timestamp_order.specs.Timestamp.{Stamp}
-use Rattle.timestamp.specs.InWords.{stampIn, stampSize, stampRange}
-use Rattle.site.specs.InWords.{opsIn, opsSize}
+use Rattle.timestamp_words.specs.InWords.{stampIn, stampSize, stampRange}
+use Rattle.site_operations.specs.InWords.{opsIn, opsSize}
 use Rattle.limits.specs.Limits.{opsMost}
 use Rattle.records.specs.Records.{Record}
 

@@ -1,7 +1,6 @@
 // A record of the history in words of a lent slice: written, read, and tested for shape.
 use limits::OPERATIONS_WIDE;
-use site::operations;
-use site::operations::WRITE;
+use site_operations::WRITE;
 use timestamp::Timestamp;
 ghost use mathlib.Core.Path.{_≡_};
 ghost use mathlib.Core.Bool.{_&&_};
@@ -11,7 +10,7 @@ ghost use lib.Dec.{eqb};
 ghost use Rattle.lists.specs.Lists.{every};
 ghost use Rattle.timestamp.specs.Value.{stampOf, PlainValue};
 ghost use Rattle.timestamp_order.specs.Order.{byNumber};
-ghost use Rattle.site.specs.InWords.{opAt, opsIn};
+ghost use Rattle.site_operations.specs.InWords.{opAt, opsIn};
 ghost use Rattle.limits.specs.Limits.{opsMost};
 ghost use Rattle.records.specs.Records.{recordFits, opFits};
 ghost use Rattle.records.specs.InWords.{recordIn, opsWords, recordRange, recordSize, Written};
@@ -23,9 +22,9 @@ const COUNT: usize = SITE + 1;
 
 const STAMP: usize = COUNT + 1;
 
-pub const OPERATIONS: usize = STAMP + timestamp::WORDS;
+pub const OPERATIONS: usize = STAMP + timestamp_words::WORDS;
 
-pub const WORDS: usize = OPERATIONS + site::OPERATIONS;
+pub const WORDS: usize = OPERATIONS + site_operations::OPERATIONS;
 
 // A record written: its site, its operations, as many as `n` says, and its timestamp.
 pub fn write(w: &mut [u32], site: u32, n: u32, t: Timestamp, ops: &[u32])
@@ -34,12 +33,12 @@ pub fn write(w: &mut [u32], site: u32, n: u32, t: Timestamp, ops: &[u32])
     if w.len() != WORDS {
         return;
     }
-    if ops.len() != site::OPERATIONS {
+    if ops.len() != site_operations::OPERATIONS {
         return;
     }
     w[SITE] = site;
     w[COUNT] = n;
-    t.write_to(&mut w[STAMP..OPERATIONS]);
+    timestamp_words::write_to(t, &mut w[STAMP..OPERATIONS]);
     words::copy(&mut w[OPERATIONS..WORDS], ops);
 }
 
@@ -55,9 +54,9 @@ pub fn stamp(w: &[u32]) -> Timestamp
     ensures { λ r. ⌜ PlainValue (recordIn (now (w .entry)) .stamp) r ⌝ }
 {
     if w.len() < STAMP {
-        return timestamp::from_words(&[0u32]);
+        return timestamp_words::from_words(&[0u32]);
     }
-    timestamp::from_words(&w[STAMP..])
+    timestamp_words::from_words(&w[STAMP..])
 }
 
 // How many operations a record has: eight at most.
@@ -103,7 +102,7 @@ pub fn shaped(w: &[u32], sites: u32, items: u32) -> bool
     if sites <= site {
         return false;
     }
-    if !timestamp::made_by(&w[STAMP..OPERATIONS], site) {
+    if !timestamp_words::made_by(&w[STAMP..OPERATIONS], site) {
         return false;
     }
     operations_fit(&w[OPERATIONS..WORDS], words::wide(n), items)
@@ -127,8 +126,8 @@ fn operations_fit(ops: &[u32], n: usize, items: u32) -> bool
 fn operation_fits(ops: &[u32], i: usize, items: u32) -> bool
     ensures { λ r. ⌜ r ≡ opFits items (opAt (now (ops .entry)) i) ⌝ }
 {
-    if WRITE < operations::kind(ops, i) {
+    if WRITE < site_operations::kind(ops, i) {
         return false;
     }
-    operations::item(ops, i) < items
+    site_operations::item(ops, i) < items
 }

@@ -3,7 +3,7 @@ use mathlib.Core.List.{List}
 use Prim.Native.Nat.{ℕ}
 use lib.IntN.{ℤ}
 use Rattle.timestamp_order.specs.Timestamp.{Stamp, withEpoch, appendedOrSame, raisedOrSame, ownSite, ownCount}
-use Rattle.site.specs.Operations.{Op, worked}
+use Rattle.site_operations.specs.Operations.{Op, worked}
 
 -- a site. Its own number is the site of its timestamp's last tuple.
 pub record Site : Type 0 where

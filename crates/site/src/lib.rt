@@ -1,9 +1,6 @@
 // One site on a part of the state that is its own: the words of its timestamp, then its table of signed values, a word each.
-pub mod operations; // operations.rt: what a commit's operations read and write
-
 use limits::ITEMS_WIDE;
-pub use operations::OPERATION;
-pub use operations::OPERATIONS;
+use site_operations::OPERATIONS;
 use timestamp::Epoch;
 use timestamp::Timestamp;
 ghost use mathlib.Core.Path.{_≡_};
@@ -12,11 +9,12 @@ ghost use Prim.Native.Nat.{min};
 ghost use lib.ListN.{length};
 ghost use Rattle.timestamp.specs.Value.{stampOf, PlainValue};
 ghost use Rattle.site.specs.Site.{dummied, atEpoch, received};
-ghost use Rattle.site.specs.InWords.{siteIn, siteRange, siteSize, opsIn, Changed, Committed};
+ghost use Rattle.site.specs.InWords.{siteIn, siteRange, siteSize, Changed, Committed};
+ghost use Rattle.site_operations.specs.InWords.{opsIn};
 ghost use Rattle.limits.specs.Limits.{opsMost};
 
 // Where the table starts, and the words of a site.
-const TABLE: usize = timestamp::WORDS;
+const TABLE: usize = timestamp_words::WORDS;
 
 pub const WORDS: usize = TABLE + ITEMS_WIDE;
 
@@ -24,7 +22,7 @@ pub const WORDS: usize = TABLE + ITEMS_WIDE;
 pub fn stamp(part: &[u32]) -> Timestamp
     ensures { λ r. ⌜ PlainValue (siteIn (now (part .entry)) .stamp) r ⌝ }
 {
-    timestamp::from_words(part)
+    timestamp_words::from_words(part)
 }
 
 // A commit: the operations as the history keeps them, 0 past the last; the table after their writes, the own count one higher.
@@ -34,8 +32,8 @@ pub fn commit(part: &mut [u32], ops: &[u32], n: usize) -> [u32; OPERATIONS]
     if part.len() != WORDS {
         return [0u32; OPERATIONS];
     }
-    let done = operations::record(&part[TABLE..WORDS], ops, n);
-    operations::write(&mut part[TABLE..WORDS], ops, n);
+    let done = site_operations::record(&part[TABLE..WORDS], ops, n);
+    site_operations::write(&mut part[TABLE..WORDS], ops, n);
     put_stamp(part, stamp(part).raise());
     done
 }
@@ -63,7 +61,7 @@ pub fn receive(part: &mut [u32], ops: &[u32], n: usize, t: Timestamp)
     ensures { λ r. ⌜ Changed (now (part .entry)) (now (part .exit)) (received (opsIn (min n opsMost) (now (ops .entry))) (stampOf t)) ⌝ }
 {
     if part.len() == WORDS {
-        operations::write(&mut part[TABLE..WORDS], ops, n);
+        site_operations::write(&mut part[TABLE..WORDS], ops, n);
         let own = stamp(part).own();
         let count = own.count;
         put_stamp(part, t.append(own.site, count));
@@ -75,5 +73,5 @@ fn put_stamp(part: &mut [u32], t: Timestamp)
     requires { ⌜ length (now part) ≡ siteSize ⌝ }
     ensures { λ r. ⌜ (siteIn (now (part .exit)) ≡ record { table = siteIn (now (part .entry)) .table; stamp = stampOf t }) × (siteRange (now (part .exit)) ≡ true) ⌝ }
 {
-    t.write_to(&mut part[0..TABLE]);
+    timestamp_words::write_to(t, &mut part[0..TABLE]);
 }

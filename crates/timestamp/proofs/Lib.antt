@@ -1,4 +1,2 @@
 pub mod Value
 pub mod Plain
-pub mod Words
-pub mod Shaped

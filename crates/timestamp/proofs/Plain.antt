@@ -1,21 +1,21 @@
 -- Plain values: made of eight places, kept by the three ways to a new timestamp, and equal where they mean the same.
-use mathlib.Core.Path.{_≡_, refl, sym, ap, ap₂, subst, _∙_}
+use mathlib.Core.Path.{_≡_, refl, sym, ap, ap₂, _∙_}
 use mathlib.Core.List.{List, [], _∷_, _++_, map, map-append}
 use Prim.Native.Nat.{ℕ, suc, _+_, _-_, _≤_, _<_}
 use native.Mathlib.Omega.{arith}
 use native.Mathlib.Numerals.{add-one}
 use lib.ListN.{length, take, set, getD, length-map}
 use lib.Seq.{take-suc, take-suc-set, length-take-le}
-use Rattle.lists.specs.Lists.{Filled, spell}
+use Rattle.lists.specs.Lists.{spell}
 use Rattle.lists.proofs.Lists.{map-take, map-set, spelled}
 use Rattle.lists.proofs.Filled.{filled-set, filled-spell, filled-count, filled-places}
-use Rattle.timestamp_order.specs.Timestamp.{Pair, Stamp, noPair, room, greatest, withEpoch, appended, appendedOrSame, lastPair, ownCount, raisedLast, raised, raisedOrSame}
+use Rattle.timestamp_order.specs.Timestamp.{Pair, Stamp, noPair, room, greatest, withEpoch, appendedOrSame, lastPair, ownCount, raisedLast, raised, raisedOrSame}
 use Rattle.timestamp_order.proofs.Timestamp.{append-room, append-full, raised-snoc, raise-room, raise-full}
 use Rattle.timestamp.specs.declared.Tuple.{Tuple}
 use Rattle.timestamp.specs.declared.Epoch.{Epoch}
 use Rattle.timestamp.specs.declared.Timestamp.{Timestamp}
 use Rattle.timestamp.specs.Value.{pairOf, stampOf, Plain, PlainValue}
-use Rattle.timestamp.proofs.Value.{pairs, noTuple, own-law, no-own-law}
+use Rattle.timestamp.proofs.Value.{pairs, noTuple, own-law}
 
 -- ---- equal timestamps are equal values
 tupleOf : Pair → Tuple

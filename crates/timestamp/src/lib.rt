@@ -1,12 +1,5 @@
 // Timestamps as values: an epoch and up to eight tuples of site and count. Each method takes one and gives a new one, which is plain.
-mod comparison; // comparison.rt: the order of timestamps
-mod in_words; // in_words.rt: a timestamp in words of a lent slice
-
-pub use in_words::WORDS;
-pub use in_words::from_words;
-pub use in_words::made_by;
 use limits::SITES_WIDE;
-pub use timestamp_order::Order;
 ghost use mathlib.Core.Path.{_≡_};
 ghost use mathlib.Core.List.{map};
 ghost use Prim.Native.Nat.{min, _≤_};

@@ -7,7 +7,7 @@ use lib.ListN.{length, take, replicate}
 use lib.Seq.{length-take-le}
 use Rattle.words.specs.Words.{overlaid}
 use Rattle.words.proofs.Parts.{part-length}
-use Rattle.site.specs.InWords.{opSize, opsSize}
+use Rattle.site_operations.specs.InWords.{opSize, opsSize}
 use Rattle.records.specs.InWords.{opsAt}
 use Rattle.network_access.proofs.AccessLaws.{record-copied}
 use borrow.Author.Needs.{needs}

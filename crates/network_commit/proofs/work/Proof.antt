@@ -7,9 +7,9 @@ use lib.ListN.{length, getD}
 use Rattle.limits.specs.Limits.{opsMost, recordsMost}
 use Rattle.timestamp.specs.Value.{stampOf, PlainValue}
 use Rattle.timestamp.proofs.Plain.{plain-as}
-use Rattle.site.specs.Operations.{worked}
+use Rattle.site_operations.specs.Operations.{worked}
 use Rattle.site.specs.Site.{committed}
-use Rattle.site.specs.InWords.{opsIn}
+use Rattle.site_operations.specs.InWords.{opsIn}
 use Rattle.records.specs.Records.{Record}
 use Rattle.protocol.specs.Network.{Network, siteAt, withSite, withRecord}
 use Rattle.protocol.specs.Steps.{recordOf}

@@ -4,7 +4,7 @@ use mathlib.Core.Bool.{Bool, _&&_}
 use Prim.Native.Nat.{ℕ}
 use lib.Dec.{eqb}
 use borrow.Author.Tests.{eq-eqb, ne-eqb}
-use Rattle.site.specs.InWords.{opAt}
+use Rattle.site_operations.specs.InWords.{opAt}
 use borrow.Author.Needs.{needs}
 use Rattle.network_waiting.proofs.is_write_of.Statement.{statement}
 use Rattle.network_waiting.proofs.is_write_of.Tie as tie

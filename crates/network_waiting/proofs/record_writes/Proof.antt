@@ -1,8 +1,8 @@
 -- `record_writes` asks the words of the record's operations.
 use mathlib.Core.Path.{ap, ap₂, _∙_}
 use Rattle.lists.specs.Lists.{any}
-use Rattle.site.specs.Operations.{writesItem}
-use Rattle.site.specs.InWords.{opsIn}
+use Rattle.site_operations.specs.Operations.{writesItem}
+use Rattle.site_operations.specs.InWords.{opsIn}
 use Rattle.records.specs.Records.{Record}
 use Rattle.records.proofs.Laws.{ops-whole}
 use borrow.Author.Needs.{needs}

@@ -4,11 +4,11 @@ use mathlib.Core.List.{[]}
 use Prim.Native.Nat.{_≤_, _-_}
 use native.Mathlib.Omega.{arith}
 use lib.ListN.{drop}
-use Rattle.site.specs.InWords.{opIn, opsIn}
-use Rattle.site.proofs.Laws.{ops-length, ops-at}
+use Rattle.site_operations.specs.InWords.{opIn, opsIn}
+use Rattle.site_operations.proofs.Laws.{ops-length, ops-at}
 use Rattle.lists.specs.Lists.{any}
 use Rattle.lists.proofs.Some.{some-true, some-next, some-done}
-use Rattle.site.specs.Operations.{writesItem}
+use Rattle.site_operations.specs.Operations.{writesItem}
 use borrow.Author.Needs.{needs}
 use Rattle.network_waiting.proofs.writes_item.Statement.{statement}
 use Rattle.network_waiting.proofs.writes_item.Tie as tie

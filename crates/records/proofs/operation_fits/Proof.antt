@@ -1,5 +1,5 @@
 -- `operation_fits` asks for the kind, then for the item.
-use Rattle.site.specs.InWords.{opAt}
+use Rattle.site_operations.specs.InWords.{opAt}
 use Rattle.records.proofs.Laws.{kind-unknown, kind-known}
 use borrow.Author.Needs.{needs}
 use Rattle.records.proofs.operation_fits.Statement.{statement}

@@ -6,7 +6,7 @@ use lib.ListN.{drop}
 use borrow.Author.Needs.{needs}
 use borrow.Author.Tests.{not-true, not-false}
 use Rattle.lists.specs.Lists.{every}
-use Rattle.site.specs.InWords.{opsIn}
+use Rattle.site_operations.specs.InWords.{opsIn}
 use Rattle.records.specs.Records.{opFits}
 use Rattle.records.proofs.Laws.{walk-false, walk-next, walk-done}
 use Rattle.records.proofs.operations_fit.Statement.{statement}

@@ -8,12 +8,14 @@ use Rattle.words.specs.Words.{put}
 use Rattle.words.proofs.Parts.{part-length}
 use Rattle.timestamp.specs.Value.{stampOf}
 use Rattle.timestamp_order.specs.Timestamp.{raisedOrSame}
-use Rattle.timestamp.specs.InWords.{stampSize}
-use Rattle.site.specs.Operations.{worked}
+use Rattle.timestamp_words.specs.InWords.{stampSize}
+use Rattle.site_operations.specs.Operations.{worked}
 use Rattle.site.specs.Site.{committed}
-use Rattle.site.specs.InWords.{siteIn, opsIn, tableSize, OpsLaid}
+use Rattle.site.specs.InWords.{siteIn, tableSize}
+use Rattle.site_operations.specs.InWords.{opsIn, OpsLaid}
 use Rattle.limits.specs.Limits.{opsMost}
-use Rattle.site.proofs.Laws.{none-laid, table-law, table-put, stepped, changed, unchanged}
+use Rattle.site.proofs.Laws.{table-law, table-put, stepped, changed, unchanged}
+use Rattle.site_operations.proofs.Laws.{none-laid}
 use borrow.Author.Needs.{needs}
 use Rattle.site.proofs.commit.Statement.{statement}
 use Rattle.site.proofs.commit.Tie as tie

@@ -3,7 +3,7 @@ use mathlib.Core.Path.{_∙_}
 use native.Mathlib.Omega.{arith}
 use Rattle.words.proofs.Parts.{part-length}
 use Rattle.timestamp.specs.Value.{stampOf}
-use Rattle.timestamp.specs.InWords.{stampSize}
+use Rattle.timestamp_words.specs.InWords.{stampSize}
 use Rattle.site.proofs.Laws.{stamp-put, stamp-range}
 use borrow.Author.Needs.{needs}
 use Rattle.site.proofs.put_stamp.Statement.{statement}

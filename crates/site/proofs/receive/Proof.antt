@@ -6,10 +6,11 @@ use Rattle.words.specs.Words.{put}
 use Rattle.words.proofs.Parts.{part-length}
 use Rattle.timestamp_order.specs.Timestamp.{Stamp, Pair, appendedOrSame, ownSite, ownCount}
 use Rattle.timestamp.specs.Value.{stampOf}
-use Rattle.timestamp.specs.InWords.{stampSize}
-use Rattle.site.specs.Operations.{worked}
+use Rattle.timestamp_words.specs.InWords.{stampSize}
+use Rattle.site_operations.specs.Operations.{worked}
 use Rattle.site.specs.Site.{received}
-use Rattle.site.specs.InWords.{siteIn, opsIn, tableSize}
+use Rattle.site.specs.InWords.{siteIn, tableSize}
+use Rattle.site_operations.specs.InWords.{opsIn}
 use Rattle.limits.specs.Limits.{opsMost}
 use Rattle.site.proofs.Laws.{table-put, stepped, changed, unchanged}
 use borrow.Author.Needs.{needs}

@@ -1,0 +1,82 @@
+-- One message: what is written of it is read back, its name, and its value.
+use mathlib.Core.Path.{_≡_, refl, sym, ap, ap₂, _∙_}
+use mathlib.Core.Bool.{Bool, true, false, cond, _||_}
+use mathlib.Core.List.{List}
+use Prim.Native.Nat.{ℕ, _-_, _≤_, _<_, min}
+use native.Mathlib.Omega.{arith}
+use lib.ListN.{length, getD, set, length-set}
+use lib.Seq.{getD-set-same}
+use lib.Dec.{ltb}
+use borrow.Author.Tests.{lt-ltb, le-ltb, le-leb, ltb-true, ltb-false}
+use Rattle.words.specs.Words.{part, put, overlaid}
+use Rattle.words.proofs.Parts.{part-length, put-length, put-here, put-getD-below}
+use Rattle.words.proofs.Walks.{overlaid-same}
+use Rattle.timestamp_order.specs.Timestamp.{Stamp, noStamp, room}
+use Rattle.timestamp.specs.declared.Timestamp.{Timestamp}
+use Rattle.timestamp.specs.Value.{PlainValue}
+use Rattle.timestamp_words.specs.InWords.{stampIn, stampSize, stampRange, stampWords}
+use Rattle.timestamp_words.proofs.Words.{words-back, words-length}
+use Rattle.messages.specs.declared.Message.{Message as MessageValue}
+use Rattle.messages.specs.Messages.{commit, dummy, nameOf}
+use Rattle.limits.specs.Limits.{recordsMost}
+use Rattle.messages.specs.InWords.{messageSize, messageIn, messageRange, PlainMessage}
+
+-- ---- in words
+or-true : (b : Bool) → (b || true) ≡ true
+or-true true = refl
+or-true false = refl
+
+module _ (w : List ℕ) (size : length w ≡ messageSize) (name : ℕ) (s : Stamp) (few : length (s .tuples) ≤ room) (ys : List ℕ) (is : ys ≡ overlaid (part (set w 0 name) 1 stampSize) (stampWords s)) where
+  abbrev written : List ℕ
+  written = put (set w 0 name) 1 stampSize ys
+
+  named-size : length (set w 0 name) ≡ messageSize
+  named-size = length-set w 0 name ∙ size
+
+  room-size : length (part (set w 0 name) 1 stampSize) ≡ stampSize
+  room-size = part-length (set w 0 name) 1 stampSize (omega (arith, named-size))
+
+  stamp-words : ys ≡ stampWords s
+  stamp-words = is ∙ overlaid-same (part (set w 0 name) 1 stampSize) (stampWords s) (words-length s ∙ sym room-size)
+
+  stamp-fits : length ys ≡ stampSize
+  stamp-fits = ap length stamp-words ∙ words-length s
+
+  pub written-length : length written ≡ length w
+  written-length = put-length (set w 0 name) 1 stampSize ys (omega (arith, named-size)) stamp-fits ∙ length-set w 0 name
+
+  written-name : getD written 0 0 ≡ name
+  written-name = put-getD-below (set w 0 name) 1 stampSize ys (omega (arith, named-size)) stamp-fits 0 (omega arith) ∙ getD-set-same w 0 name 0 (omega arith)
+
+  written-stamp : part written 1 stampSize ≡ stampWords s
+  written-stamp = put-here (set w 0 name) 1 stampSize ys (omega (arith, named-size)) stamp-fits ∙ stamp-words
+
+  pub written-message : messageIn written ≡ cond (ltb name recordsMost) (commit name) (dummy s)
+  written-message =
+      ap₂ (λ (k : ℕ) (t : Stamp). cond (ltb k recordsMost) (commit k) (dummy t)) written-name (ap stampIn written-stamp ∙ words-back s few)
+
+  pub written-range : messageRange written ≡ true
+  unfolding stampWords
+  written-range = rw (ap stampRange written-stamp, le-leb (length (s .tuples)) room few) (or-true (ltb (getD written 0 0) recordsMost))
+
+-- ---- its name
+named-by : (x : ℕ) (s : Stamp) → min x recordsMost ≡ nameOf (cond (ltb x recordsMost) (commit x) (dummy s))
+named-by x s = go (ltb x recordsMost) refl
+  where
+    go : (b : Bool) → ltb x recordsMost ≡ b → min x recordsMost ≡ nameOf (cond (ltb x recordsMost) (commit x) (dummy s))
+    go true h = rw h (omega (arith, ltb-true x recordsMost h))
+    go false h = rw h (omega (arith, ltb-false x recordsMost h))
+
+pub name-in : (w : List ℕ) → min (getD w 0 0) recordsMost ≡ nameOf (messageIn w)
+name-in w = named-by (getD w 0 0) (stampIn (part w 1 stampSize))
+
+-- ---- as a value
+pub commit-value : (k : ℕ) (t : Timestamp) → k < recordsMost → PlainValue noStamp t → PlainMessage (commit k) (record { name = k; stamp = t })
+commit-value k t h v = record { means = rw (lt-ltb k recordsMost h); name-is = refl; stamp-is = v }
+
+module _ (w : List ℕ) (name : ℕ) (is : name ≡ getD w 0 0) where
+  pub value-commit : name < recordsMost → (v : MessageValue) → PlainMessage (commit name) v → PlainMessage (messageIn w) v
+  value-commit h v p = rw (lt-ltb (getD w 0 0) recordsMost (omega arith), ← is) p
+
+  pub value-dummy : recordsMost ≤ name → (t : Timestamp) → PlainValue (stampIn (part w 1 stampSize)) t → PlainMessage (messageIn w) (record { name = recordsMost; stamp = t })
+  value-dummy h t p = rw (le-ltb (getD w 0 0) recordsMost (omega arith)) (record { means = ap dummy (p .means); name-is = refl; stamp-is = p })

@@ -1,0 +1,42 @@
+-- `from_words` reads the epoch, the number of tuples and the eight places.
+use mathlib.Core.Path.{_∙_}
+use Rattle.timestamp.proofs.Plain.{plain-as}
+use Rattle.timestamp_words.proofs.Words.{in-law}
+use borrow.Author.Needs.{needs}
+use Rattle.timestamp_words.proofs.from_words.Statement.{statement}
+use Rattle.timestamp_words.proofs.from_words.Tie as tie
+
+word-requires : tie.Need-word-requires
+word-requires c κs = search needs
+
+word-requires-2 : tie.Need-word-requires-2
+word-requires-2 c κs = search needs
+
+wide-requires : tie.Need-wide-requires
+wide-requires c κs = search needs
+
+tuples-in-requires : tie.Need-tuples-in-requires
+tuples-in-requires c κs = search needs
+
+plain-requires : tie.Need-plain-requires
+plain-requires c κs = search needs
+
+returns : tie.Need-returns
+returns c =
+    let q = c .before in
+    let d = q .before .before in
+    plain-as
+    (in-law (d .before .before .before .args .w .now) (record { 0 = d .before .word .result }) (q .before .wide .result) (q .tuples-in .result)
+    (d .before .word .ensures) (q .before .wide .ensures ∙ d .word2 .ensures) (q .tuples-in .ensures))
+    (c .plain .ensures)
+
+pub from-words-spec : {M : Type 1} → statement M
+from-words-spec =
+    tie.close
+    (tie.spec
+    word-requires
+    word-requires-2
+    wide-requires
+    tuples-in-requires
+    plain-requires
+    returns)
