@@ -29,6 +29,12 @@ messages-length w = length-map (boxesIn w) messageIn ∙ boxes-length w
 
 -- what it says of itself
 module _ (w : List ℕ) (n : ℕ) (is : n ≡ getD w 0 0) where
+  pub held-few : n < heldMost → n ≡ min (getD w 0 0) heldMost
+  held-few h = omega arith
+
+  pub held-many : heldMost ≤ n → heldMost ≡ min (getD w 0 0) heldMost
+  held-many h = omega arith
+
   pub counted-many : heldMost < n → false ≡ lineCounted w
   unfolding lineCounted
   counted-many h = sym (rw (← is, lt-leb n heldMost h))

@@ -39,11 +39,11 @@ pub fn arrived(l: &[u32]) -> usize
 pub fn counted(l: &[u32]) -> bool
     ensures { λ r. ⌜ r ≡ lineCounted (now (l .entry)) ⌝ }
 {
-    let n = words::word(l, HELD);
-    if MESSAGES < n {
+    let said = words::word(l, HELD);
+    if MESSAGES < said {
         return false;
     }
-    words::word(l, ARRIVED) <= n
+    words::word(l, ARRIVED) <= said
 }
 
 // The oldest message, its name 256 where it is a dummy; the name 0 where there is none, or the slice is no line.

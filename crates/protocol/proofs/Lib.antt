@@ -1,3 +1,4 @@
+pub mod Examples
 pub mod Times
 pub mod Places
 pub mod Allowed
@@ -20,4 +21,3 @@ pub mod SetUp
 pub mod Follows
 pub mod Theorem
 pub mod Beside
-pub mod Examples

@@ -15,6 +15,7 @@ use Rattle.site.specs.InWords.{tableSize}
 use Rattle.site_operations.proofs.Laws.{work-ops}
 use Rattle.records.specs.Records.{Record}
 use Rattle.lists.specs.Lists.{keep, upTo}
+use Rattle.lists.specs.Sorting.{sorted}
 use Rattle.protocol.specs.Run.{Turn, numbered, comesFirst, inTurn, after, run, startTable, find, shown, valueAt}
 use Rattle.protocol.proofs.Times.{Times, times}
 use Rattle.protocol.proofs.Values.{touches, wrote, lastFrom, lastValue, recordAt, untouched}
@@ -50,6 +51,10 @@ module _ (x : ℕ) where
   last-turns v cs = last-writers v (commits cs) ∙ ap (lastFrom x v) (sym (map-keep (λ c. c .commit) writer cs))
 
 -- ---- the writers of an item were made by rising timestamp
+-- the run takes the commits sorted by the places given
+in-turn-is : (place : ℕ → ℕ) (h : List Record) → inTurn place h ≡ sorted (comesFirst place) (numbered 0 h)
+in-turn-is place h = refl
+
 abbrev pub WritersRise : (ℕ → ℕ) → ℕ → List Record → Type 0
 WritersRise place x h =
     (k m : ℕ) → k < m → m < length h → touches x (recordAt h k .ops) ≡ true → touches x (recordAt h m .ops) ≡ true → IsEarlier place (recordAt h k .stamp) (recordAt h m .stamp)
@@ -68,7 +73,8 @@ module _ (place : ℕ → ℕ) (apart : (a b : ℕ) → place a ≡ place b → 
       let rising = chain-number (λ r s. writer x r ≡ true → writer x s ≡ true → notLater (orderBy place (r .stamp) (s .stamp)) ≡ true) 0 h (λ k m a b e f. ap notLater (rise k m a b e f)) in
       keep-turn writes passes (inTurn place h)
       ∙ ap (keep passes)
-      (keep-sorted first (turns-along place apart) (turns-either place apart) writes (numbered 0 h)
+      (ap (keep writes) (in-turn-is place h)
+      ∙ keep-sorted first (turns-along place apart) (turns-either place apart) writes (numbered 0 h)
       ∙ sorted-same first (keep writes (numbered 0 h)) (chain-keep writes (InOrder first) (numbered 0 h) rising))
       ∙ keep-turn passes writes (numbered 0 h)
 

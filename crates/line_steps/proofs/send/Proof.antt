@@ -1,4 +1,5 @@
 -- `send` puts a message behind those held and counts it.
+use native.Mathlib.Omega.{arith}
 use Rattle.words.proofs.Steps.{not-stepped}
 use Rattle.lines.specs.Lines.{sentOrSame}
 use Rattle.lines.specs.InWords.{lineSize, lineIn, lineRange}
@@ -18,7 +19,7 @@ same-length : tie.Need-same-length
 same-length c = search needs
 
 returns-2 : tie.Need-returns-2
-returns-2 c = full-step (c .before .before .before .before .before .args .l .now) (c .before .held-word .result) (c .before .held-word .ensures) (c .if2 .taken) (messageOf (c .before .before .before .before .before .args .m))
+returns-2 c = full-step (c .before .before .before .before .before .args .l .now) (c .before .held-word .result) (c .before .held-word .ensures) (omega (arith, c .if2 .taken)) (messageOf (c .before .before .before .before .before .args .m))
 
 wide-requires : tie.Need-wide-requires
 wide-requires c κs = search needs

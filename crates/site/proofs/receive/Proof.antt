@@ -1,11 +1,11 @@
 -- `receive` writes the table, reads the own tuple, and adds it to the message's timestamp.
-use mathlib.Core.Path.{ap, _∙_}
+use mathlib.Core.Path.{_≡_, ap, _∙_}
 use Prim.Native.Nat.{min}
 use native.Mathlib.Omega.{arith}
 use Rattle.words.specs.Words.{put}
 use Rattle.words.proofs.Parts.{part-length}
 use Rattle.timestamp_order.specs.Timestamp.{Stamp, Pair, appendedOrSame, ownSite, ownCount}
-use Rattle.timestamp.specs.Value.{stampOf}
+use Rattle.timestamp.specs.Value.{stampOf, pairOf}
 use Rattle.timestamp_words.specs.InWords.{stampSize}
 use Rattle.site_operations.specs.Operations.{worked}
 use Rattle.site.specs.Site.{received}
@@ -56,11 +56,13 @@ returns c =
     let ys = q .write .last .0 in
     let os = opsIn (min (A .n) opsMost) (A .ops .now) in
     let t = stampOf (A .t) in
+    let own = pairOf (o .own .result) in
+    let added : stampOf (p .before .append .result) ≡ appendedOrSame t (own .site) (own .count) = p .before .append .ensures .means in
     changed w (received os t) (p .put-stamp .last .0) size
     (stepped (siteIn w) (siteIn (put w stampSize tableSize ys)) (siteIn (p .put-stamp .last .0)) (worked (siteIn w .table) os .table)
     (λ (s : Stamp). appendedOrSame t (ownSite s) (ownCount s)) (stampOf (k .stamp .result)) (stampOf (p .before .append .result))
     (table-put w size ys os (q .write .kept .0 ∙ part-length w stampSize tableSize (omega arith)) (q .write .ensures))
-    (k .stamp .ensures .means) (p .before .append .ensures .means ∙ ap (λ (x : Pair). appendedOrSame t (x .site) (x .count)) (o .own .ensures)) (p .put-stamp .ensures .0)) (p .put-stamp .ensures .1)
+    (k .stamp .ensures .means) (added ∙ ap (λ (x : Pair). appendedOrSame t (x .site) (x .count)) (o .own .ensures)) (p .put-stamp .ensures .0)) (p .put-stamp .ensures .1)
 
 returns-2 : tie.Need-returns-2
 returns-2 c =

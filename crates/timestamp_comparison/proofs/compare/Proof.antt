@@ -1,5 +1,5 @@
 -- `compare` answers what the order says: epochs, then tuples.
-use mathlib.Core.Path.{ap₂, _∙_}
+use mathlib.Core.Path.{_≡_, ap₂, _∙_}
 use Rattle.timestamp_order.specs.Order.{thenBy, orderBy}
 use borrow.Author.Needs.{needs}
 use Rattle.timestamp_comparison.proofs.compare.Statement.{statement}
@@ -16,7 +16,10 @@ then-by-requires c κs = search needs
 
 returns : tie.Need-returns
 unfolding orderBy
-returns c = c .then-by .ensures ∙ ap₂ thenBy (c .before .before .compare-epochs .ensures) (c .before .tuples-order .ensures)
+returns c =
+    let s = c .before in
+    let by-both : c .then-by .result ≡ thenBy (s .before .compare-epochs .result) (s .tuples-order .result) = c .then-by .ensures in
+    by-both ∙ ap₂ thenBy (s .before .compare-epochs .ensures) (s .tuples-order .ensures)
 
 pub compare-spec : {M : Type 1} → statement M
 compare-spec = tie.close (tie.spec compare-epochs-requires tuples-order-requires then-by-requires returns)

@@ -1,4 +1,5 @@
 -- `bits` gives the word of a signed value: the value itself, or its distance below the largest word.
+use native.Mathlib.Omega.{arith}
 use Rattle.words.proofs.Signed.{bits-cast, bits-plus, bits-sub, bits-cast-2, bits-room, bits-minus}
 use Rattle.words.proofs.bits.Statement.{statement}
 use Rattle.words.proofs.bits.Tie as tie
@@ -16,7 +17,7 @@ cast-result-2 : tie.Need-cast-result-2
 cast-result-2 c = bits-cast-2 (c .before .args .v) (c .before .fits .v) (c .if1 .left)
 
 sub-result-2 : tie.Need-sub-result-2
-sub-result-2 c = bits-room (c .before .args .v) (c .before .fits .v) (c .if1 .left)
+sub-result-2 c = omega (arith, bits-room (c .before .args .v) (c .before .fits .v) (c .if1 .left))
 
 returns-2 : tie.Need-returns-2
 returns-2 c = bits-minus (c .before .args .v) (c .before .fits .v) (c .if1 .left)

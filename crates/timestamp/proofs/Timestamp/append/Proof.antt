@@ -14,15 +14,6 @@ returns c =
     let A = d .before .args in
     append-full-law (stampOf (A .self)) (d .plain .result) (d .plain .ensures) (A .site) (A .count .0) (c .if1 .taken)
 
-mul-t9 : tie.Need-mul-t9
-mul-t9 c = search needs
-
-element-set-from-t : tie.Need-element-set-from-t
-element-set-from-t c = search needs
-
-add-t : tie.Need-add-t
-add-t c = search needs
-
 returns-2 : tie.Need-returns-2
 returns-2 c =
     let d = c .before in
@@ -30,4 +21,12 @@ returns-2 c =
     append-law (stampOf (A .self)) (d .plain .result) (d .plain .ensures) (record { site = A .site; count = A .count }) (c .if1 .left)
 
 pub append-spec : {M : Type 1} → statement M
-append-spec = tie.close (tie.spec plain-requires returns mul-t9 element-set-from-t add-t returns-2)
+append-spec =
+    tie.close
+    (tie.spec
+    plain-requires
+    returns
+    (λ c. search needs)
+    (λ c. search needs)
+    (λ c. search needs)
+    returns-2)
