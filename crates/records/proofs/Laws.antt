@@ -248,6 +248,14 @@ all-coded-same (o ∷ os) e =
     let q = and-true (opFits itemsMost o) (every (opFits itemsMost) os) e in
     ap₂ (λ (x : Op) (xs : List Op). x ∷ xs) (coded-same o (q .0)) (all-coded-same os (q .1))
 
+-- what fits so many items fits more
+pub fits-more : (items more : ℕ) → items ≤ more → (os : List Op) → every (opFits items) os ≡ true → every (opFits more) os ≡ true
+fits-more items more h [] e = refl
+fits-more items more h (o ∷ os) e =
+    let q = and-true (opFits items o) (every (opFits items) os) e in
+    let k = and-true (leb (o .kind) 1) (ltb (o .item) items) (q .0) in
+    rw (k .0, lt-ltb (o .item) more (omega (arith, ltb-true (o .item) items (k .1)))) (fits-more items more h os (q .1))
+
 -- ---- the test of the codes
 -- of codes below 128 those of the items are those that fit
 fits-by-code : (items c v : ℕ) → c < codesMost → ltb c (codesMost - (codesMost - 2 * items)) ≡ opFits items (opOfCode c v)
