@@ -29,7 +29,7 @@ use Rattle.site.specs.InWords.{opIn, opAt, opsIn, opsSize, OpsLaid, Put}
 use Rattle.site.proofs.Laws.{ops-at, ops-length, next-laid}
 use Rattle.limits.specs.Limits.{itemsMost, opsMost}
 use Rattle.records.specs.Records.{opFits, recordFits}
-use Rattle.records.specs.InWords.{stampAt, codesAt, valuesAt, recordSize, packedSize, codesMost, opOfCode, opsOf, codeNumber, codesIn, placesIn, countIn, coded, codeOf, recordIn, recordRange, Packed, Written}
+use Rattle.records.specs.InWords.{stampAt, codesAt, valuesAt, recordSize, packedSize, codesMost, opOfCode, opsOf, joined, codeNumber, codesIn, placesIn, countIn, coded, codeOf, recordIn, recordRange, Packed, Written}
 
 -- ---- read
 module _ (w : List ℕ) where
@@ -123,11 +123,11 @@ packed ops w size valued low high l g =
     let second : getD (set u 1 high) 1 0 ≡ high = getD-set-same u 1 high 0 (omega (arith, length-set w 0 low)) in
     record {
       codes-are = λ i h.
-        ap₂ (λ (a b : ℕ). getD (bytes opsMost (a + b * 4294967296)) i 0) first second
-        ∙ bytes-of-two (λ j. codeOf (opAt ops j)) (λ j. omega arith) low high l g i h;
+          ap₂ (λ (a b : ℕ). getD (bytes opsMost (joined a b)) i 0) first second
+          ∙ bytes-of-two (λ j. codeOf (opAt ops j)) (λ j. omega arith) low high l g i h;
       values-are = λ i h.
-        ap (toZ w32) (getD-set-other u 1 (2 + i) high 0 (λ z. omega arith) ∙ getD-set-other w 0 (2 + i) low 0 (λ z. omega arith))
-        ∙ valued i h;
+          ap (toZ w32) (getD-set-other u 1 (2 + i) high 0 (λ z. omega arith) ∙ getD-set-other w 0 (2 + i) low 0 (λ z. omega arith))
+          ∙ valued i h;
     }
 
 -- ---- written: the site and the number of operations, then the timestamp, then the operations
@@ -185,7 +185,7 @@ module _ (w : List ℕ) (size : length w ≡ recordSize) (site n : ℕ) where
 
       filled-code : (i : ℕ) → i < opsMost → getD (codesIn filled) i 0 ≡ codeOf (opAt ops i)
       filled-code i h =
-          ap₂ (λ (a b : ℕ). getD (bytes opsMost (a + b * 4294967296)) i 0) (filled-word 0 (omega arith)) (filled-word 1 (omega arith))
+          ap₂ (λ (a b : ℕ). getD (bytes opsMost (joined a b)) i 0) (filled-word 0 (omega arith)) (filled-word 1 (omega arith))
           ∙ are .codes-are i h
 
       filled-place : (i : ℕ) → i < opsMost → getD (placesIn filled) i noOp ≡ coded (opAt ops i)
@@ -203,18 +203,18 @@ module _ (w : List ℕ) (size : length w ≡ recordSize) (site n : ℕ) where
           let sized′ : length (map coded (opsIn m ops)) ≡ m = length-map (opsIn m ops) coded ∙ ops-length m ops in
           ext-getD noOp (take m (placesIn filled)) (map coded (opsIn m ops)) (sized ∙ sym sized′)
           (λ i h.
-            let j : i < m = omega (arith, sized) in
-            getD-take m (placesIn filled) i noOp j
-            ∙ filled-place i (omega arith)
-            ∙ sym (List·getD-map coded (opsIn m ops) i (opIn []) ∙ ap coded (ops-at m ops i j)))
+          let j : i < m = omega (arith, sized) in
+          getD-take m (placesIn filled) i noOp j
+          ∙ filled-place i (omega arith)
+          ∙ sym (List·getD-map coded (opsIn m ops) i (opIn []) ∙ ap coded (ops-at m ops i j)))
 
       filled-codes : (m : ℕ) → m ≤ opsMost → every (λ c. ltb c codesMost) (take m (codesIn filled)) ≡ true
       filled-codes m few =
           let sized : length (take m (codesIn filled)) ≡ m = length-take-le m (codesIn filled) (omega (arith, bytes-length opsMost (codeNumber filled))) in
           every-all (λ c. ltb c codesMost) (take m (codesIn filled)) 0
           (λ i h.
-            let c : getD (take m (codesIn filled)) i 0 ≡ codeOf (opAt ops i) = getD-take m (codesIn filled) i 0 (omega (arith, sized)) ∙ filled-code i (omega (arith, sized)) in
-            lt-ltb (getD (take m (codesIn filled)) i 0) codesMost (omega (arith, c)))
+          let c : getD (take m (codesIn filled)) i 0 ≡ codeOf (opAt ops i) = getD-take m (codesIn filled) i 0 (omega (arith, sized)) ∙ filled-code i (omega (arith, sized)) in
+          lt-ltb (getD (take m (codesIn filled)) i 0) codesMost (omega (arith, c)))
 
       module _ (few : length (s .tuples) ≤ room) where
         filled-record : recordIn filled ≡ record { site = site; stamp = s; ops = map coded (opsIn (min n opsMost) ops) }

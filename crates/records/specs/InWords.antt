@@ -35,7 +35,7 @@ abbrev pub packedSize : ℕ
 packedSize = 2 + opsMost
 
 -- ---- operations
--- a code is twice an item, and a kind: of 64 items and two kinds below 128
+-- a code is twice an item and a kind, so those of 64 items are below 128
 abbrev pub codesMost : ℕ
 codesMost = 2 * itemsMost
 
@@ -48,8 +48,11 @@ opsOf [] vs = []
 opsOf (c ∷ cs) vs = opOfCode c (getD vs 0 0) ∷ opsOf cs (drop 1 vs)
 
 -- the two words of codes as one number, the eight codes, and the eight operations
+abbrev pub joined : ℕ → ℕ → ℕ
+joined low high = low + high * 4294967296
+
 abbrev pub codeNumber : List ℕ → ℕ
-codeNumber w = getD w codesAt 0 + getD w (codesAt + 1) 0 * 4294967296
+codeNumber w = joined (getD w codesAt 0) (getD w (codesAt + 1) 0)
 
 abbrev pub codesIn : List ℕ → List ℕ
 codesIn w = bytes opsMost (codeNumber w)
@@ -71,13 +74,13 @@ countIn w = min (getD w 1 0) opsMost
 unfoldable pub recordIn : List ℕ → Record
 recordIn w = record { site = getD w 0 0; stamp = stampIn (part w stampAt stampSize); ops = take (countIn w) (placesIn w) }
 
--- it says 1 to 8 operations, at most eight tuples, and codes that are below 128
+-- it says 1 to 8 operations, at most eight tuples, and codes of one of 64 items
 unfoldable pub recordRange : List ℕ → Bool
 recordRange w = leb 1 (getD w 1 0) && (leb (getD w 1 0) opsMost && (stampRange (part w stampAt stampSize) && every (λ c. ltb c codesMost) (take (countIn w) (codesIn w))))
 
 -- what packing operations leaves in the words of codes and values
 pub record Packed (ops exit : List ℕ) : Type 0 where
-  pub codes-are : (i : ℕ) → i < opsMost → getD (bytes opsMost (getD exit 0 0 + getD exit 1 0 * 4294967296)) i 0 ≡ codeOf (opAt ops i)
+  pub codes-are : (i : ℕ) → i < opsMost → getD (bytes opsMost (joined (getD exit 0 0) (getD exit 1 0))) i 0 ≡ codeOf (opAt ops i)
   pub values-are : (i : ℕ) → i < opsMost → toZ w32 (getD exit (2 + i) 0) ≡ opAt ops i .value
 
 -- what writing a record leaves: words of another size as they were, and so where the operations' words are of another size

@@ -52,7 +52,8 @@ fn four(ops: &[u32], i: usize) -> u32
     requires { ⌜ i < opsMost ⌝ }
     ensures { λ r. ⌜ r ≡ codeOf (opAt (now (ops .entry)) i) + 256 * (codeOf (opAt (now (ops .entry)) (i + 1)) + 256 * (codeOf (opAt (now (ops .entry)) (i + 2)) + 256 * codeOf (opAt (now (ops .entry)) (i + 3)))) ⌝ }
 {
-    code_of(ops, i) + 256 * (code_of(ops, i + 1) + 256 * (code_of(ops, i + 2) + 256 * code_of(ops, i + 3)))
+    code_of(ops, i)
+        + 256 * (code_of(ops, i + 1) + 256 * (code_of(ops, i + 2) + 256 * code_of(ops, i + 3)))
 }
 
 // The code of operation i.
