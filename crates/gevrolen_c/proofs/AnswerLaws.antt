@@ -18,9 +18,9 @@ use Rattle.words.proofs.Walks.{laid-in}
 use Rattle.words.proofs.Chunks.{chunks-length}
 use Rattle.timestamp.specs.Value.{stampOf}
 use Rattle.timestamp_order.specs.Timestamp.{Stamp}
-use Rattle.timestamp.specs.InWords.{stampWords}
-use Rattle.site.specs.Operations.{Op, noOp}
-use Rattle.site.specs.InWords.{opsIn, opsSize}
+use Rattle.timestamp_words.specs.InWords.{stampWords}
+use Rattle.site_operations.specs.Operations.{Op, noOp}
+use Rattle.site_operations.specs.InWords.{opsIn, opsSize}
 use Rattle.protocol.specs.Steps.{opsOf}
 use Rattle.protocol.specs.Calls.{Call}
 use Rattle.lists.specs.Lists.{Filled}

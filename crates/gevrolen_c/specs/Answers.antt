@@ -12,9 +12,9 @@ use Rattle.limits.specs.Limits.{opsMost, itemsMost}
 use Rattle.words.specs.Words.{part}
 use Rattle.timestamp_order.specs.declared.Order.{Order}
 use Rattle.timestamp_order.specs.declared.Order.the-variants.{Earlier, Equal, Later}
-use Rattle.timestamp.specs.InWords.{stampSize, stampWords}
-use Rattle.site.specs.Operations.{noOp}
-use Rattle.site.specs.InWords.{opsIn, opsSize}
+use Rattle.timestamp_words.specs.InWords.{stampSize, stampWords}
+use Rattle.site_operations.specs.Operations.{noOp}
+use Rattle.site_operations.specs.InWords.{opsIn, opsSize}
 use Rattle.records.specs.Records.{Record}
 use Rattle.protocol.specs.Calls.{Call, Outcome, perform}
 use Rattle.network_layout.specs.declared.Operation.{Operation}

@@ -5,8 +5,8 @@ use Prim.Native.Nat.{ℕ, suc, _+_, _≤_, _<_}
 use lib.IntN.{ℤ, pos}
 use lib.ListN.{length}
 use Rattle.limits.specs.Limits.{opsMost, itemsMost}
-use Rattle.timestamp.specs.InWords.{stampSize}
-use Rattle.site.specs.InWords.{opsSize}
+use Rattle.timestamp_words.specs.InWords.{stampSize}
+use Rattle.site_operations.specs.InWords.{opsSize}
 use Rattle.network_layout.specs.declared.Committed.{Committed}
 use Rattle.network_layout.specs.declared.Lined.{Lined}
 use Rattle.network_layout.specs.declared.Tabled.{Tabled}

@@ -15,19 +15,19 @@ ghost use lib.ListN.{length, take, drop};
 ghost use lib.Dec.{eqb};
 ghost use Rattle.limits.specs.Limits.{opsMost, itemsMost};
 ghost use Rattle.timestamp.specs.Value.{stampOf};
-ghost use Rattle.timestamp.specs.InWords.{stampSize, stampWords};
-ghost use Rattle.site.specs.InWords.{opsSize};
+ghost use Rattle.timestamp_words.specs.InWords.{stampSize, stampWords};
+ghost use Rattle.site_operations.specs.InWords.{opsSize};
 ghost use Rattle.history_file.specs.File.{trailerSize};
 ghost use Rattle.history_file.specs.Promises.{Step, Gives, partAnswered};
 ghost use Rattle.gevrolen_c.specs.Answers.{listed, valueWords, orderNumber, RecordLaid};
 ghost use Rattle.gevrolen_c.specs.Asked.{ForList, ForLine, ForTable, ForCommitted, ForRecord, InBuffer};
 
 // Where a committed answer has how many values, and a record's words its timestamp and its operations.
-const VALUES: usize = timestamp::WORDS;
+const VALUES: usize = timestamp_words::WORDS;
 
 const STAMP: usize = 2;
 
-const OPERATIONS: usize = STAMP + timestamp::WORDS;
+const OPERATIONS: usize = STAMP + timestamp_words::WORDS;
 
 // A small number as a word.
 pub fn few(n: usize) -> u32
@@ -41,7 +41,7 @@ pub fn put_stamp(w: &mut [u32], stamp: Timestamp)
     requires { ⌜ length (now w) ≡ stampSize ⌝ }
     ensures { λ r. ⌜ now (w .exit) ≡ stampWords (stampOf stamp) ⌝ }
 {
-    stamp.write_to(w);
+    timestamp_words::write_to(stamp, w);
 }
 
 // How many values there are, and the values.
@@ -102,7 +102,7 @@ pub fn put_committed(w: &mut [u32], given: Committed) -> u32
     ensures { λ r. ⌜ (r ≡ given .number) × (now (w .exit) ≡ stampWords (stampOf (given .stamp)) ++ listed opsMost (valueWords (take (given .count) (given .values)))) ⌝ }
 {
     let stamp = given.stamp;
-    let t = stamp.to_words();
+    let t = timestamp_words::to_words(stamp);
     let values = given.values;
     put_list(&mut w[VALUES..], given.count, &values);
     words::lay(w, 0, &t);
@@ -136,7 +136,7 @@ fn put_head(w: &mut [u32], site: u32, count: u32, stamp: Timestamp)
     requires { ⌜ length (now w) ≡ 2 + stampSize + opsSize ⌝ }
     ensures { λ r. ⌜ now (w .exit) ≡ site ∷ (count ∷ (stampWords (stampOf stamp) ++ drop (2 + stampSize) (now (w .entry)))) ⌝ }
 {
-    let t = stamp.to_words();
+    let t = timestamp_words::to_words(stamp);
     words::lay(w, STAMP, &t);
     words::store(w, 0, site);
     words::store(w, 1, count);

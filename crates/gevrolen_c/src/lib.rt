@@ -7,7 +7,7 @@ use script::ANSWER;
 ghost use mathlib.Core.Path.{_≡_};
 ghost use mathlib.Core.List.{[], map};
 ghost use lib.ListN.{getD, drop};
-ghost use Rattle.timestamp.specs.InWords.{stampIn, stampWords};
+ghost use Rattle.timestamp_words.specs.InWords.{stampIn, stampWords};
 ghost use Rattle.timestamp_order.specs.Order.{order};
 ghost use Rattle.protocol.specs.Network.{noStamp};
 ghost use Rattle.protocol.specs.Questions.{table as tableOf, stamp as stampOf, line as lineOf};
@@ -22,7 +22,7 @@ ghost use Rattle.script_notation.specs.Answers.{Replied};
 ghost use Rattle.gevrolen_c.specs.Answers.{committedWords, dummiedWords, scheduledWords, Answered, operationOf, tableWords, lineWords, orderNumber, FileRead, RecordLaid, LinesRun};
 
 // The words of the header's structs.
-const STAMP: usize = timestamp::WORDS;
+const STAMP: usize = timestamp_words::WORDS;
 
 const COMMITTED: usize = STAMP + 1 + limits::OPERATIONS_WIDE;
 
@@ -30,7 +30,7 @@ const SCHEDULED: usize = 1 + STAMP;
 
 const LISTED: usize = 1 + limits::ITEMS_WIDE;
 
-const RECORD: usize = 2 + STAMP + site::OPERATIONS;
+const RECORD: usize = 2 + STAMP + site_operations::OPERATIONS;
 
 // ---- set-up and steps
 #[no_mangle]
@@ -160,9 +160,9 @@ pub extern "C" fn gevrolen_line(
 pub extern "C" fn gevrolen_compare(first: &[u32; STAMP], second: &[u32; STAMP]) -> i32
     ensures { λ r. ⌜ r ≡ orderNumber (order (stampIn (now (first .entry))) (stampIn (now (second .entry)))) ⌝ }
 {
-    let a = timestamp::from_words(first);
-    let b = timestamp::from_words(second);
-    laying::order_number(a.compare(b))
+    let a = timestamp_words::from_words(first);
+    let b = timestamp_words::from_words(second);
+    laying::order_number(timestamp_comparison::compare(a, b))
 }
 
 // ---- the history file

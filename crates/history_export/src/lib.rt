@@ -9,7 +9,7 @@ ghost use mathlib.Core.Path.{_≡_};
 ghost use Prim.Native.Nat.{_+_, _*_, _≤_};
 ghost use lib.ListN.{length};
 ghost use Rattle.timestamp.specs.Value.{stampOf};
-ghost use Rattle.site.specs.InWords.{opsIn};
+ghost use Rattle.site_operations.specs.InWords.{opsIn};
 ghost use Rattle.limits.specs.Limits.{opsMost};
 ghost use Rattle.network_layout.specs.InWords.{networkIn, meaning};
 ghost use Rattle.history_file.specs.Bytes.{unitSize, joined};

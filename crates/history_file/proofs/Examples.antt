@@ -3,7 +3,7 @@ use mathlib.Core.Path.{_≡_, refl}
 use Rattle.words.specs.Words.{chunks}
 use Rattle.timestamp_order.specs.Made.{rising, madeBy}
 use Rattle.records.specs.Records.{recordFits}
-use Rattle.site.specs.Operations.{work}
+use Rattle.site_operations.specs.Operations.{work}
 use Rattle.timestamp_order.specs.Timestamp.{raisedOrSame}
 use Rattle.placement.specs.Placement.{itemNumber, isLine}
 use Rattle.protocol.specs.Steps.{setUpNumber, setUpNetwork, commitNumber, commitNetwork}

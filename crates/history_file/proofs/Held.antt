@@ -21,7 +21,7 @@ use Rattle.timestamp_order.specs.Timestamp.{Pair, noPair, room}
 use Rattle.timestamp.specs.Value.{pairOf, PlainValue}
 use Rattle.timestamp.proofs.Plain.{plain-places, plain-as}
 use Rattle.timestamp_order.specs.Order.{byNumber}
-use Rattle.site.specs.Operations.{Op, noOp}
+use Rattle.site_operations.specs.Operations.{Op, noOp}
 use Rattle.limits.specs.Limits.{opsMost}
 use Rattle.records.specs.Records.{recordFits}
 use Rattle.history_file.specs.declared.Found.{Found}

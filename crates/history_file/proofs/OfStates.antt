@@ -16,10 +16,10 @@ use Rattle.lists.specs.Lists.{every, everyFrom}
 use Rattle.lists.proofs.Every.{and-true}
 use Rattle.timestamp_order.specs.Timestamp.{Pair, Stamp, lastPair, room}
 use Rattle.timestamp_order.specs.Order.{byNumber}
-use Rattle.timestamp.specs.InWords.{pairsAt, stampIn, stampSize, stampRange}
+use Rattle.timestamp_words.specs.InWords.{pairsAt, stampIn, stampSize, stampRange}
 use Rattle.timestamp_order.specs.Made.{rising as risingOf, madeBy}
 use Rattle.timestamp_order.proofs.Made.{made-parts, made-length}
-use Rattle.site.specs.Operations.{Op}
+use Rattle.site_operations.specs.Operations.{Op}
 use Rattle.limits.specs.Limits.{opsMost}
 use Rattle.placement.specs.Placement.{itemsNumber}
 use Rattle.records.specs.Records.{opFits, recordFits}

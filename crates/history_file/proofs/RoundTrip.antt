@@ -15,7 +15,7 @@ use Rattle.words.specs.Words.{part, chunks}
 use Rattle.lists.specs.Lists.{every}
 use Rattle.timestamp_order.specs.Timestamp.{Pair, room}
 use Rattle.timestamp_order.specs.Order.{byNumber}
-use Rattle.site.specs.Operations.{Op}
+use Rattle.site_operations.specs.Operations.{Op}
 use Rattle.limits.specs.Limits.{opsMost}
 use Rattle.records.specs.Records.{Record, recordFits}
 use Rattle.history_file.specs.Bytes.{byte, unitSize, unit, joined, numberAt, padded, allZero}

@@ -13,9 +13,9 @@ use mir.ValLaws.{ofZ-toZ}
 use mir.Syntax.{w32}
 use Rattle.words.proofs.Parts.{lent-length}
 use Rattle.timestamp_order.specs.Timestamp.{Pair}
-use Rattle.site.specs.Operations.{Op}
-use Rattle.site.specs.InWords.{opIn, opsIn}
-use Rattle.site.proofs.Laws.{op-word, ops-at}
+use Rattle.site_operations.specs.Operations.{Op}
+use Rattle.site_operations.specs.InWords.{opIn, opsIn}
+use Rattle.site_operations.proofs.Laws.{op-word, ops-at}
 use Rattle.records.specs.Records.{Record}
 use Rattle.history_file.specs.Bytes.{unitSize, unit, joined}
 use Rattle.history_file.specs.File.{pairBytes, opBytes, recordBytes}

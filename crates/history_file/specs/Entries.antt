@@ -1,6 +1,6 @@
 -- The record that a value of the code stands for.
 use Rattle.timestamp.specs.Value.{stampOf}
-use Rattle.site.specs.InWords.{opsIn}
+use Rattle.site_operations.specs.InWords.{opsIn}
 use Rattle.records.specs.Records.{Record}
 use Rattle.network_layout.specs.declared.Entry.{Entry}
 

@@ -5,7 +5,7 @@ use lib.ListN.{length}
 use mir.Val.{ofZ}
 use mir.Syntax.{w32}
 use Rattle.timestamp_order.specs.Timestamp.{Pair}
-use Rattle.site.specs.Operations.{Op}
+use Rattle.site_operations.specs.Operations.{Op}
 use Rattle.records.specs.Records.{Record}
 use Rattle.protocol.specs.Network.{Network}
 use Rattle.history_file.specs.Bytes.{byte, little, unit, joined}

@@ -7,7 +7,7 @@ use Prim.Native.Nat.{ℕ, zero, suc, _+_}
 use lib.ListN.{length, getD, drop}
 use lib.Dec.{eqb, ltb, leb}
 use Rattle.timestamp.specs.Value.{PlainValue}
-use Rattle.site.specs.Operations.{Op, noOp}
+use Rattle.site_operations.specs.Operations.{Op, noOp}
 use Rattle.limits.specs.Limits.{opsMost}
 use Rattle.lists.specs.Numbers.{firstNumber, numberIf}
 use Rattle.records.specs.Records.{Record}

@@ -10,7 +10,7 @@ use Rattle.words.specs.Words.{part, chunks}
 use Rattle.lists.specs.Lists.{every, isEmpty}
 use Rattle.timestamp_order.specs.Timestamp.{Pair, room}
 use Rattle.timestamp_order.specs.Order.{byNumber}
-use Rattle.site.specs.Operations.{Op}
+use Rattle.site_operations.specs.Operations.{Op}
 use Rattle.limits.specs.Limits.{opsMost, sitesMost, itemsMost, recordsMost}
 use Rattle.lists.specs.Numbers.{firstNumber, numberIf, outside}
 use Rattle.records.specs.Records.{Record, recordFits}

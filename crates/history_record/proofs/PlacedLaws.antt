@@ -8,7 +8,7 @@ use native.Mathlib.Nat.{not-suc-le-zero}
 use lib.IntN.{ℤ}
 use lib.ListN.{length, getD, set, take}
 use Rattle.limits.specs.Limits.{opsMost}
-use Rattle.site.specs.Operations.{Op, noOp}
+use Rattle.site_operations.specs.Operations.{Op, noOp}
 use Rattle.history_file.specs.Promises.{placesFrom}
 use Rattle.history_record.specs.Placed.{Operated, Placed}
 

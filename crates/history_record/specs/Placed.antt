@@ -4,7 +4,7 @@ use mathlib.Core.List.{List}
 use Prim.Native.Nat.{ℕ}
 use lib.IntN.{ℤ}
 use Rattle.limits.specs.Limits.{opsMost}
-use Rattle.site.specs.Operations.{Op}
+use Rattle.site_operations.specs.Operations.{Op}
 use Rattle.history_file.specs.Promises.{placesFrom}
 
 pub record Operated (o : Op) (kind item : ℕ) (value : ℤ) : Type 0 where

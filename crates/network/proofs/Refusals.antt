@@ -12,7 +12,7 @@ use lib.Dec.{eqb}
 use Rattle.timestamp.specs.declared.Timestamp.{Timestamp}
 use Rattle.timestamp.specs.Value.{stampOf, Plain, PlainValue}
 use Rattle.protocol.specs.Network.{Network, noStamp, siteAt}
-use Rattle.site.specs.Operations.{valuesRead}
+use Rattle.site_operations.specs.Operations.{valuesRead}
 use Rattle.protocol.specs.Steps.{setUpNumber, setUpNetwork, opsOf, recordOf, commitNumber, commitNetwork, dummyNumber, dummyNetwork, epochNumber, epochNetwork, deliverNumber, deliverNetwork, scheduleNumber, headStamp, chosen, scheduleNetwork}
 use Rattle.protocol.specs.Questions.{questionNumber}
 use Rattle.protocol.specs.Calls.{Call, setUp, commit, dummy, epoch, deliver, schedule, ask, Outcome, refused, accepted, judged, perform}

@@ -22,7 +22,7 @@ pub use network_readers::table;
 pub use network_schedule::schedule;
 pub use network_set_up::set_up;
 pub use network_waiting::waiting;
-use site::OPERATIONS;
+use site_operations::OPERATIONS;
 ghost use mathlib.Core.Path.{_≡_};
 ghost use lib.ListN.{length, getD};
 ghost use Rattle.network_layout.specs.Layout.{stateSize};

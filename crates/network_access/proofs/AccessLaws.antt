@@ -8,9 +8,10 @@ use lib.ListN.{length, getD, set}
 use Rattle.words.specs.Words.{part, put, Stepped}
 use Rattle.words.proofs.Parts.{part-length, lent-part, lent-put, lent-size}
 use Rattle.timestamp_order.specs.Timestamp.{Stamp}
-use Rattle.site.specs.Operations.{Op}
+use Rattle.site_operations.specs.Operations.{Op}
 use Rattle.site.specs.Site.{Site}
-use Rattle.site.specs.InWords.{siteIn, siteRange, siteSize, opsIn, opsSize}
+use Rattle.site.specs.InWords.{siteIn, siteRange, siteSize}
+use Rattle.site_operations.specs.InWords.{opsIn, opsSize}
 use Rattle.limits.specs.Limits.{opsMost, sitesMost}
 use Rattle.lines.specs.Lines.{Line, noLine}
 use Rattle.lines.specs.InWords.{lineIn, lineRange, lineSize}

@@ -1,6 +1,6 @@
 // The sites, lines and records of a state by their numbers.
 use limits::SITES_WIDE;
-use lines::Message;
+use messages::Message;
 use network_layout::HISTORY;
 use network_layout::LINE;
 use network_layout::LINES;
@@ -8,19 +8,22 @@ use network_layout::RECORD;
 use network_layout::RECORD_COUNT;
 use network_layout::SITE;
 use network_layout::SITES;
-use site::OPERATIONS;
+use site_operations::OPERATIONS;
 use timestamp::GREATEST;
 use timestamp::Timestamp;
 ghost use mathlib.Core.Path.{_≡_};
 ghost use Prim.Native.Nat.{min, _≤_};
 ghost use lib.ListN.{length, getD};
 ghost use Rattle.timestamp.specs.Value.{stampOf, PlainValue};
-ghost use Rattle.site.specs.Operations.{worked};
+ghost use Rattle.site_operations.specs.Operations.{worked};
 ghost use Rattle.site.specs.Site.{committed, dummied, atEpoch, received};
-ghost use Rattle.site.specs.InWords.{siteIn, siteSize, opsIn, OpsLaid};
+ghost use Rattle.site.specs.InWords.{siteIn, siteSize};
+ghost use Rattle.site_operations.specs.InWords.{opsIn, OpsLaid};
 ghost use Rattle.limits.specs.Limits.{opsMost, heldMost};
-ghost use Rattle.lines.specs.Lines.{commit, noLine, sentOrSame, deliveredOrSame, takenOrSame};
-ghost use Rattle.lines.specs.InWords.{messageOf, PlainMessage, lineIn, lineSize};
+ghost use Rattle.lines.specs.Lines.{noLine, sentOrSame, deliveredOrSame, takenOrSame};
+ghost use Rattle.messages.specs.Messages.{commit};
+ghost use Rattle.lines.specs.InWords.{lineIn, lineSize};
+ghost use Rattle.messages.specs.InWords.{messageOf, PlainMessage};
 ghost use Rattle.records.specs.InWords.{recordIn, recordSize};
 ghost use Rattle.network_layout.specs.Layout.{stateSize, recordCount};
 ghost use Rattle.protocol.specs.Network.{lineNumber, siteAt, noRecord};
@@ -74,7 +77,7 @@ pub fn line_send(state: &mut [u32], k: usize, m: Message)
 {
     let a = LINES + k * LINE;
     let e = a + LINE;
-    lines::send(&mut state[a..e], m);
+    line_steps::send(&mut state[a..e], m);
 }
 
 pub fn line_deliver(state: &mut [u32], k: usize)
@@ -83,7 +86,7 @@ pub fn line_deliver(state: &mut [u32], k: usize)
 {
     let a = LINES + k * LINE;
     let e = a + LINE;
-    lines::deliver(&mut state[a..e]);
+    line_steps::deliver(&mut state[a..e]);
 }
 
 pub fn line_take(state: &mut [u32], k: usize)
@@ -92,7 +95,7 @@ pub fn line_take(state: &mut [u32], k: usize)
 {
     let a = LINES + k * LINE;
     let e = a + LINE;
-    lines::take(&mut state[a..e]);
+    line_steps::take(&mut state[a..e]);
 }
 
 // ---- sites

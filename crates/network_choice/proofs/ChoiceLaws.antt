@@ -19,9 +19,10 @@ use Rattle.limits.specs.Limits.{sitesMost, recordsMost}
 use Rattle.placement.specs.Masks.{bit}
 use Rattle.placement.specs.Placement.{Item, isLine, hasParents}
 use Rattle.placement.proofs.Laws.{bit-mask-of}
-use Rattle.lines.specs.declared.Message.{Message as MessageValue}
-use Rattle.lines.specs.Lines.{commit, dummy, noLine}
-use Rattle.lines.specs.InWords.{messageOf, PlainMessage}
+use Rattle.messages.specs.declared.Message.{Message as MessageValue}
+use Rattle.lines.specs.Lines.{noLine}
+use Rattle.messages.specs.Messages.{commit, dummy}
+use Rattle.messages.specs.InWords.{messageOf, PlainMessage}
 use Rattle.protocol.specs.Network.{Network, noRecord, lineNumber, messageStamp, placeOf, messageFits}
 use Rattle.protocol.specs.Steps.{noSuchSite, lacksArrived, scheduleNumber, head, headStamp, headEarlier, earlierOf, earliest}
 use Rattle.network_layout.specs.InWords.{networkIn}

@@ -1,5 +1,5 @@
 // Which message a schedule takes: its number, and of the parents' oldest messages the earliest.
-use timestamp::Order;
+use timestamp_order::Order;
 use timestamp::Timestamp;
 ghost use mathlib.Core.Path.{_≡_};
 ghost use Prim.Native.Nat.{_+_};
@@ -102,7 +102,7 @@ fn better(state: &[u32], mask: u32, p: u32, j: u32, best: Head) -> Head
 fn earlier(a: Timestamp, b: Timestamp) -> bool
     ensures { λ r. ⌜ r ≡ isEarlier (order (stampOf a) (stampOf b)) ⌝ }
 {
-    match a.compare(b) {
+    match timestamp_comparison::compare(a, b) {
         Order::Earlier => true,
         Order::Equal => false,
         Order::Later => false,

@@ -12,10 +12,11 @@ use Rattle.limits.specs.Limits.{opsMost, sitesMost, recordsMost}
 use Rattle.timestamp_order.specs.Timestamp.{Stamp}
 use Rattle.timestamp.specs.declared.Timestamp.{Timestamp}
 use Rattle.timestamp.specs.Value.{stampOf}
-use Rattle.site.specs.Operations.{Op, valuesRead}
+use Rattle.site_operations.specs.Operations.{Op, valuesRead}
 use Rattle.site.specs.Site.{Site, committed}
 use Rattle.placement.specs.Masks.{bit, maskOf}
-use Rattle.lines.specs.Lines.{Line, commit as commitMessage}
+use Rattle.lines.specs.Lines.{Line}
+use Rattle.messages.specs.Messages.{commit as commitMessage}
 use Rattle.lists.specs.Numbers.{firstNumber, numberIf}
 use Rattle.protocol.specs.Network.{Network, noStamp, noSite, siteAt, withSite, withLines, withRecord}
 use Rattle.protocol.specs.Steps.{noSuchSite, countAtMost, someLineFull, due, sentTo, opNumber, opsOf, commitCauses, wrongLists, commitNumber, recordOf, commitNetwork}

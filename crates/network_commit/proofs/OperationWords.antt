@@ -14,9 +14,9 @@ use mir.Val.{toZ, ofZ, SFits}
 use mir.ValLaws.{toZ-ofZ}
 use mir.Syntax.{w32}
 use Rattle.words.proofs.Signed.{again}
-use Rattle.site.specs.Operations.{Op, reads, valuesRead}
-use Rattle.site.specs.InWords.{opAt, opsIn, opOf}
-use Rattle.site.proofs.Laws.{ops-last}
+use Rattle.site_operations.specs.Operations.{Op, reads, valuesRead}
+use Rattle.site_operations.specs.InWords.{opAt, opsIn, opOf}
+use Rattle.site_operations.proofs.Laws.{ops-last}
 use Rattle.protocol.specs.Steps.{opsOf}
 
 -- ---- operations from the lists of their fields

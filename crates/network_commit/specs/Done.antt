@@ -10,7 +10,7 @@ use Rattle.lists.specs.Lists.{every, Filled}
 use Rattle.lists.specs.Numbers.{firstNumber}
 use Rattle.timestamp.specs.declared.Timestamp.{Timestamp}
 use Rattle.timestamp.specs.Value.{PlainValue}
-use Rattle.site.specs.Operations.{Op, valuesRead}
+use Rattle.site_operations.specs.Operations.{Op, valuesRead}
 use Rattle.site.specs.Site.{committed}
 use Rattle.placement.specs.Masks.{maskOf}
 use Rattle.records.specs.Records.{opFits}

@@ -1,9 +1,8 @@
 // What a commit's operations ask of the placement: whether each may be done, and which sites are due a message.
-use site::operations;
 ghost use mathlib.Core.Path.{_≡_};
 ghost use mathlib.Core.List.{map};
 ghost use lib.ListN.{length};
-ghost use Rattle.site.specs.InWords.{opAt, opsIn};
+ghost use Rattle.site_operations.specs.InWords.{opAt, opsIn};
 ghost use Rattle.limits.specs.Limits.{sitesMost};
 ghost use Rattle.placement.specs.Masks.{maskOf};
 ghost use Rattle.lists.specs.Numbers.{firstNumber};
@@ -63,9 +62,9 @@ fn op_number(state: &[u32], site: u32, ops: &[u32], k: usize) -> u32
     requires { ⌜ length (now state) ≡ stateSize ⌝ }
     ensures { λ r. ⌜ r ≡ opNumber (networkIn (now (state .entry)) .items) site (opAt (now (ops .entry)) k) ⌝ }
 {
-    let kind = operations::kind(ops, k);
-    let item = operations::item(ops, k);
-    if operations::WRITE < kind {
+    let kind = site_operations::kind(ops, k);
+    let item = site_operations::item(ops, k);
+    if site_operations::WRITE < kind {
         return 9;
     }
     if network_placement::item_count(state) <= item {
@@ -74,7 +73,7 @@ fn op_number(state: &[u32], site: u32, ops: &[u32], k: usize) -> u32
     if network_placement::is_owned(state, item, site) {
         return 0;
     }
-    if kind == operations::WRITE {
+    if kind == site_operations::WRITE {
         return 11;
     }
     if network_placement::is_copied(state, item, site) {

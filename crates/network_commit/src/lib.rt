@@ -2,17 +2,17 @@
 mod due; // due.rt: what operations ask of the placement
 mod operations; // operations.rt: a commit's operations in words, and the values read
 
-use lines::Message;
+use messages::Message;
 use network_layout::Committed;
 use network_layout::RECORD_COUNT;
 use network_layout::WORDS;
 pub use operations::op_words;
-use site::OPERATIONS;
+use site_operations::OPERATIONS;
 use timestamp::Timestamp;
 ghost use mathlib.Core.Path.{_≡_};
 ghost use Prim.Native.Nat.{_≤_};
 ghost use lib.ListN.{length};
-ghost use Rattle.site.specs.InWords.{opsIn};
+ghost use Rattle.site_operations.specs.InWords.{opsIn};
 ghost use Rattle.limits.specs.Limits.{opsMost};
 ghost use Rattle.lists.specs.Numbers.{firstNumber};
 ghost use Rattle.network_layout.specs.Layout.{stateSize};

@@ -1,13 +1,12 @@
 // A commit's operations: from the lent lists of their fields to words, and the values that its reads gave.
-use site::operations;
 ghost use mathlib.Core.Path.{_≡_};
 ghost use mathlib.Core.List.{[], _∷_, _++_};
 ghost use Prim.Native.Nat.{_+_, _≤_};
 ghost use lib.IntN.{pos};
 ghost use lib.ListN.{length, take, drop, getD};
 ghost use Rattle.lists.specs.Lists.{Filled};
-ghost use Rattle.site.specs.Operations.{valuesRead};
-ghost use Rattle.site.specs.InWords.{opAt, opsIn};
+ghost use Rattle.site_operations.specs.Operations.{valuesRead};
+ghost use Rattle.site_operations.specs.InWords.{opAt, opsIn};
 ghost use Rattle.limits.specs.Limits.{opsMost};
 ghost use Rattle.protocol.specs.Steps.{opsOf};
 ghost use Rattle.protocol.specs.Allowed.{ListsAllowed};
@@ -20,11 +19,11 @@ pub struct Given {
 }
 
 // The words of the operations, three each: kind, item, value.
-pub fn op_words(kinds: &[u8], items: &[u32], values: &[i32]) -> [u32; site::OPERATIONS]
+pub fn op_words(kinds: &[u8], items: &[u32], values: &[i32]) -> [u32; site_operations::OPERATIONS]
     requires { ⌜ ListsAllowed (length (now kinds)) (length (now items)) (length (now values)) ⌝ }
     ensures { λ r. ⌜ opsIn (length (now (kinds .entry))) r ≡ opsOf (now (kinds .entry)) (now (items .entry)) (now (values .entry)) ⌝ }
 {
-    let mut out = [0u32; site::OPERATIONS];
+    let mut out = [0u32; site_operations::OPERATIONS];
     let n = kinds.len();
     let mut i = 0;
     while i < n {
@@ -51,14 +50,14 @@ pub fn values_read(ops: &[u32], n: usize) -> Given
 }
 
 // Operation i, from the lists of the fields, after the i before it.
-fn op_word(out: &mut [u32; site::OPERATIONS], kinds: &[u8], items: &[u32], values: &[i32], i: usize)
+fn op_word(out: &mut [u32; site_operations::OPERATIONS], kinds: &[u8], items: &[u32], values: &[i32], i: usize)
     requires { ⌜ InLists i (length (now kinds)) (length (now items)) (length (now values)) ⌝ }
     ensures { λ r. ⌜ opsIn (i + 1) (now (out .exit)) ≡ opsIn i (now (out .entry)) ++ opsOf (getD (now (kinds .entry)) i 0 ∷ []) (getD (now (items .entry)) i 0 ∷ []) (getD (now (values .entry)) i (pos 0) ∷ []) ⌝ }
 {
     let kind = wide8(kinds[i]);
     let item = items[i];
     let v = values[i];
-    operations::put(out, i, kind, item, words::bits(v));
+    site_operations::put(out, i, kind, item, words::bits(v));
 }
 
 // The value of operation i, where it is a read, after the `count` values before it; answers how many there are then.
@@ -66,10 +65,10 @@ fn value_read(values: &mut [i32], count: usize, ops: &[u32], i: usize) -> usize
     requires { ⌜ Reading count i (length (now values)) ⌝ }
     ensures { λ r. ⌜ (r ≤ i + 1) × (take r (now (values .exit)) ≡ take count (now (values .entry)) ++ valuesRead (opAt (now (ops .entry)) i ∷ [])) × (count ≤ r) × (drop r (now (values .exit)) ≡ drop r (now (values .entry))) ⌝ }
 {
-    if operations::kind(ops, i) != operations::READ {
+    if site_operations::kind(ops, i) != site_operations::READ {
         return count;
     }
-    values[count] = words::value(operations::value(ops, i));
+    values[count] = words::value(site_operations::value(ops, i));
     count + 1
 }
 

@@ -11,7 +11,8 @@ use Rattle.site.specs.Site.{Site, dummied}
 use Rattle.placement.specs.Masks.{bit, maskOf}
 use Rattle.placement.specs.Placement.{isLine}
 use Rattle.limits.specs.Limits.{sitesMost}
-use Rattle.lines.specs.Lines.{Line, dummy as dummyMessage}
+use Rattle.lines.specs.Lines.{Line}
+use Rattle.messages.specs.Messages.{dummy as dummyMessage}
 use Rattle.protocol.specs.Network.{Network, noStamp, noSite, siteAt, withSite, withLines}
 use Rattle.protocol.specs.Steps.{noSuchSite, countAtMost, someLineFull, sentTo, dummyNumber, dummyNetwork}
 use Rattle.protocol.specs.Calls.{dummy, accepted, perform}

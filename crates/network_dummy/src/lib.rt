@@ -1,5 +1,5 @@
 // Dummy: a commit without operations, sent to every child.
-use lines::Message;
+use messages::Message;
 use network_layout::Dummied;
 use network_layout::WORDS;
 use timestamp::Timestamp;

@@ -6,7 +6,7 @@ use Prim.Native.Nat.{ℕ, _≤_, _<_}
 use native.Mathlib.Omega.{arith}
 use lib.ListN.{length}
 use borrow.Author.Tests.{lt-ltb, le-ltb, le-leb, lt-leb, eq-eqb, ne-eqb}
-use Rattle.site.specs.Operations.{Op, reads, writes}
+use Rattle.site_operations.specs.Operations.{Op, reads, writes}
 use Rattle.placement.specs.Placement.{Item, owns, copies}
 use Rattle.lists.specs.Numbers.{firstNumber, numberIf}
 use Rattle.protocol.specs.Steps.{opNumber}

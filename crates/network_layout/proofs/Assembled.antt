@@ -16,7 +16,7 @@ use Rattle.words.proofs.Parts.{part-length, part-part, put-length, put-here, pu
 use Rattle.words.proofs.Chunks.{mul-room, chunks-length, chunks-at, chunks-put, chunks-last, chunks-below}
 use Rattle.lists.proofs.Lists.{map-set}
 use Rattle.lists.proofs.Every.{and-true, every-at, every-set, every-snoc}
-use Rattle.timestamp.specs.InWords.{stampIn}
+use Rattle.timestamp_words.specs.InWords.{stampIn}
 use Rattle.site.specs.Site.{Site}
 use Rattle.site.specs.InWords.{siteIn, siteRange, siteSize}
 use Rattle.placement.specs.InWords.{itemsIn}

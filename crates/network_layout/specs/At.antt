@@ -6,7 +6,7 @@ use Prim.Native.Nat.{ℕ, _<_, _≤_}
 use lib.ListN.{length}
 use Rattle.limits.specs.Limits.{sitesMost, itemsMost, opsMost, recordsMost}
 use Rattle.lists.specs.Lists.{every}
-use Rattle.site.specs.Operations.{Op}
+use Rattle.site_operations.specs.Operations.{Op}
 use Rattle.records.specs.Records.{opFits}
 use Rattle.protocol.specs.Network.{linesMost}
 use Rattle.network_layout.specs.Layout.{siteCount, itemCount, recordCount, stateSize}

@@ -12,7 +12,8 @@ use Rattle.site.specs.Site.{Site}
 use Rattle.site.specs.InWords.{siteIn, siteRange, siteSize}
 use Rattle.placement.specs.InWords.{itemsIn}
 use Rattle.limits.specs.Limits.{sitesMost, itemsMost, recordsMost}
-use Rattle.lines.specs.Lines.{Line, noLine, Message}
+use Rattle.lines.specs.Lines.{Line, noLine}
+use Rattle.messages.specs.Messages.{Message}
 use Rattle.lines.specs.InWords.{lineIn, lineRange, lineSize}
 use Rattle.records.specs.Records.{Record}
 use Rattle.records.specs.InWords.{recordIn, recordRange, recordSize}

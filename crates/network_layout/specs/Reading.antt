@@ -1,7 +1,7 @@
 -- What the contract of reading one record says.
 use mathlib.Core.Path.{_≡_}
 use Rattle.timestamp.specs.Value.{PlainValue}
-use Rattle.site.specs.InWords.{OpsLaid}
+use Rattle.site_operations.specs.InWords.{OpsLaid}
 use Rattle.records.specs.Records.{Record}
 use Rattle.network_layout.specs.declared.Entry.{Entry}
 

@@ -72,7 +72,7 @@ pub struct Entry {
     pub site: u32,
     pub stamp: Timestamp,
     pub count: usize,
-    pub ops: [u32; site::OPERATIONS],
+    pub ops: [u32; site_operations::OPERATIONS],
 }
 
 // Where the head has how many sites, items and records there are.

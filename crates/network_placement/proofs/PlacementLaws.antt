@@ -7,7 +7,7 @@ use lib.ListN.{getD}
 use borrow.Author.Tests.{eq-eqb, ne-eqb}
 use Rattle.words.specs.Words.{part}
 use Rattle.limits.specs.Limits.{itemsMost}
-use Rattle.site.specs.Operations.{Op}
+use Rattle.site_operations.specs.Operations.{Op}
 use Rattle.placement.specs.Placement.{Item, noItem, copies}
 use Rattle.placement.specs.InWords.{itemAt, itemsIn}
 use Rattle.protocol.specs.Steps.{wantedAt}

@@ -3,7 +3,6 @@ use network_layout::ITEM_COUNT;
 use network_layout::ITEMS;
 use network_layout::SITE_COUNT;
 use network_layout::SITES;
-use site::operations;
 ghost use mathlib.Core.Path.{_≡_};
 ghost use mathlib.Core.Bool.{not};
 ghost use lib.ListN.{length};
@@ -11,7 +10,7 @@ ghost use Rattle.limits.specs.Limits.{sitesMost};
 ghost use Rattle.words.specs.Words.{part};
 ghost use Rattle.placement.specs.Masks.{maskOf};
 ghost use Rattle.placement.specs.Placement.{isLine, hasParents, owns, copies};
-ghost use Rattle.site.specs.InWords.{opAt};
+ghost use Rattle.site_operations.specs.InWords.{opAt};
 ghost use Rattle.protocol.specs.Steps.{noSuchSite, wantedAt};
 ghost use Rattle.network_layout.specs.Layout.{stateSize, siteCount, itemCount, itemsAt, itemsSize};
 ghost use Rattle.network_layout.specs.InWords.{networkIn};
@@ -101,8 +100,8 @@ pub fn is_wanted(state: &[u32], ops: &[u32], i: usize, j: u32) -> bool
     requires { ⌜ length (now state) ≡ stateSize ⌝ }
     ensures { λ r. ⌜ r ≡ wantedAt (networkIn (now (state .entry)) .items) j (opAt (now (ops .entry)) i) ⌝ }
 {
-    if operations::kind(ops, i) != operations::WRITE {
+    if site_operations::kind(ops, i) != site_operations::WRITE {
         return false;
     }
-    is_copied(state, operations::item(ops, i), j)
+    is_copied(state, site_operations::item(ops, i), j)
 }

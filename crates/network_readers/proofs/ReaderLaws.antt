@@ -13,9 +13,10 @@ use Rattle.lists.specs.Numbers.{numberIf}
 use Rattle.lists.proofs.Numbers.{none-holds, or-false}
 use Rattle.words.specs.Words.{part}
 use Rattle.words.proofs.Parts.{part-length}
-use Rattle.timestamp.specs.InWords.{stampSize}
+use Rattle.timestamp_words.specs.InWords.{stampSize}
 use Rattle.site.specs.Site.{Site}
-use Rattle.site.specs.InWords.{siteIn, siteSize, tableIn, tableSize}
+use Rattle.site.specs.InWords.{siteIn, siteSize, tableSize}
+use Rattle.site_operations.specs.InWords.{tableIn}
 use Rattle.placement.specs.Placement.{isLine}
 use Rattle.lines.specs.Lines.{noLine}
 use Rattle.protocol.specs.Network.{siteAt, lineAt, lineNumber}

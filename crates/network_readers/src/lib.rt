@@ -8,7 +8,7 @@ ghost use mathlib.Core.Path.{_≡_};
 ghost use lib.IntN.{pos};
 ghost use lib.ListN.{length, take};
 ghost use Rattle.limits.specs.Limits.{itemsMost};
-ghost use Rattle.site.specs.InWords.{tableIn};
+ghost use Rattle.site_operations.specs.InWords.{tableIn};
 ghost use Rattle.protocol.specs.Questions.{askedLine};
 ghost use Rattle.network_layout.specs.Layout.{stateSize};
 ghost use Rattle.network_layout.specs.InWords.{networkIn};
@@ -16,7 +16,7 @@ ghost use Rattle.network_layout.specs.At.{AtSite, AtNetwork, HasLine};
 ghost use Rattle.network_readers.specs.Readers.{padded, tableOf, TableAt, TableRead, StampRead, LineAt, LineRead, Values};
 
 // Where a site's words have its table.
-const TABLE: usize = timestamp::WORDS;
+const TABLE: usize = timestamp_words::WORDS;
 
 // The table of a site. It answers its number and a value for each item.
 pub fn table(state: &[u32; WORDS], site: u32) -> Tabled

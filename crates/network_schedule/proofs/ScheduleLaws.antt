@@ -11,12 +11,13 @@ use Rattle.lists.proofs.Chains.{keep-more}
 use Rattle.timestamp_order.specs.Timestamp.{Stamp}
 use Rattle.timestamp.specs.declared.Timestamp.{Timestamp}
 use Rattle.timestamp.specs.Value.{stampOf}
-use Rattle.site.specs.Operations.{Op}
+use Rattle.site_operations.specs.Operations.{Op}
 use Rattle.site.specs.Site.{received}
-use Rattle.site.specs.InWords.{opAt, opsIn}
+use Rattle.site_operations.specs.InWords.{opAt, opsIn}
 use Rattle.limits.specs.Limits.{opsMost, sitesMost}
-use Rattle.site.proofs.Laws.{ops-last}
-use Rattle.lines.specs.Lines.{Message, commit, dummy, noLine, takenOrSame}
+use Rattle.site_operations.proofs.Laws.{ops-last}
+use Rattle.lines.specs.Lines.{noLine, takenOrSame}
+use Rattle.messages.specs.Messages.{Message, commit, dummy}
 use Rattle.lines.proofs.Boxes.{take-some}
 use Rattle.protocol.specs.Network.{Network, noStamp, noRecord, siteAt, lineAt, lineNumber, withSite, withLine}
 use Rattle.protocol.specs.Steps.{scheduleNumber, head, headStamp, chosen, wantedAt, writesFor, scheduleNetwork}

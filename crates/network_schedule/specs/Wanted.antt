@@ -5,8 +5,8 @@ use Prim.Native.Nat.{ℕ, _≤_, _<_}
 use lib.ListN.{length}
 use Rattle.lists.specs.Lists.{keep}
 use Rattle.limits.specs.Limits.{opsMost}
-use Rattle.site.specs.Operations.{Op}
-use Rattle.site.specs.InWords.{opsIn}
+use Rattle.site_operations.specs.Operations.{Op}
+use Rattle.site_operations.specs.InWords.{opsIn}
 use Rattle.protocol.specs.Steps.{wantedAt}
 use Rattle.network_layout.specs.Layout.{stateSize}
 use Rattle.network_layout.specs.InWords.{networkIn}

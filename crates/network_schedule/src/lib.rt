@@ -1,7 +1,6 @@
 // Schedule: the chosen message is done at the site and taken off its line.
 use network_layout::Scheduled;
 use network_layout::WORDS;
-use site::operations;
 use timestamp::Timestamp;
 ghost use mathlib.Core.Path.{_≡_};
 ghost use mathlib.Core.List.{[], _∷_, _++_};
@@ -11,7 +10,7 @@ ghost use Rattle.lists.specs.Lists.{keep};
 ghost use Rattle.limits.specs.Limits.{opsMost};
 ghost use Rattle.timestamp.specs.Value.{stampOf};
 ghost use Rattle.site.specs.Site.{received};
-ghost use Rattle.site.specs.InWords.{opAt, opsIn};
+ghost use Rattle.site_operations.specs.InWords.{opAt, opsIn};
 ghost use Rattle.protocol.specs.Network.{noRecord};
 ghost use Rattle.protocol.specs.Steps.{head, wantedAt, writesFor};
 ghost use Rattle.network_layout.specs.Layout.{stateSize};
@@ -25,7 +24,7 @@ ghost use Rattle.network_schedule.specs.Wanted.{Laid, Recorded, Wanting,
 // Operations in words, three each: the first `count` of eight.
 struct Writes {
     count: usize,
-    ops: [u32; site::OPERATIONS],
+    ops: [u32; site_operations::OPERATIONS],
 }
 
 // Schedule at a site. It answers its number, and the parent and the timestamp of the message done.
@@ -105,7 +104,7 @@ fn head_writes(state: &[u32], p: u32, j: u32) -> Writes
     if limits::RECORDS <= m.name {
         return Writes {
             count: 0,
-            ops: [0u32; site::OPERATIONS],
+            ops: [0u32; site_operations::OPERATIONS],
         };
     }
     record_writes(state, words::wide(m.name), j)
@@ -126,7 +125,7 @@ fn wanted(state: &[u32], ops: &[u32], n: usize, j: u32) -> Writes
     requires { ⌜ Wanting (now state) n ⌝ }
     ensures { λ r. ⌜ Laid n (r .count) (r .ops) (keep (wantedAt (networkIn (now (state .entry)) .items) j) (opsIn n (now (ops .entry)))) ⌝ }
 {
-    let mut out = [0u32; site::OPERATIONS];
+    let mut out = [0u32; site_operations::OPERATIONS];
     let mut count = 0;
     let mut i = 0;
     while i < n {
@@ -138,7 +137,7 @@ fn wanted(state: &[u32], ops: &[u32], n: usize, j: u32) -> Writes
 
 // Operation i too, where it is wanted. It answers how many there are now.
 fn wanted_one(
-    out: &mut [u32; site::OPERATIONS],
+    out: &mut [u32; site_operations::OPERATIONS],
     count: usize,
     state: &[u32],
     ops: &[u32],
@@ -156,15 +155,15 @@ fn wanted_one(
 }
 
 // Operation i behind the first `count`.
-fn copy_one(out: &mut [u32; site::OPERATIONS], count: usize, ops: &[u32], i: usize)
+fn copy_one(out: &mut [u32; site_operations::OPERATIONS], count: usize, ops: &[u32], i: usize)
     requires { ⌜ count < opsMost ⌝ }
     ensures { λ r. ⌜ opsIn (count + 1) (now (out .exit)) ≡ opsIn count (now (out .entry)) ++ (opAt (now (ops .entry)) i ∷ []) ⌝ }
 {
-    operations::put(
+    site_operations::put(
         out,
         count,
-        operations::kind(ops, i),
-        operations::item(ops, i),
-        operations::value(ops, i),
+        site_operations::kind(ops, i),
+        site_operations::item(ops, i),
+        site_operations::value(ops, i),
     );
 }

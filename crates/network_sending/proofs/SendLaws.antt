@@ -9,7 +9,8 @@ use Rattle.limits.specs.Limits.{sitesMost, heldMost}
 use Rattle.lists.proofs.Some.{some-below-same}
 use Rattle.placement.specs.Masks.{bit, maskOf}
 use Rattle.placement.proofs.Laws.{bit-mask-of}
-use Rattle.lines.specs.Lines.{Line, Message}
+use Rattle.lines.specs.Lines.{Line}
+use Rattle.messages.specs.Messages.{Message}
 use Rattle.protocol.specs.Network.{Network, lineAt}
 use Rattle.protocol.specs.Steps.{someLineFull, sentTo}
 use Rattle.protocol.proofs.Sent.{sent-same}

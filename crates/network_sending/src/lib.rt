@@ -1,5 +1,5 @@
 // A message from a site to those of the others that a mask names.
-use lines::Message;
+use messages::Message;
 ghost use mathlib.Core.Path.{_≡_};
 ghost use mathlib.Core.Bool.{true, false, _&&_, cond};
 ghost use Prim.Native.Nat.{_<_};
@@ -8,7 +8,7 @@ ghost use lib.Dec.{leb};
 ghost use Rattle.placement.specs.Masks.{bit};
 ghost use Rattle.limits.specs.Limits.{sitesMost, heldMost};
 ghost use Rattle.lines.specs.Lines.{sentOrSame};
-ghost use Rattle.lines.specs.InWords.{messageOf};
+ghost use Rattle.messages.specs.InWords.{messageOf};
 ghost use Rattle.network_layout.specs.Layout.{stateSize};
 ghost use Rattle.protocol.specs.Network.{withLine, lineAt, lineNumber};
 ghost use Rattle.protocol.specs.Steps.{someLineFull};

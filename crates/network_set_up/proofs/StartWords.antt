@@ -12,7 +12,7 @@ use Rattle.words.proofs.Parts.{put-here}
 use Rattle.words.proofs.Chunks.{chunks-last, chunks-below}
 use Rattle.words.proofs.Walks.{laid-in}
 use Rattle.lists.proofs.Every.{every-snoc}
-use Rattle.timestamp.specs.InWords.{stampIn}
+use Rattle.timestamp_words.specs.InWords.{stampIn}
 use Rattle.site.specs.Site.{Site}
 use Rattle.site.specs.InWords.{siteIn, siteRange, siteSize}
 use Rattle.protocol.specs.Steps.{startSite, startSites}

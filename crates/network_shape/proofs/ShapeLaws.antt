@@ -16,7 +16,7 @@ use Rattle.words.proofs.Chunks.{chunks-length, chunks-at}
 use Rattle.lists.proofs.Every.{and-true}
 use Rattle.timestamp_order.specs.Timestamp.{Stamp}
 use Rattle.timestamp_order.specs.Order.{byNumber}
-use Rattle.timestamp.specs.InWords.{stampSize, stampRange, stampShaped}
+use Rattle.timestamp_words.specs.InWords.{stampSize, stampRange, stampShaped}
 use Rattle.timestamp_order.specs.Made.{madeBy}
 use Rattle.site.specs.Site.{Site}
 use Rattle.site.specs.InWords.{siteIn, siteRange, siteSize}
@@ -24,7 +24,8 @@ use Rattle.site.proofs.Laws.{stamp-law}
 use Rattle.placement.specs.Placement.{Item, itemsNumber, isLine}
 use Rattle.placement.specs.InWords.{itemSize, itemIn, itemsIn}
 use Rattle.limits.specs.Limits.{itemsMost, sitesMost, heldMost, recordsMost}
-use Rattle.lines.specs.InWords.{messageIn, messageRange, messageSize, boxesAt, boxesSize, boxesIn, lineIn, lineRange, lineCounted}
+use Rattle.lines.specs.InWords.{boxesAt, boxesSize, boxesIn, lineIn, lineRange, lineCounted}
+use Rattle.messages.specs.InWords.{messageIn, messageRange, messageSize}
 use Rattle.lines.proofs.Boxes.{messages-length}
 use Rattle.records.specs.Records.{Record, recordFits}
 use Rattle.records.specs.InWords.{recordIn, recordRange, recordSize}

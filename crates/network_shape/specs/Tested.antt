@@ -8,10 +8,11 @@ use lib.Dec.{eqb, leb, ltb}
 use Rattle.words.specs.Words.{part, chunks}
 use Rattle.lists.specs.Lists.{every, everyFrom}
 use Rattle.limits.specs.Limits.{sitesMost, itemsMost, heldMost, recordsMost}
-use Rattle.timestamp.specs.InWords.{stampShaped}
+use Rattle.timestamp_words.specs.InWords.{stampShaped}
 use Rattle.placement.specs.Placement.{Item, itemsNumber}
 use Rattle.placement.specs.InWords.{itemsIn}
-use Rattle.lines.specs.InWords.{messageIn, messageRange, messageSize, lineIn, lineRange, lineSize}
+use Rattle.lines.specs.InWords.{lineIn, lineRange, lineSize}
+use Rattle.messages.specs.InWords.{messageIn, messageRange, messageSize}
 use Rattle.timestamp_order.specs.Order.{byNumber}
 use Rattle.records.specs.Records.{Record, recordFits}
 use Rattle.records.specs.InWords.{recordIn, recordRange, recordSize}

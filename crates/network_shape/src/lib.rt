@@ -4,7 +4,7 @@ use limits::RECORDS as RECORDS_MOST;
 use limits::SITES as SITES_MOST;
 use limits::SITES_WIDE;
 use lines::BOXES;
-use lines::MESSAGE;
+use messages::MESSAGE;
 use network_layout::HISTORY;
 use network_layout::ITEM_COUNT;
 use network_layout::ITEMS;
@@ -24,10 +24,11 @@ ghost use Rattle.words.specs.Words.{part, chunks};
 ghost use Rattle.lists.specs.Lists.{every, everyFrom};
 ghost use Rattle.lists.specs.Numbers.{numberIf};
 ghost use Rattle.limits.specs.Limits.{sitesMost, recordsMost};
-ghost use Rattle.timestamp.specs.InWords.{stampShaped};
+ghost use Rattle.timestamp_words.specs.InWords.{stampShaped};
 ghost use Rattle.site.specs.InWords.{siteSize};
 ghost use Rattle.placement.specs.InWords.{itemsIn};
-ghost use Rattle.lines.specs.InWords.{messageSize, lineSize};
+ghost use Rattle.lines.specs.InWords.{lineSize};
+ghost use Rattle.messages.specs.InWords.{messageSize};
 ghost use Rattle.records.specs.InWords.{recordSize};
 ghost use Rattle.protocol.specs.Network.{linesMost};
 ghost use Rattle.protocol.specs.Steps.{noSuchSite};
@@ -104,7 +105,7 @@ fn sites_shaped(w: &[u32], n: u32) -> bool
 {
     let mut i = 0;
     while i < n {
-        if !timestamp::made_by(chunk(w, words::wide(i), SITE), i) {
+        if !timestamp_words::made_by(chunk(w, words::wide(i), SITE), i) {
             return false;
         }
         i += 1;
@@ -210,9 +211,9 @@ fn message_shaped(w: &[u32], p: u32, kept: &[u32], made: u32) -> bool
     requires { ⌜ MessageAsked (now w) (now kept) made ⌝ }
     ensures { λ r. ⌜ r ≡ messageTest (historyIn (now (kept .entry)) made) p (now (w .entry)) ⌝ }
 {
-    let name = words::word(w, lines::NAME);
+    let name = words::word(w, messages::NAME);
     if RECORDS_MOST <= name {
-        return timestamp::made_by(&w[lines::STAMP..MESSAGE], p);
+        return timestamp_words::made_by(&w[messages::STAMP..MESSAGE], p);
     }
     made_at(kept, made, name, p)
 }

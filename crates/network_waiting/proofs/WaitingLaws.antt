@@ -14,10 +14,10 @@ use Rattle.placement.specs.Masks.{bit}
 use Rattle.placement.specs.Placement.{Item, noItem, copies}
 use Rattle.lists.specs.Lists.{any, someBelow}
 use Rattle.limits.specs.Limits.{sitesMost, itemsMost, recordsMost}
-use Rattle.lines.specs.Lines.{Message, commit, dummy, nameOf}
+use Rattle.messages.specs.Messages.{Message, commit, dummy, nameOf}
 use Rattle.records.specs.Records.{Record}
 use Rattle.protocol.specs.Network.{Network, noRecord, messageOps}
-use Rattle.site.specs.Operations.{writesItem}
+use Rattle.site_operations.specs.Operations.{writesItem}
 use Rattle.protocol.specs.Waiting.{onLine, isWaiting, occurrences, EachOnce}
 use Rattle.network_waiting.specs.Collected.{Collected}
 use Rattle.network_layout.specs.InWords.{networkIn, inRange}

@@ -6,8 +6,9 @@ use Prim.Native.Nat.{ℕ, _+_, _≤_, _<_}
 use lib.ListN.{length, getD, take, drop}
 use Rattle.lists.specs.Lists.{any, Filled}
 use Rattle.limits.specs.Limits.{itemsMost}
-use Rattle.site.specs.Operations.{writesItem}
-use Rattle.lines.specs.Lines.{Message, noLine}
+use Rattle.site_operations.specs.Operations.{writesItem}
+use Rattle.lines.specs.Lines.{noLine}
+use Rattle.messages.specs.Messages.{Message}
 use Rattle.protocol.specs.Network.{Network, messageOps}
 use Rattle.protocol.specs.Waiting.{EachOnce}
 use Rattle.network_layout.specs.InWords.{networkIn}

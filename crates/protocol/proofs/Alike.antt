@@ -6,7 +6,7 @@ use Prim.Native.Nat.{ℕ, suc}
 use lib.IntN.{ℤ, pos}
 use lib.ListN.{getD}
 use Rattle.timestamp_order.specs.Timestamp.{Stamp}
-use Rattle.site.specs.Operations.{Op, reads, recorded, written, Work, work, worked}
+use Rattle.site_operations.specs.Operations.{Op, reads, recorded, written, Work, work, worked}
 use Rattle.records.specs.Records.{Record}
 use Rattle.lists.specs.Lists.{keep, upTo}
 use Rattle.lists.proofs.Matched.{Matched, matched-length, matched-add, matched-keep, matched-sorted}

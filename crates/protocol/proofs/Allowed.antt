@@ -12,7 +12,7 @@ use Rattle.limits.specs.Limits.{sitesMost, itemsMost, opsMost, recordsMost}
 use Rattle.lists.specs.Lists.{someBelow}
 use Rattle.lists.specs.Numbers.{firstNumber, numberIf, outside}
 use Rattle.lists.proofs.Numbers.{none-holds, none-first, or-false}
-use Rattle.site.specs.Operations.{Op, noOp, reads, writes}
+use Rattle.site_operations.specs.Operations.{Op, noOp, reads, writes}
 use Rattle.placement.specs.Placement.{Item, itemsNumber, owns, copies, isLine, hasParents}
 use Rattle.protocol.specs.Network.{Network, siteAt, lineAt}
 use Rattle.protocol.specs.Steps.{wrongItems, itemsOf, setUpNumber, noSuchSite, countAtMost, someLineFull, opsOf, opNumber, due, commitCauses, wrongLists, commitNumber, dummyNumber, epochNumber, deliverNumber, lacksArrived, scheduleNumber}

@@ -10,7 +10,7 @@ use lib.IntN.{ℤ}
 use lib.ListN.{length, getD}
 use lib.Dec.{eqb, ltb, leb}
 use borrow.Author.Tests.{eqb-false}
-use Rattle.site.specs.Operations.{Op, reads, writes}
+use Rattle.site_operations.specs.Operations.{Op, reads, writes}
 use Rattle.placement.specs.Masks.{bit}
 use Rattle.placement.specs.Placement.{Item, namesMissing, namesBelow, itemNumber, owns, copies, isLine, hasParents}
 use Rattle.lists.specs.Numbers.{firstNumber, numberIf, outside}

@@ -12,7 +12,8 @@ use Rattle.timestamp_order.specs.Order.{notLater, IsEarlier}
 use Rattle.timestamp_order.specs.Made.{madeBy}
 use Rattle.site.specs.Site.{Site}
 use Rattle.placement.specs.Placement.{copies, isLine}
-use Rattle.lines.specs.Lines.{Message, commit, Line}
+use Rattle.lines.specs.Lines.{Line}
+use Rattle.messages.specs.Messages.{Message, commit}
 use Rattle.records.specs.Records.{Record}
 use Rattle.protocol.specs.Network.{Network, messageStamp, messageFits, wellShaped}
 use Rattle.protocol.specs.Steps.{due}

@@ -17,7 +17,8 @@ use Rattle.placement.specs.Masks.{bit}
 use Rattle.placement.specs.Placement.{Item, itemsNumber, noItem, isLine, hasParents}
 use Rattle.limits.specs.Limits.{sitesMost}
 use Rattle.lists.proofs.Some.{some-at, some-index, none-below}
-use Rattle.lines.specs.Lines.{Message, commit, dummy, Line, noLine, taken}
+use Rattle.lines.specs.Lines.{Line, noLine, taken}
+use Rattle.messages.specs.Messages.{Message, commit, dummy}
 use Rattle.records.specs.Records.{Record}
 use Rattle.protocol.specs.Network.{Network, noRecord, siteAt, lineAt, lineNumber, messageStamp, placeOf, messageFits, wellShaped}
 use Rattle.lists.specs.Lists.{isEmpty}

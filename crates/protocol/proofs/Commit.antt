@@ -13,11 +13,11 @@ use Rattle.lists.proofs.Every.{and-true}
 use Rattle.timestamp_order.specs.Timestamp.{Stamp}
 use Rattle.timestamp_order.specs.Order.{notLater, isEarlier}
 use Rattle.timestamp_order.specs.Made.{madeBy}
-use Rattle.site.specs.Operations.{Op, reads, noOp}
+use Rattle.site_operations.specs.Operations.{Op, reads, noOp}
 use Rattle.site.specs.Site.{Site, committed}
 use Rattle.placement.specs.Placement.{Item, owns, copies, isLine}
 use Rattle.lists.specs.Numbers.{firstNumber}
-use Rattle.lines.specs.Lines.{Message, commit, dummy}
+use Rattle.messages.specs.Messages.{Message, commit, dummy}
 use Rattle.records.specs.Records.{Record}
 use Rattle.protocol.specs.Network.{Network, noRecord, siteAt, messageStamp, messageFits, wellShaped}
 use Rattle.protocol.specs.Steps.{countAtMost, opNumber, due, commitNetwork, recordOf}

@@ -1,7 +1,7 @@
 -- The worked example of tables and waiting report, by computation.
 use mathlib.Core.Path.{refl}
 use Rattle.timestamp_order.specs.Timestamp.{appendedOrSame, raisedOrSame}
-use Rattle.site.specs.Operations.{work}
+use Rattle.site_operations.specs.Operations.{work}
 use Rattle.placement.specs.Placement.{isLine}
 use Rattle.protocol.specs.Steps.{setUpNetwork, commitNetwork, deliverNetwork, scheduleNetwork, earliest}
 use Rattle.protocol.specs.Waiting.{isWaiting}

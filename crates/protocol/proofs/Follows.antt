@@ -12,7 +12,7 @@ use lib.Dec.{eqb}
 use borrow.Author.Tests.{eqb-true, eq-eqb}
 use Rattle.lists.proofs.Lists.{map-set}
 use Rattle.timestamp_order.specs.Timestamp.{Stamp, raised, withEpoch, appended, ownCount}
-use Rattle.site.specs.Operations.{valuesRead}
+use Rattle.site_operations.specs.Operations.{valuesRead}
 use Rattle.site.specs.Site.{Site, committed, dummied, atEpoch, received}
 use Rattle.records.specs.Records.{Record}
 use Rattle.protocol.specs.Network.{Network, noStamp, noSite, siteAt}

@@ -14,13 +14,13 @@ use Rattle.timestamp_order.specs.Timestamp.{Stamp}
 use Rattle.timestamp_order.specs.Order.{notLater, isEarlier, Below}
 use Rattle.timestamp_order.specs.Made.{madeBy}
 use Rattle.timestamp_order.proofs.Made.{without}
-use Rattle.site.specs.Operations.{Op, reads, writes, noOp, writesItem}
+use Rattle.site_operations.specs.Operations.{Op, reads, writes, noOp, writesItem}
 use Rattle.site.specs.InWords.{tableSize}
 use Rattle.placement.specs.Masks.{bit}
 use Rattle.placement.specs.Placement.{Item, noItem, owns, copies, isLine, hasParents}
 use Rattle.limits.specs.Limits.{sitesMost}
 use Rattle.lists.proofs.Some.{some-at, some-index}
-use Rattle.lines.specs.Lines.{Message, commit}
+use Rattle.messages.specs.Messages.{Message, commit}
 use Rattle.records.specs.Records.{Record}
 use Rattle.protocol.specs.Network.{linesMost, Network, siteAt, lineAt, lineNumber, messageStamp, messageFits, wellShaped}
 use Rattle.protocol.specs.Steps.{due}

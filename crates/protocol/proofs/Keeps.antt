@@ -15,15 +15,16 @@ use Rattle.timestamp_order.specs.Timestamp.{Stamp, withEpoch, raisedOrSame, own
 use Rattle.timestamp_order.specs.Made.{madeBy}
 use Rattle.timestamp_order.proofs.Made.{made-start, made-raised}
 use Rattle.timestamp_order.proofs.Timestamp.{raise-room}
-use Rattle.site.specs.Operations.{Op, noOp, reads, writes, readValue, recorded}
+use Rattle.site_operations.specs.Operations.{Op, noOp, reads, writes, readValue, recorded}
 use Rattle.site.specs.Site.{Site, committed, dummied, atEpoch}
 use Rattle.limits.specs.Limits.{sitesMost}
-use Rattle.site.proofs.Laws.{work-ops}
+use Rattle.site_operations.proofs.Laws.{work-ops}
 use Rattle.placement.specs.Masks.{bit}
 use Rattle.placement.specs.Placement.{Item, itemsNumber, noItem, copies, isLine}
 use Rattle.lists.specs.Numbers.{firstNumber}
 use Rattle.lists.proofs.Some.{some-at, some-index}
-use Rattle.lines.specs.Lines.{Message, commit, dummy, Line, noLine, sent, delivered}
+use Rattle.lines.specs.Lines.{Line, noLine, sent, delivered}
+use Rattle.messages.specs.Messages.{Message, commit, dummy}
 use Rattle.records.specs.Records.{Record, opFits}
 use Rattle.protocol.specs.Network.{linesMost, Network, noSite, noRecord, siteAt, lineAt, lineNumber, placeOf, messageFits, wellShaped}
 use Rattle.protocol.specs.Steps.{itemsOf, startSite, startSites, setUpNetwork, countAtMost, opNumber, due, recordOf, commitNetwork, dummyNetwork, epochNetwork, deliverNetwork}

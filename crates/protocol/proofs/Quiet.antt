@@ -17,7 +17,8 @@ use Rattle.site.specs.Site.{Site, dummied, atEpoch}
 use Rattle.site.specs.InWords.{tableSize}
 use Rattle.placement.specs.Placement.{isLine, hasParents}
 use Rattle.limits.specs.Limits.{sitesMost}
-use Rattle.lines.specs.Lines.{Message, dummy, Line, noLine, delivered}
+use Rattle.lines.specs.Lines.{Line, noLine, delivered}
+use Rattle.messages.specs.Messages.{Message, dummy}
 use Rattle.records.specs.Records.{Record}
 use Rattle.protocol.specs.Network.{Network, noSite, siteAt, lineAt, lineNumber, messageStamp, messageFits, wellShaped}
 use Rattle.protocol.specs.Steps.{countAtMost, sentTo, dummyNetwork, epochNetwork, deliverNetwork}

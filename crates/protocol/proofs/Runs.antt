@@ -10,9 +10,9 @@ use lib.ListN.{length, getD, length-replicate, getD-replicate}
 use lib.Dec.{eqb}
 use Rattle.timestamp_order.specs.Timestamp.{Stamp}
 use Rattle.timestamp_order.specs.Order.{orderBy, notLater, isEarlier, IsEarlier}
-use Rattle.site.specs.Operations.{Op, reads, recorded, worked, noOp}
+use Rattle.site_operations.specs.Operations.{Op, reads, recorded, worked, noOp}
 use Rattle.site.specs.InWords.{tableSize}
-use Rattle.site.proofs.Laws.{work-ops}
+use Rattle.site_operations.proofs.Laws.{work-ops}
 use Rattle.records.specs.Records.{Record}
 use Rattle.lists.specs.Lists.{keep, upTo}
 use Rattle.protocol.specs.Run.{Turn, numbered, comesFirst, inTurn, after, run, startTable, find, shown, valueAt}

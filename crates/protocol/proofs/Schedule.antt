@@ -16,11 +16,12 @@ use Rattle.timestamp_order.specs.Order.{notLater}
 use Rattle.timestamp_order.specs.Made.{madeBy}
 use Rattle.timestamp_order.proofs.Made.{without}
 use Rattle.timestamp_order.proofs.OrderLaws.{append-later}
-use Rattle.site.specs.Operations.{Op, writes, writesItem}
+use Rattle.site_operations.specs.Operations.{Op, writes, writesItem}
 use Rattle.site.specs.Site.{Site, received}
 use Rattle.placement.specs.Placement.{Item, copies, isLine}
 use Rattle.limits.specs.Limits.{sitesMost}
-use Rattle.lines.specs.Lines.{Message, commit, dummy, Line, noLine, taken}
+use Rattle.lines.specs.Lines.{Line, noLine, taken}
+use Rattle.messages.specs.Messages.{Message, commit, dummy}
 use Rattle.records.specs.Records.{Record}
 use Rattle.protocol.specs.Network.{Network, noSite, siteAt, lineAt, lineNumber, messageStamp, messageFits, wellShaped}
 use Rattle.protocol.specs.Steps.{due, head, headStamp, headEarlier, earlierOf, earliest, chosen, writesFor, scheduleNumber, scheduleNetwork}

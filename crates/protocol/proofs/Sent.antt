@@ -9,7 +9,8 @@ use lib.ListN.{length, getD, set}
 use lib.Dec.{leb}
 use borrow.Author.Tests.{leb-false}
 use Rattle.limits.specs.Limits.{sitesMost, heldMost}
-use Rattle.lines.specs.Lines.{Message, Line, noLine, sent, sentOrSame}
+use Rattle.lines.specs.Lines.{Line, noLine, sent, sentOrSame}
+use Rattle.messages.specs.Messages.{Message}
 use Rattle.lines.proofs.Boxes.{send-room}
 use Rattle.protocol.specs.Network.{Network, lineAt, lineNumber, withLine, withLines}
 use Rattle.protocol.specs.Steps.{someLineFull, sentTo}

@@ -6,7 +6,7 @@ use Prim.Native.Nat.{ℕ, zero, suc, _<_}
 use native.Mathlib.Omega.{arith}
 use lib.IntN.{ℤ, pos}
 use lib.ListN.{length, getD}
-use Rattle.site.specs.Operations.{Op, writesItem}
+use Rattle.site_operations.specs.Operations.{Op, writesItem}
 use Rattle.lists.specs.Lists.{any, keep}
 use Rattle.records.specs.Records.{Record}
 use Rattle.protocol.specs.Network.{noRecord}

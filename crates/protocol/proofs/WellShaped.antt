@@ -15,7 +15,8 @@ use Rattle.timestamp_order.specs.Made.{madeBy}
 use Rattle.site.specs.Site.{Site}
 use Rattle.placement.specs.Placement.{Item, itemsNumber, isLine}
 use Rattle.limits.specs.Limits.{sitesMost}
-use Rattle.lines.specs.Lines.{Message, Line, noLine, sent}
+use Rattle.lines.specs.Lines.{Line, noLine, sent}
+use Rattle.messages.specs.Messages.{Message}
 use Rattle.records.specs.Records.{Record, opFits, recordFits}
 use Rattle.protocol.specs.Network.{Network, noSite, noRecord, siteAt, lineNumber, placeOf, messageFits, lineFits, wellShaped}
 use Rattle.protocol.specs.Steps.{sentTo}

@@ -9,7 +9,7 @@ use lib.ListN.{length, getD, set, length-set}
 use lib.Seq.{getD-set-same, getD-set-other}
 use lib.Dec.{eqb}
 use borrow.Author.Tests.{eqb-true, eqb-false, ne-eqb}
-use Rattle.site.specs.Operations.{Op, reads, writes, readValue, recorded, written, work, worked, noOp, writesItem}
+use Rattle.site_operations.specs.Operations.{Op, reads, writes, readValue, recorded, written, work, worked, noOp, writesItem}
 use Rattle.protocol.proofs.Values.{wrote}
 
 -- ---- the table: one operation, then all of them

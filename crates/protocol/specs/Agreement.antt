@@ -9,7 +9,7 @@ use lib.IntN.{ℤ, pos}
 use lib.ListN.{length, getD}
 use lib.Dec.{eqb}
 use Rattle.timestamp_order.specs.Timestamp.{Stamp}
-use Rattle.site.specs.Operations.{valuesRead}
+use Rattle.site_operations.specs.Operations.{valuesRead}
 use Rattle.placement.specs.Placement.{Item, owns, copies}
 use Rattle.records.specs.Records.{Record}
 use Rattle.protocol.specs.Network.{Network, noRecord, siteAt, placeOf}

@@ -7,7 +7,7 @@ use lib.ListN.{length}
 use Rattle.limits.specs.Limits.{sitesMost, itemsMost, opsMost, recordsMost}
 use Rattle.lists.specs.Lists.{someBelow}
 use Rattle.lists.specs.Numbers.{firstNumber}
-use Rattle.site.specs.Operations.{Op}
+use Rattle.site_operations.specs.Operations.{Op}
 use Rattle.placement.specs.Placement.{itemsNumber, isLine, hasParents}
 use Rattle.protocol.specs.Network.{Network, siteAt, lineAt}
 use Rattle.protocol.specs.Steps.{itemsOf, opNumber, due, someLineFull, countAtMost, lacksArrived}

@@ -6,7 +6,7 @@ use Prim.Native.Nat.{ℕ}
 use lib.IntN.{ℤ}
 use lib.Dec.{eqb}
 use Rattle.timestamp_order.specs.Timestamp.{Stamp}
-use Rattle.site.specs.Operations.{valuesRead}
+use Rattle.site_operations.specs.Operations.{valuesRead}
 use Rattle.protocol.specs.Network.{Network, noStamp, siteAt}
 use Rattle.protocol.specs.Steps.{setUpNumber, setUpNetwork, opsOf, commitNumber, commitNetwork, recordOf, dummyNumber, dummyNetwork, epochNumber, epochNetwork, deliverNumber, deliverNetwork, scheduleNumber, scheduleNetwork, chosen, headStamp}
 use Rattle.protocol.specs.Questions.{Question, questionNumber}

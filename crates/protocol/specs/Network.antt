@@ -8,11 +8,12 @@ use Rattle.lists.specs.Lists.{every, everyFrom, isEmpty}
 use Rattle.timestamp_order.specs.Timestamp.{Stamp}
 pub use Rattle.timestamp_order.specs.Timestamp.{noStamp}
 use Rattle.timestamp_order.specs.Made.{madeBy}
-use Rattle.site.specs.Operations.{Op}
+use Rattle.site_operations.specs.Operations.{Op}
 use Rattle.site.specs.Site.{Site}
 use Rattle.placement.specs.Placement.{Item, itemsNumber, isLine}
 use Rattle.limits.specs.Limits.{sitesMost}
-use Rattle.lines.specs.Lines.{Message, commit, dummy, Line, noLine}
+use Rattle.lines.specs.Lines.{Line, noLine}
+use Rattle.messages.specs.Messages.{Message, commit, dummy}
 use Rattle.records.specs.Records.{Record, recordFits}
 
 pub record Network : Type 0 where

@@ -8,7 +8,7 @@ use lib.ListN.{length, getD, replicate}
 use lib.Dec.{eqb}
 use Rattle.timestamp_order.specs.Timestamp.{Stamp}
 use Rattle.timestamp_order.specs.Order.{orderBy, notLater}
-use Rattle.site.specs.Operations.{worked}
+use Rattle.site_operations.specs.Operations.{worked}
 use Rattle.site.specs.InWords.{tableSize}
 use Rattle.records.specs.Records.{Record}
 use Rattle.protocol.specs.Network.{noRecord}

@@ -7,14 +7,15 @@ use lib.ListN.{length, getD, set, replicate}
 use lib.Dec.{eqb, ltb, leb}
 use Rattle.timestamp_order.specs.Timestamp.{Stamp, ownCount, greatest}
 use Rattle.timestamp_order.specs.Order.{orderBy, isEarlier}
-use Rattle.site.specs.Operations.{Op, reads, writes, worked}
+use Rattle.site_operations.specs.Operations.{Op, reads, writes, worked}
 use Rattle.site.specs.Site.{Site, committed, dummied, atEpoch, received}
 use Rattle.limits.specs.Limits.{opsMost, sitesMost, itemsMost, heldMost, recordsMost}
 use Rattle.site.specs.InWords.{tableSize}
 use Rattle.placement.specs.Placement.{Item, itemsNumber, owns, copies, isLine, hasParents}
 use Rattle.lists.specs.Numbers.{firstNumber, numberIf, outside}
 use Rattle.lists.specs.Lists.{any, someBelow, keep}
-use Rattle.lines.specs.Lines.{Message, commit, dummy, Line, noLine, sent, delivered, taken}
+use Rattle.lines.specs.Lines.{Line, noLine, sent, delivered, taken}
+use Rattle.messages.specs.Messages.{Message, commit, dummy}
 use Rattle.records.specs.Records.{Record}
 use Rattle.protocol.specs.Network.{linesMost, Network, placeOf, withSite, withLine, siteAt, lineAt, lineNumber, messageStamp, messageOps, withLines, withRecord}
 

@@ -4,11 +4,11 @@ use mathlib.Core.Bool.{Bool, cond, _&&_}
 use mathlib.Core.List.{List, [], _∷_}
 use Prim.Native.Nat.{ℕ, _+_}
 use lib.Dec.{eqb}
-use Rattle.site.specs.Operations.{writesItem}
+use Rattle.site_operations.specs.Operations.{writesItem}
 use Rattle.lists.specs.Lists.{any, someBelow}
 use Rattle.placement.specs.Placement.{copies}
 use Rattle.limits.specs.Limits.{sitesMost}
-use Rattle.lines.specs.Lines.{Message}
+use Rattle.messages.specs.Messages.{Message}
 use Rattle.protocol.specs.Network.{Network, lineAt, messageOps}
 
 -- a message on the line from p to site i writes item k

@@ -21,12 +21,12 @@ use Rattle.words.proofs.Parts.{part-length, part-getD, put-length, put-here, pu
 use Rattle.words.proofs.Walks.{overlaid-same}
 use Rattle.timestamp_order.specs.Timestamp.{Stamp, room}
 use Rattle.timestamp_order.specs.Order.{byNumber}
-use Rattle.timestamp.specs.InWords.{stampIn, stampSize, stampRange, stampWords, stampShaped}
+use Rattle.timestamp_words.specs.InWords.{stampIn, stampSize, stampRange, stampWords, stampShaped}
 use Rattle.timestamp_order.specs.Made.{madeBy}
-use Rattle.timestamp.proofs.Words.{stamp-front, words-back, words-length}
-use Rattle.site.specs.Operations.{Op, noOp, writesItem}
-use Rattle.site.specs.InWords.{opIn, opAt, opsIn, opsSize, OpsLaid, Put}
-use Rattle.site.proofs.Laws.{ops-at, ops-length, next-laid}
+use Rattle.timestamp_words.proofs.Words.{stamp-front, words-back, words-length}
+use Rattle.site_operations.specs.Operations.{Op, noOp, writesItem}
+use Rattle.site_operations.specs.InWords.{opIn, opAt, opsIn, opsSize, OpsLaid, Put}
+use Rattle.site_operations.proofs.Laws.{ops-at, ops-length, next-laid}
 use Rattle.limits.specs.Limits.{itemsMost, opsMost}
 use Rattle.records.specs.Records.{opFits, recordFits}
 use Rattle.records.specs.InWords.{stampAt, codesAt, valuesAt, recordSize, packedSize, codesMost, opOfCode, opsOf, joined, codeNumber, codesIn, placesIn, countIn, coded, codeOf, recordIn, recordRange, Packed, Written}

@@ -11,9 +11,9 @@ use Rattle.lists.specs.Lists.{every}
 use Rattle.lanes.specs.Lanes.{bytes}
 use Rattle.words.specs.Words.{part}
 use Rattle.timestamp_order.specs.Timestamp.{Stamp}
-use Rattle.timestamp.specs.InWords.{stampIn, stampSize, stampRange}
-use Rattle.site.specs.Operations.{Op}
-use Rattle.site.specs.InWords.{opOf, opAt, opsIn, opsSize}
+use Rattle.timestamp_words.specs.InWords.{stampIn, stampSize, stampRange}
+use Rattle.site_operations.specs.Operations.{Op}
+use Rattle.site_operations.specs.InWords.{opOf, opAt, opsIn, opsSize}
 use Rattle.limits.specs.Limits.{itemsMost, opsMost}
 use Rattle.records.specs.Records.{Record}
 

@@ -6,7 +6,7 @@ use lib.Dec.{ltb, leb}
 use Rattle.lists.specs.Lists.{every}
 use Rattle.timestamp_order.specs.Timestamp.{Stamp}
 use Rattle.timestamp_order.specs.Made.{madeBy}
-use Rattle.site.specs.Operations.{Op}
+use Rattle.site_operations.specs.Operations.{Op}
 
 pub record Record : Type 0 where
   pub site : ℕ

@@ -11,8 +11,8 @@ ghost use lib.Dec.{eqb};
 ghost use Rattle.lists.specs.Lists.{any};
 ghost use Rattle.timestamp.specs.Value.{stampOf, PlainValue};
 ghost use Rattle.timestamp_order.specs.Order.{byNumber};
-ghost use Rattle.site.specs.Operations.{writesItem};
-ghost use Rattle.site.specs.InWords.{OpsLaid};
+ghost use Rattle.site_operations.specs.Operations.{writesItem};
+ghost use Rattle.site_operations.specs.InWords.{OpsLaid};
 ghost use Rattle.limits.specs.Limits.{opsMost};
 ghost use Rattle.records.specs.Records.{recordFits};
 ghost use Rattle.records.specs.InWords.{recordIn, recordRange, recordSize, Written};
@@ -24,7 +24,7 @@ const COUNT: usize = SITE + 1;
 
 const STAMP: usize = COUNT + 1;
 
-const CODES: usize = STAMP + timestamp::WORDS;
+const CODES: usize = STAMP + timestamp_words::WORDS;
 
 const VALUES: usize = CODES + packed::CODES;
 
@@ -37,12 +37,12 @@ pub fn write(w: &mut [u32], site: u32, n: u32, t: Timestamp, ops: &[u32])
     if w.len() != WORDS {
         return;
     }
-    if ops.len() != site::OPERATIONS {
+    if ops.len() != site_operations::OPERATIONS {
         return;
     }
     w[SITE] = site;
     w[COUNT] = n;
-    t.write_to(&mut w[STAMP..CODES]);
+    timestamp_words::write_to(t, &mut w[STAMP..CODES]);
     packed::pack(&mut w[CODES..WORDS], ops);
 }
 
@@ -58,9 +58,9 @@ pub fn stamp(w: &[u32]) -> Timestamp
     ensures { λ r. ⌜ PlainValue (recordIn (now (w .entry)) .stamp) r ⌝ }
 {
     if w.len() < STAMP {
-        return timestamp::from_words(&[0u32]);
+        return timestamp_words::from_words(&[0u32]);
     }
-    timestamp::from_words(&w[STAMP..])
+    timestamp_words::from_words(&w[STAMP..])
 }
 
 // How many operations a record has: eight at most.
@@ -75,10 +75,10 @@ pub fn count(w: &[u32]) -> usize
 }
 
 // The operations of a record, three words each, 0 past the last.
-pub fn operations(w: &[u32]) -> [u32; site::OPERATIONS]
+pub fn operations(w: &[u32]) -> [u32; site_operations::OPERATIONS]
     ensures { λ r. ⌜ OpsLaid (length (recordIn (now (w .entry)) .ops)) (recordIn (now (w .entry)) .ops) r ⌝ }
 {
-    let mut out = [0u32; site::OPERATIONS];
+    let mut out = [0u32; site_operations::OPERATIONS];
     let n = count(w);
     let mut i = 0;
     while i < n {
@@ -121,7 +121,7 @@ pub fn shaped(w: &[u32], sites: u32, items: u32) -> bool
     if sites <= site {
         return false;
     }
-    if !timestamp::made_by(&w[STAMP..CODES], site) {
+    if !timestamp_words::made_by(&w[STAMP..CODES], site) {
         return false;
     }
     packed::fit(w, words::wide(n), items)

@@ -4,16 +4,15 @@ use crate::VALUES;
 use limits::ITEMS;
 use limits::ITEMS_WIDE;
 use limits::OPERATIONS_WIDE;
-use site::operations;
-use site::operations::WRITE;
+use site_operations::WRITE;
 ghost use mathlib.Core.Path.{_≡_};
 ghost use mathlib.Core.Bool.{_&&_};
 ghost use Prim.Native.Nat.{_+_, _*_, _-_, _≤_, _<_};
 ghost use lib.ListN.{length, getD, take};
 ghost use lib.Dec.{ltb};
 ghost use Rattle.lists.specs.Lists.{every};
-ghost use Rattle.site.specs.Operations.{writesItem, noOp};
-ghost use Rattle.site.specs.InWords.{opAt, Put};
+ghost use Rattle.site_operations.specs.Operations.{writesItem, noOp};
+ghost use Rattle.site_operations.specs.InWords.{opAt, Put};
 ghost use Rattle.limits.specs.Limits.{opsMost};
 ghost use Rattle.records.specs.Records.{opFits};
 ghost use Rattle.records.specs.InWords.{codeOf, codeNumber, codesIn, codesMost, placesIn, packedSize, Packed};
@@ -40,7 +39,7 @@ pub fn pack(w: &mut [u32], ops: &[u32])
 {
     let mut i = 0;
     while i < OPERATIONS_WIDE {
-        w[CODES + i] = operations::value(ops, i);
+        w[CODES + i] = site_operations::value(ops, i);
         i += 1;
     }
     w[0] = four(ops, 0);
@@ -60,17 +59,17 @@ fn four(ops: &[u32], i: usize) -> u32
 fn code_of(ops: &[u32], i: usize) -> u32
     ensures { λ r. ⌜ (r ≡ codeOf (opAt (now (ops .entry)) i)) × (r < codesMost) ⌝ }
 {
-    2 * (operations::item(ops, i) % ITEMS) + operations::kind(ops, i) % 2
+    2 * (site_operations::item(ops, i) % ITEMS) + site_operations::kind(ops, i) % 2
 }
 
 // ---- read from the words of a record
 // Operation i, laid after the i before it.
-pub fn unpack(out: &mut [u32; site::OPERATIONS], w: &[u32], i: usize)
+pub fn unpack(out: &mut [u32; site_operations::OPERATIONS], w: &[u32], i: usize)
     requires { ⌜ i < opsMost ⌝ }
     ensures { λ r. ⌜ Put (now (out .entry)) (now (out .exit)) i (getD (placesIn (now (w .entry))) i noOp) ⌝ }
 {
     let c = code(w, i);
-    operations::put(out, i, c % 2, c / 2, words::word(w, VALUES + i));
+    site_operations::put(out, i, c % 2, c / 2, words::word(w, VALUES + i));
 }
 
 // Whether operation i writes the item.

@@ -6,7 +6,7 @@ use Prim.Native.Nat.{ℕ}
 use native.Mathlib.Omega.{arith}
 use lib.Dec.{eqb}
 use lib.ListN.{take}
-use Rattle.site.specs.Operations.{Op}
+use Rattle.site_operations.specs.Operations.{Op}
 use Rattle.protocol.specs.Network.{Network}
 use Rattle.protocol.specs.Calls.{Call, Outcome, perform}
 use Rattle.network_layout.specs.InWords.{meaning}

@@ -4,7 +4,7 @@ use Rattle.decimal.specs.Decimal.{lastDigits, digits, valueFrom, natural, signe
 use Rattle.timestamp_order.specs.Timestamp.{appendedOrSame, raisedOrSame}
 use Rattle.timestamp_order.specs.Order.{orderBy, tuplesOrder, pairOrder, numberOrder}
 use Rattle.timestamp_order.proofs.Examples.{comparisons-hold}
-use Rattle.site.specs.Operations.{work}
+use Rattle.site_operations.specs.Operations.{work}
 use Rattle.placement.specs.Placement.{itemNumber, isLine, hasParents}
 use Rattle.protocol.specs.Network.{placeOf}
 use Rattle.protocol.specs.Steps.{setUpNumber, setUpNetwork, commitNumber, commitNetwork, deliverNumber, deliverNetwork, scheduleNumber, scheduleNetwork, earliest}

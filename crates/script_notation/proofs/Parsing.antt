@@ -12,7 +12,7 @@ use lib.Seq.{drop-cons, length-take-le, take-all, take-at}
 use lib.Dec.{eqb}
 use borrow.Author.Tests.{eq-eqb, ne-eqb, le-leb, lt-leb}
 use Rattle.decimal.specs.Decimal.{natural, signed}
-use Rattle.site.specs.Operations.{Op}
+use Rattle.site_operations.specs.Operations.{Op}
 use Rattle.placement.specs.Placement.{Item}
 use Rattle.protocol.specs.Steps.{opsOf, itemsOf}
 use Rattle.script_notation.specs.Fields.{position}

@@ -12,7 +12,7 @@ use borrow.Author.Tests.{not-true, not-false, eqb-true, eqb-false, ne-eqb, le-le
 use lib.Dec.{eqb}
 use Rattle.decimal.specs.Decimal.{natural, digits}
 use Rattle.timestamp_order.specs.Timestamp.{Stamp}
-use Rattle.site.specs.Operations.{Op}
+use Rattle.site_operations.specs.Operations.{Op}
 use Rattle.placement.specs.Placement.{Item}
 use Rattle.protocol.specs.Network.{noStamp}
 use Rattle.protocol.specs.Calls.{Call, setUp, commit, Outcome, refused, perform}

@@ -8,7 +8,7 @@ use lib.ListN.{length}
 use lib.Dec.{eqb}
 use Rattle.decimal.specs.Decimal.{digits, signedDigits, Printed}
 use Rattle.timestamp_order.specs.Timestamp.{Pair, Stamp}
-use Rattle.site.specs.Operations.{Op}
+use Rattle.site_operations.specs.Operations.{Op}
 use Rattle.records.specs.Records.{Record}
 use Rattle.protocol.specs.Calls.{Call, setUp, commit, dummy, epoch, deliver, schedule, ask, Outcome}
 use Rattle.script_notation.specs.Fields.{space}

@@ -7,7 +7,7 @@ use Prim.Native.Nat.{ℕ}
 use lib.ListN.{take}
 use Rattle.decimal.specs.declared.Number.{Number}
 use Rattle.decimal.specs.Decimal.{natural, numberOf}
-use Rattle.site.specs.Operations.{Op}
+use Rattle.site_operations.specs.Operations.{Op}
 use Rattle.protocol.specs.Calls.{Call}
 use Rattle.script_notation.specs.Fields.{fieldsFrom}
 use Rattle.script_notation.specs.Parse.{on, all, one, two}

@@ -2,7 +2,7 @@
 use libc::STDOUT_FILENO;
 use timestamp::Count;
 use timestamp::Epoch;
-use timestamp::Order;
+use timestamp_order::Order;
 use timestamp::Timestamp;
 use timestamp::Tuple;
 
@@ -81,18 +81,18 @@ fn odd_lengths(start: Timestamp) {
 fn words_and_back(a: Timestamp) {
     let b = a.append(2, Count(4294967295)).at_epoch(Epoch(3));
     let mut w = [7u32; 18];
-    b.write_to(&mut w);
-    show(timestamp::from_words(&w));
+    timestamp_words::write_to(b, &mut w);
+    show(timestamp_words::from_words(&w));
     let few = [3u32, 2, 1];
-    show(timestamp::from_words(&few));
-    compared(timestamp::from_words(&w), b);
+    show(timestamp_words::from_words(&few));
+    compared(timestamp_words::from_words(&w), b);
 }
 
 // What the comparison finds, in both directions.
 fn compared(s: Timestamp, t: Timestamp) {
-    verdict(s.compare(t));
+    verdict(timestamp_comparison::compare(s, t));
     io::write_all(STDOUT_FILENO, b" ");
-    verdict(t.compare(s));
+    verdict(timestamp_comparison::compare(t, s));
     io::write_all(STDOUT_FILENO, b"\n");
 }
 

@@ -1,6 +1,6 @@
 -- `gevrolen_stamp` lays the timestamp that the reader answers.
 use mathlib.Core.Path.{ap, _∙_}
-use Rattle.timestamp.specs.InWords.{stampWords}
+use Rattle.timestamp_words.specs.InWords.{stampWords}
 use borrow.Author.Needs.{needs}
 use Rattle.gevrolen_c.proofs.gevrolen_stamp.Statement.{statement}
 use Rattle.gevrolen_c.proofs.gevrolen_stamp.Tie as tie

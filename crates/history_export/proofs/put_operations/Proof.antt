@@ -4,8 +4,8 @@ use mathlib.Core.List.{_++_, []}
 use Prim.Native.Nat.{_≤_, _<_, _-_, _*_}
 use native.Mathlib.Omega.{arith}
 use lib.ListN.{length, take, drop}
-use Rattle.site.specs.InWords.{opsIn, opIn}
-use Rattle.site.proofs.Laws.{ops-length}
+use Rattle.site_operations.specs.InWords.{opsIn, opIn}
+use Rattle.site_operations.proofs.Laws.{ops-length}
 use Rattle.history_file.specs.Bytes.{unitSize, joined}
 use Rattle.history_file.specs.File.{opBytes}
 use Rattle.history_file.proofs.Written.{units-next, units-length, units-all, op-size, op-written}

@@ -3,7 +3,7 @@ use mathlib.Core.Path.{_≡_, sym, _∙_}
 use mathlib.Core.List.{[]}
 use native.Mathlib.Omega.{arith}
 use lib.ListN.{length}
-use Rattle.site.proofs.Laws.{ops-length}
+use Rattle.site_operations.proofs.Laws.{ops-length}
 use Rattle.history_file.specs.Bytes.{unit}
 use Rattle.history_file.specs.Entries.{entryOf}
 use Rattle.history_file.proofs.Written.{record-size, head-length, tuples-length, record-written}

@@ -1,6 +1,6 @@
 -- `size` is eight bytes for the head, for each tuple and for each operation.
 use native.Mathlib.Omega.{arith}
-use Rattle.site.proofs.Laws.{ops-length}
+use Rattle.site_operations.proofs.Laws.{ops-length}
 use Rattle.history_file.specs.Entries.{entryOf}
 use Rattle.history_file.proofs.Written.{record-size}
 use borrow.Author.Needs.{needs}

@@ -7,7 +7,7 @@ use lib.ListN.{getD, take}
 use lib.Seq.{take-all}
 use mir.Val.{toZ, ofZ, SFits}
 use mir.Syntax.{w32}
-use Rattle.site.specs.Operations.{Op, noOp}
+use Rattle.site_operations.specs.Operations.{Op, noOp}
 use Rattle.history_file.proofs.Held.{opsOf, ops-length, op-at, passed-on}
 use Rattle.history_record.specs.Placed.{Operated, Placed}
 use Rattle.history_record.proofs.PlacedLaws.{placed-more}

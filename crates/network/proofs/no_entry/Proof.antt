@@ -1,6 +1,6 @@
 -- `no_entry` has nothing in it.
 use mathlib.Core.Path.{refl}
-use Rattle.site.proofs.Laws.{none-laid}
+use Rattle.site_operations.proofs.Laws.{none-laid}
 use borrow.Author.Needs.{needs}
 use Rattle.network.proofs.no_entry.Statement.{statement}
 use Rattle.network.proofs.no_entry.Tie as tie

@@ -3,7 +3,7 @@ use mathlib.Core.Path.{_≡_, _∙_}
 use native.Mathlib.Omega.{arith}
 use lib.ListN.{length}
 use Rattle.timestamp.specs.Value.{stampOf}
-use Rattle.site.specs.InWords.{opsSize}
+use Rattle.site_operations.specs.InWords.{opsSize}
 use Rattle.network_access.proofs.AccessLaws.{record-added}
 use borrow.Author.Needs.{needs}
 use Rattle.network_access.proofs.add_record.Statement.{statement}

@@ -1,8 +1,9 @@
 -- `line_first` reads the oldest message of the line's own words.
 use mathlib.Core.Path.{subst}
 use lib.ListN.{getD}
-use Rattle.lines.specs.Lines.{Line, commit}
-use Rattle.lines.specs.InWords.{PlainMessage}
+use Rattle.lines.specs.Lines.{Line}
+use Rattle.messages.specs.Messages.{commit}
+use Rattle.messages.specs.InWords.{PlainMessage}
 use borrow.Author.Needs.{needs}
 use Rattle.network_access.proofs.line_first.Statement.{statement}
 use Rattle.network_access.proofs.line_first.Tie as tie

@@ -1,6 +1,6 @@
 -- `line_send` changes one line of the network, as `send` changes its words.
 use Rattle.lines.specs.Lines.{sentOrSame}
-use Rattle.lines.specs.InWords.{messageOf}
+use Rattle.messages.specs.InWords.{messageOf}
 use Rattle.network_access.proofs.AccessLaws.{line-stepped}
 use borrow.Author.Needs.{needs}
 use Rattle.network_access.proofs.line_send.Statement.{statement}

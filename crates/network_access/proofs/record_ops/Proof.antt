@@ -2,7 +2,7 @@
 use mathlib.Core.Path.{subst}
 use lib.ListN.{length}
 use Rattle.records.specs.Records.{Record}
-use Rattle.site.specs.InWords.{OpsLaid}
+use Rattle.site_operations.specs.InWords.{OpsLaid}
 use borrow.Author.Needs.{needs}
 use Rattle.network_access.proofs.record_ops.Statement.{statement}
 use Rattle.network_access.proofs.record_ops.Tie as tie

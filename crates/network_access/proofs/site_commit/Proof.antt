@@ -1,9 +1,9 @@
 -- `site_commit` changes one site of the network, as `commit` changes its words, and hands on the operations as recorded.
 use mathlib.Core.Path.{subst}
 use Prim.Native.Nat.{min}
-use Rattle.site.specs.Operations.{worked}
+use Rattle.site_operations.specs.Operations.{worked}
 use Rattle.site.specs.Site.{Site, committed}
-use Rattle.site.specs.InWords.{opsIn, OpsLaid}
+use Rattle.site_operations.specs.InWords.{opsIn, OpsLaid}
 use Rattle.limits.specs.Limits.{opsMost}
 use Rattle.network_access.proofs.AccessLaws.{site-stepped, site-lent}
 use borrow.Author.Needs.{needs}

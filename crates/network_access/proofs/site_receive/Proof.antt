@@ -2,7 +2,7 @@
 use Prim.Native.Nat.{min}
 use Rattle.timestamp.specs.Value.{stampOf}
 use Rattle.site.specs.Site.{received}
-use Rattle.site.specs.InWords.{opsIn}
+use Rattle.site_operations.specs.InWords.{opsIn}
 use Rattle.limits.specs.Limits.{opsMost}
 use Rattle.network_access.proofs.AccessLaws.{site-stepped}
 use borrow.Author.Needs.{needs}

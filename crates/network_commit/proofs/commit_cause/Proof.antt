@@ -5,7 +5,7 @@ use Prim.Native.Nat.{ℕ, _<_}
 use native.Mathlib.Omega.{arith}
 use lib.ListN.{length}
 use Rattle.limits.specs.Limits.{recordsMost}
-use Rattle.site.specs.InWords.{opsIn}
+use Rattle.site_operations.specs.InWords.{opsIn}
 use Rattle.lists.specs.Numbers.{firstNumber}
 use Rattle.protocol.specs.Steps.{due, countAtMost, someLineFull, opNumber}
 use Rattle.network_layout.specs.InWords.{networkIn}

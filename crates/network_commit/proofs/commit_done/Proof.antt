@@ -8,13 +8,13 @@ use borrow.Author.Tests.{lt-ltb}
 use Rattle.limits.specs.Limits.{sitesMost, itemsMost, recordsMost}
 use Rattle.lists.specs.Lists.{every}
 use Rattle.timestamp.specs.Value.{stampOf}
-use Rattle.site.specs.Operations.{valuesRead}
-use Rattle.site.specs.InWords.{opsIn}
+use Rattle.site_operations.specs.Operations.{valuesRead}
+use Rattle.site_operations.specs.InWords.{opsIn}
 use Rattle.placement.specs.Masks.{bit}
 use Rattle.records.specs.Records.{opFits}
 use Rattle.records.proofs.Laws.{fits-more}
 use Rattle.protocol.proofs.Keeps.{ops-fit}
-use Rattle.lines.specs.Lines.{Message, commit as commitMessage, dummy}
+use Rattle.messages.specs.Messages.{Message, commit as commitMessage, dummy}
 use Rattle.network_layout.specs.InWords.{networkIn, SentStep}
 use Rattle.network_layout.specs.At.{AtSite}
 use Rattle.network_layout.proofs.Performs.{records-count}

@@ -5,7 +5,7 @@ use mathlib.Core.List.{List}
 use native.Mathlib.Omega.{arith}
 use lib.ListN.{length}
 use borrow.Author.Tests.{leb-false, not-true, not-false}
-use Rattle.site.specs.Operations.{Op}
+use Rattle.site_operations.specs.Operations.{Op}
 use Rattle.lists.proofs.Numbers.{flip-false, flip-true}
 use Rattle.protocol.specs.Steps.{noSuchSite, wrongLists}
 use Rattle.protocol.specs.Allowed.{ListsAllowed}

@@ -3,7 +3,7 @@ use mathlib.Core.Path.{refl, sym, subst, _∙_}
 use Prim.Native.Nat.{ℕ}
 use lib.ListN.{length}
 use borrow.Author.Tests.{lt-leb}
-use Rattle.site.specs.InWords.{opsIn}
+use Rattle.site_operations.specs.InWords.{opsIn}
 use Rattle.network_layout.specs.InWords.{networkIn}
 use Rattle.protocol.proofs.Allowed.{causes-allowed}
 use Rattle.network_commit.specs.Done.{Refused}

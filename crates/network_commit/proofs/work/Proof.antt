@@ -9,10 +9,10 @@ use Rattle.limits.specs.Limits.{itemsMost, opsMost, recordsMost}
 use Rattle.lists.specs.Lists.{every}
 use Rattle.timestamp.specs.Value.{stampOf, PlainValue}
 use Rattle.timestamp.proofs.Plain.{plain-as}
-use Rattle.site.specs.Operations.{worked}
+use Rattle.site_operations.specs.Operations.{worked}
 use Rattle.site.specs.Site.{committed}
-use Rattle.site.specs.InWords.{opsIn}
-use Rattle.site.proofs.Laws.{work-ops}
+use Rattle.site_operations.specs.InWords.{opsIn}
+use Rattle.site_operations.proofs.Laws.{work-ops}
 use Rattle.records.specs.Records.{Record, opFits}
 use Rattle.protocol.specs.Network.{Network, siteAt, withSite, withRecord}
 use Rattle.protocol.specs.Steps.{recordOf}

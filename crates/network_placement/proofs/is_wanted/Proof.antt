@@ -1,6 +1,6 @@
 -- `is_wanted` asks for the kind, and then for the copy.
 use mathlib.Core.Path.{_∙_}
-use Rattle.site.specs.InWords.{opAt}
+use Rattle.site_operations.specs.InWords.{opAt}
 use Rattle.network_layout.specs.InWords.{networkIn}
 use Rattle.network_placement.proofs.PlacementLaws.{other-kind, write-kind}
 use borrow.Author.Needs.{needs}

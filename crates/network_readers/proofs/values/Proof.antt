@@ -8,7 +8,7 @@ use mir.Val.{toZ, ofZ}
 use mir.ValLaws.{toZ-ofZ}
 use mir.Syntax.{w32}
 use Rattle.limits.specs.Limits.{itemsMost}
-use Rattle.site.specs.InWords.{tableIn}
+use Rattle.site_operations.specs.InWords.{tableIn}
 use Rattle.network_readers.specs.Readers.{padded}
 use Rattle.network_readers.proofs.ReaderLaws.{padded-next}
 use native.Mathlib.Omega.{arith}

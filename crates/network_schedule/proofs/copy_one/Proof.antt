@@ -1,8 +1,8 @@
 -- `copy_one` lays the fields of an operation behind those before it.
 use mathlib.Core.Path.{ap, _∙_}
 use mathlib.Core.List.{[], _∷_, _++_}
-use Rattle.site.specs.Operations.{Op}
-use Rattle.site.specs.InWords.{opsIn}
+use Rattle.site_operations.specs.Operations.{Op}
+use Rattle.site_operations.specs.InWords.{opsIn}
 use borrow.Author.Needs.{needs}
 use Rattle.network_schedule.proofs.copy_one.Statement.{statement}
 use Rattle.network_schedule.proofs.copy_one.Tie as tie

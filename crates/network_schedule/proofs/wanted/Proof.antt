@@ -4,7 +4,7 @@ use Prim.Native.Nat.{ℕ, _≤_, _-_}
 use native.Mathlib.Omega.{arith}
 use Rattle.words.specs.Words.{chunks}
 use Rattle.lists.specs.Lists.{keep}
-use Rattle.site.specs.InWords.{opsIn}
+use Rattle.site_operations.specs.InWords.{opsIn}
 use Rattle.network_layout.specs.InWords.{networkIn}
 use Rattle.protocol.specs.Steps.{wantedAt}
 use Rattle.network_schedule.specs.Wanted.{Laid}

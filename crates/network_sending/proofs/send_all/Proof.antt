@@ -6,7 +6,7 @@ use native.Mathlib.Omega.{arith}
 use lib.ListN.{length}
 use Rattle.placement.specs.Masks.{bit}
 use Rattle.limits.specs.Limits.{sitesMost}
-use Rattle.lines.specs.InWords.{messageOf}
+use Rattle.messages.specs.InWords.{messageOf}
 use Rattle.network_layout.specs.Layout.{stateSize}
 use Rattle.protocol.specs.Network.{withLines}
 use Rattle.protocol.specs.Steps.{sentTo}

@@ -4,7 +4,7 @@ use mathlib.Core.Bool.{Bool, cond}
 use Prim.Native.Nat.{ℕ}
 use lib.ListN.{getD}
 use Rattle.lines.specs.Lines.{noLine, sentOrSame}
-use Rattle.lines.specs.InWords.{messageOf}
+use Rattle.messages.specs.InWords.{messageOf}
 use Rattle.protocol.specs.Network.{withLine, lineAt, lineNumber}
 use Rattle.network_layout.specs.InWords.{networkIn}
 use borrow.Author.Needs.{needs}

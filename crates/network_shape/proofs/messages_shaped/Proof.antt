@@ -7,7 +7,7 @@ use borrow.Author.Tests.{not-true, not-false}
 use Rattle.words.specs.Words.{part, chunks}
 use Rattle.words.proofs.Parts.{part-length}
 use lib.ListN.{length}
-use Rattle.lines.specs.InWords.{messageSize}
+use Rattle.messages.specs.InWords.{messageSize}
 use Rattle.network_shape.specs.Tested.{historyIn, messageTest}
 use Rattle.network_shape.proofs.ShapeLaws.{Passed, every-from, walk-false, walk-next, walk-done}
 use Rattle.network_shape.proofs.messages_shaped.Statement.{statement}

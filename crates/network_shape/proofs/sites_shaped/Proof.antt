@@ -5,7 +5,7 @@ use native.Mathlib.Omega.{arith}
 use borrow.Author.Needs.{needs}
 use borrow.Author.Tests.{not-true, not-false}
 use Rattle.words.specs.Words.{part}
-use Rattle.timestamp.specs.InWords.{stampShaped}
+use Rattle.timestamp_words.specs.InWords.{stampShaped}
 use Rattle.site.specs.InWords.{siteSize}
 use Rattle.network_shape.proofs.ShapeLaws.{Passed, walk-false, walk-next, walk-done}
 use Rattle.network_shape.proofs.sites_shaped.Statement.{statement}

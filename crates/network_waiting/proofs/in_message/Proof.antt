@@ -4,8 +4,9 @@ use Prim.Native.Nat.{ℕ}
 use native.Mathlib.Omega.{arith}
 use lib.ListN.{getD}
 use Rattle.lists.specs.Lists.{any}
-use Rattle.site.specs.Operations.{writesItem}
-use Rattle.lines.specs.Lines.{Line, commit, nameOf}
+use Rattle.site_operations.specs.Operations.{writesItem}
+use Rattle.lines.specs.Lines.{Line}
+use Rattle.messages.specs.Messages.{commit, nameOf}
 use Rattle.protocol.specs.Network.{noRecord}
 use Rattle.network_layout.specs.InWords.{networkIn}
 use Rattle.network_layout.proofs.Performs.{records-count}

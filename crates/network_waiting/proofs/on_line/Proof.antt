@@ -5,7 +5,7 @@ use native.Mathlib.Omega.{arith}
 use lib.ListN.{drop}
 use Rattle.lists.specs.Lists.{any}
 use Rattle.lists.proofs.Some.{some-true, some-next, some-done}
-use Rattle.lines.specs.Lines.{commit}
+use Rattle.messages.specs.Messages.{commit}
 use Rattle.network_waiting.specs.Collected.{onIt, carries}
 use borrow.Author.Needs.{needs}
 use Rattle.network_waiting.proofs.on_line.Statement.{statement}

@@ -1,7 +1,7 @@
 -- `record_writes` asks the record's own words.
 use mathlib.Core.Path.{ap, _∙_}
 use Rattle.lists.specs.Lists.{any}
-use Rattle.site.specs.Operations.{writesItem}
+use Rattle.site_operations.specs.Operations.{writesItem}
 use Rattle.records.specs.Records.{Record}
 use borrow.Author.Needs.{needs}
 use Rattle.network_waiting.proofs.record_writes.Statement.{statement}

@@ -2,8 +2,8 @@
 use Prim.Native.Nat.{_≤_, _-_}
 use native.Mathlib.Omega.{arith}
 use lib.ListN.{take}
-use Rattle.site.specs.InWords.{OpsLaid}
-use Rattle.site.proofs.Laws.{none-laid}
+use Rattle.site_operations.specs.InWords.{OpsLaid}
+use Rattle.site_operations.proofs.Laws.{none-laid}
 use borrow.Author.Needs.{needs}
 use Rattle.records.specs.InWords.{recordIn}
 use Rattle.records.proofs.Laws.{laid-next, laid-all}

@@ -5,7 +5,7 @@ use native.Mathlib.Omega.{arith}
 use lib.ListN.{length, drop}
 use Rattle.lists.specs.Lists.{any}
 use Rattle.lists.proofs.Some.{some-true, some-next, some-done}
-use Rattle.site.specs.Operations.{writesItem, noOp}
+use Rattle.site_operations.specs.Operations.{writesItem, noOp}
 use borrow.Author.Needs.{needs}
 use Rattle.records.specs.InWords.{recordIn}
 use Rattle.records.proofs.Laws.{op-at}

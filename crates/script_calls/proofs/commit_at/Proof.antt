@@ -7,7 +7,7 @@ use lib.IntN.{ℤ}
 use lib.ListN.{length, take}
 use lib.Seq.{length-take-le}
 use borrow.Author.Tests.{not-false}
-use Rattle.site.specs.Operations.{Op}
+use Rattle.site_operations.specs.Operations.{Op}
 use Rattle.protocol.specs.Calls.{commit, perform}
 use Rattle.script_notation.specs.Fields.{fieldsFrom}
 use Rattle.script_notation.specs.Parse.{all, operation, commitWith, firstOperations}

@@ -6,7 +6,7 @@ use lib.IntN.{ℤ}
 use lib.ListN.{set}
 use mir.Syntax.{w32}
 use mir.ValLaws.{toZ-ofZ}
-use Rattle.site.specs.Operations.{Op}
+use Rattle.site_operations.specs.Operations.{Op}
 use Rattle.script_notation.specs.Parse.{firstOperations}
 use Rattle.script_notation.proofs.Parsing.{kept-more, kept-full}
 use Rattle.script_parsing.specs.Parsed.{keptMost}

@@ -5,7 +5,7 @@ use mathlib.Core.Option.{Option, some}
 use Prim.Native.Nat.{ℕ, _+_, _-_, _≤_}
 use native.Mathlib.Omega.{arith}
 use lib.ListN.{length, take}
-use Rattle.site.specs.Operations.{Op}
+use Rattle.site_operations.specs.Operations.{Op}
 use Rattle.script_notation.specs.Fields.{fieldsFrom}
 use Rattle.script_notation.specs.Parse.{on, all, operation, firstOperations}
 use Rattle.script_notation.proofs.Places.{field-within}

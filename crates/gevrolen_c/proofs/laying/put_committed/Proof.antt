@@ -9,7 +9,7 @@ use mir.Syntax.{w32}
 use Rattle.words.specs.Words.{put, laid}
 use Rattle.words.proofs.Parts.{part-length}
 use Rattle.timestamp.specs.Value.{stampOf}
-use Rattle.timestamp.specs.InWords.{stampWords}
+use Rattle.timestamp_words.specs.InWords.{stampWords}
 use Rattle.gevrolen_c.specs.Answers.{valueWords}
 use Rattle.limits.specs.Limits.{opsMost}
 use Rattle.gevrolen_c.proofs.AnswerLaws.{front-behind, filled-words}

@@ -6,7 +6,7 @@ use native.Mathlib.Omega.{arith}
 use lib.ListN.{set}
 use Rattle.words.specs.Words.{laid}
 use Rattle.timestamp.specs.Value.{stampOf}
-use Rattle.timestamp.specs.InWords.{stampWords}
+use Rattle.timestamp_words.specs.InWords.{stampWords}
 use lib.Seq.{drop-drop}
 use Rattle.gevrolen_c.proofs.AnswerLaws.{head-laid}
 use borrow.Author.Needs.{needs}

@@ -8,8 +8,8 @@ use Rattle.words.specs.Words.{put, part}
 use Rattle.words.proofs.Parts.{part-length}
 use Rattle.words.proofs.Walks.{overlaid-same}
 use Rattle.timestamp.specs.Value.{stampOf}
-use Rattle.timestamp.specs.InWords.{stampWords}
-use Rattle.site.specs.InWords.{opsIn, opsSize}
+use Rattle.timestamp_words.specs.InWords.{stampWords}
+use Rattle.site_operations.specs.InWords.{opsIn, opsSize}
 use Rattle.limits.specs.Limits.{opsMost}
 use Rattle.gevrolen_c.proofs.AnswerLaws.{last-put, record-laid}
 use borrow.Author.Needs.{needs}

@@ -6,7 +6,7 @@ use native.Mathlib.Omega.{arith}
 use lib.ListN.{length, set}
 use Rattle.words.specs.Words.{put}
 use Rattle.timestamp.specs.Value.{stampOf}
-use Rattle.timestamp.specs.InWords.{stampWords}
+use Rattle.timestamp_words.specs.InWords.{stampWords}
 use Rattle.gevrolen_c.proofs.AnswerLaws.{first-behind}
 use borrow.Author.Needs.{needs}
 use Rattle.gevrolen_c.proofs.laying.put_scheduled.Statement.{statement}

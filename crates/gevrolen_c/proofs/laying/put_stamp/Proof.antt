@@ -2,7 +2,7 @@
 use mathlib.Core.Path.{sym, _∙_}
 use Rattle.words.proofs.Walks.{overlaid-same}
 use Rattle.timestamp.specs.Value.{stampOf}
-use Rattle.timestamp.specs.InWords.{stampWords}
+use Rattle.timestamp_words.specs.InWords.{stampWords}
 use borrow.Author.Needs.{needs}
 use Rattle.gevrolen_c.proofs.laying.put_stamp.Statement.{statement}
 use Rattle.gevrolen_c.proofs.laying.put_stamp.Tie as tie

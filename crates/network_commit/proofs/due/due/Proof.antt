@@ -4,8 +4,8 @@ use mathlib.Core.List.{[]}
 use Prim.Native.Nat.{_≤_, _-_}
 use native.Mathlib.Omega.{arith}
 use lib.ListN.{drop}
-use Rattle.site.specs.InWords.{opIn, opsIn}
-use Rattle.site.proofs.Laws.{ops-length, ops-at}
+use Rattle.site_operations.specs.InWords.{opIn, opsIn}
+use Rattle.site_operations.proofs.Laws.{ops-length, ops-at}
 use Rattle.protocol.specs.Steps.{wantedAt}
 use Rattle.lists.specs.Lists.{any}
 use Rattle.lists.proofs.Some.{some-true, some-next, some-done}

@@ -3,7 +3,7 @@ use mathlib.Core.Path.{_≡_, refl, sym, ap, _∙_}
 use mathlib.Core.Logic.{⊎-elim}
 use Prim.Native.Nat.{_≤_, _-_}
 use native.Mathlib.Omega.{arith}
-use Rattle.site.specs.InWords.{opsIn}
+use Rattle.site_operations.specs.InWords.{opsIn}
 use Rattle.placement.specs.Masks.{maskOf}
 use Rattle.limits.specs.Limits.{sitesMost}
 use Rattle.placement.proofs.Shifts.{mask-fits, mask-with, mask-without}

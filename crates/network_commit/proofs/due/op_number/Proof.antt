@@ -2,7 +2,7 @@
 use mathlib.Core.Path.{_≡_, sym, ap, _∙_}
 use native.Mathlib.Omega.{arith}
 use lib.ListN.{length, getD}
-use Rattle.site.specs.InWords.{opAt}
+use Rattle.site_operations.specs.InWords.{opAt}
 use Rattle.placement.specs.Placement.{owns, copies}
 use Rattle.network_layout.specs.InWords.{networkIn}
 use Rattle.network_layout.proofs.Performs.{items-count}

@@ -4,8 +4,8 @@ use mathlib.Core.List.{[], map}
 use Prim.Native.Nat.{_≤_, _-_}
 use native.Mathlib.Omega.{arith}
 use lib.ListN.{drop}
-use Rattle.site.specs.InWords.{opIn, opsIn}
-use Rattle.site.proofs.Laws.{ops-length, ops-at}
+use Rattle.site_operations.specs.InWords.{opIn, opsIn}
+use Rattle.site_operations.proofs.Laws.{ops-length, ops-at}
 use Rattle.lists.specs.Numbers.{firstNumber}
 use Rattle.lists.proofs.Numbers.{first-here, first-next, first-done}
 use Rattle.protocol.specs.Steps.{opNumber}

@@ -4,8 +4,8 @@ use mathlib.Core.List.{[], _∷_, _++_}
 use native.Mathlib.Omega.{arith}
 use lib.IntN.{pos}
 use lib.ListN.{getD}
-use Rattle.site.specs.Operations.{Op}
-use Rattle.site.specs.InWords.{opsIn}
+use Rattle.site_operations.specs.Operations.{Op}
+use Rattle.site_operations.specs.InWords.{opsIn}
 use Rattle.network_commit.proofs.OperationWords.{op-given}
 use borrow.Author.Needs.{needs}
 use Rattle.network_commit.proofs.operations.op_word.Statement.{statement}

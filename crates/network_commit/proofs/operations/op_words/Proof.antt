@@ -4,7 +4,7 @@ use native.Mathlib.Omega.{arith}
 use Prim.Native.Nat.{_≤_, _-_}
 use lib.ListN.{length, take}
 use Rattle.words.specs.Words.{chunks}
-use Rattle.site.specs.InWords.{opsIn}
+use Rattle.site_operations.specs.InWords.{opsIn}
 use Rattle.protocol.specs.Steps.{opsOf}
 use Rattle.network_commit.proofs.OperationWords.{ops-next, ops-all}
 use borrow.Author.Needs.{needs}

@@ -3,7 +3,7 @@ use mathlib.Core.Path.{refl}
 use Prim.Native.Nat.{_+_}
 use native.Mathlib.Omega.{arith}
 use lib.Seq.{drop-set-lt}
-use Rattle.site.specs.InWords.{opAt}
+use Rattle.site_operations.specs.InWords.{opAt}
 use Rattle.network_commit.proofs.OperationWords.{read-none, read-one}
 use borrow.Author.Needs.{needs}
 use Rattle.network_commit.proofs.operations.value_read.Statement.{statement}

@@ -7,8 +7,8 @@ use lib.ListN.{take}
 use Rattle.lists.specs.Lists.{Filled}
 use Rattle.lists.proofs.Filled.{filled-more}
 use Rattle.words.specs.Words.{chunks}
-use Rattle.site.specs.Operations.{valuesRead}
-use Rattle.site.specs.InWords.{opsIn}
+use Rattle.site_operations.specs.Operations.{valuesRead}
+use Rattle.site_operations.specs.InWords.{opsIn}
 use Rattle.limits.specs.Limits.{opsMost}
 use Rattle.network_commit.proofs.OperationWords.{read-next}
 use borrow.Author.Needs.{needs}

@@ -1,6 +1,6 @@
 -- `unpack` lays the operation of the code and the value at place i.
 use borrow.Author.Needs.{needs}
-use Rattle.site.proofs.Laws.{put-as}
+use Rattle.site_operations.proofs.Laws.{put-as}
 use Rattle.records.proofs.Laws.{unpacked}
 use Rattle.records.proofs.packed.unpack.Statement.{statement}
 use Rattle.records.proofs.packed.unpack.Tie as tie
