@@ -120,12 +120,12 @@ def wrong_stamp(rng, site):
 
 
 def wrong_record(rng, n, site, made, ops):
-    kind, item, v = ops[-1]
+    kind, _, v = ops[-1]
     return rng.choice(
         [
             (n.sites, stamp(rng, min(n.sites, SITES - 1)), ops),
             (site, wrong_stamp(rng, site), ops),
-            (site, made, ops[:-1] + ((2, item, v),)),
+            (site, made, ops[:-1] + ((kind, 2 * ITEMS - 1, v),)),
             (site, made, ops[:-1] + ((kind, len(n.items), v),)),
         ]
     )

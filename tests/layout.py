@@ -3,9 +3,11 @@ from limits import HELD, ITEMS, OPERATIONS, RECORDS, SITES
 from model import Network
 
 STAMP = 2 + 2 * SITES
-ITEM, SITE, MESSAGE, OPERATION = 2, STAMP + ITEMS, 1 + STAMP, 3
+ITEM, SITE, MESSAGE = 2, STAMP + ITEMS, 1 + STAMP
 LINE = 2 + HELD * MESSAGE
-RECORD = 2 + STAMP + OPERATIONS * OPERATION
+CODES = 2 + STAMP  # where a record has the codes of its operations, and where their values
+VALUES = CODES + 2
+RECORD = VALUES + OPERATIONS
 
 ITEMS_AT = 3
 SITES_AT = ITEMS_AT + ITEMS * ITEM
@@ -45,10 +47,10 @@ def held_in(w, at):
 
 
 def record_in(w, at):
-    ops = at + 2 + STAMP
-    end = ops + OPERATION * counted(w[at + 1], OPERATIONS)
-    values = map(signed, w[ops + 2 : end : OPERATION])
-    return (w[at], stamp_in(w, at + 2), tuple(zip(w[ops:end:OPERATION], w[ops + 1 : end : OPERATION], values)))
+    count = counted(w[at + 1], OPERATIONS)
+    codes = [w[at + CODES + i // 4] >> 8 * (i % 4) & 255 for i in range(count)]
+    values = map(signed, w[at + VALUES : at + VALUES + count])
+    return (w[at], stamp_in(w, at + 2), tuple((code % 2, code // 2, v) for code, v in zip(codes, values)))
 
 
 def load(w):
@@ -80,6 +82,12 @@ def lay_stamp(w, at, stamp):
     lay(w, at, [stamp[0], len(stamp[1])] + [n for t in stamp[1] for n in t])
 
 
+def lay_code(w, at, i, code):
+    """Byte i of the two words: the others stay."""
+    place, shift = at + i // 4, 8 * (i % 4)
+    w[place] = w[place] & ~(255 << shift) | code % 256 << shift
+
+
 def words(network, w=None):
     """The words of a network; those that mean nothing stay as they were in w, or are 0."""
     w = [0] * WORDS if w is None else w
@@ -99,7 +107,9 @@ def words(network, w=None):
         at = HISTORY_AT + RECORD * k
         lay(w, at, [site, len(ops)])
         lay_stamp(w, at + 2, stamp)
-        lay(w, at + 2 + STAMP, [n for op in ops for n in op])
+        for i, (kind, item, _) in enumerate(ops):
+            lay_code(w, at + CODES, i, 2 * item + kind)
+        lay(w, at + VALUES, [v for _, _, v in ops])
     return w
 
 
@@ -117,5 +127,6 @@ def parts(w):
             found += [(at, 2), (at, 2), (at + 2, MESSAGE), (at + 2 + MESSAGE * (held - 1), MESSAGE)]
     if records:
         last = HISTORY_AT + RECORD * (records - 1)
-        found += [(HISTORY_AT, 2 + STAMP), (HISTORY_AT, RECORD), (last, 2 + STAMP), (last, RECORD)]
+        for at in (HISTORY_AT, last):
+            found += [(at, 2 + STAMP), (at + CODES, 2), (at, RECORD)]
     return [part for part in found if part[1]] + [(LINES_AT, HISTORY_AT - LINES_AT), (0, WORDS)]

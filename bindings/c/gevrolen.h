@@ -5,7 +5,7 @@
    each step: nothing happens by itself, nothing is sent anywhere, and no call waits.
 
    THE STATE is an array of GEVROLEN_WORDS words that the caller owns; the library keeps nothing of its own, no memory and no file. All zeros are a state that was
-   never set up. It may be copied, saved and loaded as it is (126,540 bytes, in this machine's byte order), since every call tests it: words that are no state
+   never set up. It may be copied, saved and loaded as it is (112,204 bytes, in this machine's byte order), since every call tests it: words that are no state
    get 6. It is too large for a small stack; a static or an allocated array is better.
 
    ANSWERS. A call's result is its number: 0 where it was accepted, else the cause for which it was refused, one of the constants below. Causes are tested in the order of
@@ -29,7 +29,7 @@ extern "C" {
 
 /* ---- sizes */
 
-#define GEVROLEN_WORDS 31635      /* the words of a state */
+#define GEVROLEN_WORDS 28051      /* the words of a state */
 #define GEVROLEN_SITES 8          /* most sites, numbered from 0 */
 #define GEVROLEN_ITEMS 64         /* most items, numbered from 0 */
 #define GEVROLEN_OPERATIONS 8     /* most operations of a commit */

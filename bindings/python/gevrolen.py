@@ -33,7 +33,7 @@ import os
 from array import array
 from collections import namedtuple
 
-WORDS = 31635  # the words of a state, four bytes each
+WORDS = 28051  # the words of a state, four bytes each
 SITES, ITEMS, OPERATIONS, MESSAGES, RECORDS = 8, 64, 8, 16, 256
 FILE_BYTES = 34832  # the longest history file
 READ, WRITE = 0, 1

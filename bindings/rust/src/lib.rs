@@ -37,7 +37,7 @@ pub use refusal::Refusal;
 pub use types::{compare, Committed, Kind, Line, Operation, Record, Scheduled, Stamp};
 
 /// The words of a state.
-pub const WORDS: usize = 31635;
+pub const WORDS: usize = 28051;
 /// The most sites.
 pub const SITES: usize = 8;
 /// The most items.

@@ -33,7 +33,7 @@ fn step(line: &[u8], state: &mut [u32; WORDS]) {
 
 fn compare(before: &[u32; WORDS], state: &[u32; WORDS]) {
     let mut i = 0usize;
-    while i < 31635 {
+    while i < WORDS {
         if before[i] != state[i] {
             io::write_all(STDOUT_FILENO, b" changed");
             return;
@@ -47,7 +47,7 @@ fn compare(before: &[u32; WORDS], state: &[u32; WORDS]) {
 fn set(line: &[u8], state: &mut [u32; WORDS]) {
     let list = lists::numbers(line);
     let place = list[0] as usize;
-    if place < 31635 {
+    if place < WORDS {
         state[place] = list[1];
     }
     io::write_all(STDOUT_FILENO, line);

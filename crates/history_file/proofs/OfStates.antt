@@ -3,7 +3,7 @@ use mathlib.Core.Path.{_≡_, refl, sym, subst}
 use mathlib.Core.Bool.{Bool, true, false, _&&_}
 use mathlib.Core.List.{List, [], _∷_, _++_, map}
 use mathlib.Core.Option.{some}
-use Prim.Native.Nat.{ℕ, zero, suc, _+_, _≤_, _<_, min}
+use Prim.Native.Nat.{ℕ, zero, suc, _+_, _≤_, _<_}
 use native.Mathlib.Omega.{arith}
 use lib.ListN.{length, getD, take, drop}
 use lib.Seq.{take-append-seam}
@@ -19,12 +19,12 @@ use Rattle.timestamp_order.specs.Order.{byNumber}
 use Rattle.timestamp_words.specs.InWords.{pairsAt, stampIn, stampSize, stampRange}
 use Rattle.timestamp_order.specs.Made.{rising as risingOf, madeBy}
 use Rattle.timestamp_order.proofs.Made.{made-parts, made-length}
-use Rattle.site_operations.specs.InWords.{opIn, opsIn, opSize, opsSize}
+use Rattle.site_operations.specs.Operations.{Op}
 use Rattle.limits.specs.Limits.{opsMost}
-use Rattle.site_operations.proofs.Laws.{ops-length}
 use Rattle.placement.specs.Placement.{itemsNumber}
 use Rattle.records.specs.Records.{opFits, recordFits}
-use Rattle.records.specs.InWords.{recordIn, recordRange, recordSize, opsAt}
+use Rattle.records.specs.InWords.{recordIn, recordRange, recordSize, codesMost, valuesAt, opOfCode, opsOf, codesIn, placesIn, countIn}
+use Rattle.records.proofs.Laws.{count-law}
 use Rattle.network_layout.specs.Layout.{historyAt, historySize}
 use Rattle.protocol.specs.Network.{placeOf, lineFits, wellShaped}
 use Rattle.network_layout.specs.InWords.{recordWords, networkIn, shaped, meaning}
@@ -84,20 +84,20 @@ pairs-fit [] j h a b = no-more
 pairs-fit (p ∷ ps) j h (more s a) (more c b) = more {x = p} (record { site = omega arith; count = c }) (pairs-fit ps j h a b)
 
 -- ---- operations
-ops-fit : (items : ℕ) → items ≤ 64 → (n : ℕ) (w : List ℕ) → Words w → every (opFits items) (opsIn n w) ≡ true → All OpFits (opsIn n w)
-unfolding chunks
-ops-fit items h zero w e f = no-more
-ops-fit items h (suc n) w e f =
-    let u = take opSize w in
-    let q = and-true (opFits items (opIn u)) (every (opFits items) (opsIn n (drop opSize w))) f in
-    let k = and-true (leb (opIn u .kind) 1) (ltb (opIn u .item) items) (q .0) in
-    more {x = opIn u}
+ops-fit : (items : ℕ) → items ≤ 64 → (n : ℕ) (cs vs : List ℕ) → Words vs → every (opFits items) (take n (opsOf cs vs)) ≡ true → All OpFits (take n (opsOf cs vs))
+ops-fit items h zero cs vs e f = no-more
+ops-fit items h (suc n) [] vs e f = no-more
+ops-fit items h (suc n) (c ∷ cs) vs e f =
+    let o : Op = opOfCode c (getD vs 0 0) in
+    let q = and-true (opFits items o) (every (opFits items) (take n (opsOf cs (drop 1 vs)))) f in
+    let k = and-true (leb (o .kind) 1) (ltb (o .item) items) (q .0) in
+    more {x = o}
     (record {
-      kind = omega (arith, leb-true (opIn u .kind) 1 (k .0));
-      item = omega (arith, ltb-true (opIn u .item) items (k .1));
-      value = toZ-fits w32 (getD u 2 0) (record { fits = word-at u 2 (every-take isWord opSize w e) });
+      kind = omega (arith, leb-true (o .kind) 1 (k .0));
+      item = omega (arith, ltb-true (o .item) items (k .1));
+      value = toZ-fits w32 (getD vs 0 0) (record { fits = word-at vs 0 e });
     })
-    (ops-fit items h n (drop opSize w) (every-drop isWord opSize w e) (q .1))
+    (ops-fit items h n cs (drop 1 vs) (every-drop isWord 1 vs e) (q .1))
 
 -- ---- a record
 module _ (sites items : ℕ) (few-sites : sites ≤ 8) (few-items : items ≤ 64) where
@@ -105,13 +105,14 @@ module _ (sites items : ℕ) (few-sites : sites ≤ 8) (few-items : items ≤ 64
   unfolding recordIn recordFits recordRange stampIn
   record-fits w e r f =
       let s = part w 2 stampSize in
-      let os = part w opsAt opsSize in
+      let os = placesIn w in
       let site = getD w 0 0 in
       let stamp : Stamp = stampIn s in
-      let n = min (getD w 1 0) opsMost in
-      let p = and-true (ltb site sites) (madeBy byNumber site stamp && every (opFits items) (opsIn n os)) f in
-      let q = and-true (madeBy byNumber site stamp) (every (opFits items) (opsIn n os)) (p .1) in
-      let c = and-true (leb 1 (getD w 1 0)) (leb (getD w 1 0) opsMost && stampRange s) r in
+      let n = countIn w in
+      let p = and-true (ltb site sites) (madeBy byNumber site stamp && every (opFits items) (take n os)) f in
+      let q = and-true (madeBy byNumber site stamp) (every (opFits items) (take n os)) (p .1) in
+      let c = and-true (leb 1 (getD w 1 0)) (leb (getD w 1 0) opsMost && (stampRange s && every (λ c. ltb c codesMost) (take n (codesIn w)))) r in
+      let count : length (take n os) ≡ n = count-law w in
       let m = made-parts byNumber site stamp (q .0) in
       let below : site < sites = ltb-true site sites (p .0) in
       let some : 1 ≤ getD w 1 0 = leb-true 1 (getD w 1 0) (c .0) in
@@ -122,10 +123,10 @@ module _ (sites items : ℕ) (few-sites : sites ≤ 8) (few-items : items ≤ 64
         epoch = word-at s 0 (words-part w 2 stampSize e);
         some-tuples = omega (arith, m .some);
         few-tuples = omega (arith, made-length byNumber site stamp (q .0));
-        some-ops = omega (arith, ops-length n os);
-        few-ops = omega (arith, ops-length n os);
+        some-ops = omega (arith, count);
+        few-ops = omega (arith, count);
         tuples = pairs-fit (stamp .tuples) site (omega arith) (sites-fit (stamp .tuples) site (m .rises) (m .last)) counts;
-        ops = ops-fit items few-items n os (words-part w opsAt opsSize e) (q .1);
+        ops = ops-fit items few-items n (codesIn w) (part w valuesAt opsMost) (words-part w valuesAt opsMost e) (q .1);
       }
 
   records-fit : (ws : List (List ℕ)) → All Words ws → every recordRange ws ≡ true → every (recordFits byNumber sites items) (map recordIn ws) ≡ true → All (RecordFits sites items) (map recordIn ws)

@@ -1,24 +1,23 @@
 -- A site, a line or a record lent as a part of the state: what is read of it, and what a step on it does to the network.
-use mathlib.Core.Path.{_≡_, sym, ap, ap₂, subst, _∙_}
+use mathlib.Core.Path.{_≡_, sym, ap, _∙_}
 use mathlib.Core.Bool.{true}
 use mathlib.Core.List.{List}
 use Prim.Native.Nat.{ℕ, _+_, _-_, _*_, _≤_, _<_, min}
 use native.Mathlib.Omega.{arith}
-use lib.ListN.{length, getD, set, take, replicate}
-use Rattle.words.specs.Words.{part, put, overlaid, Stepped}
+use lib.ListN.{length, getD, set}
+use Rattle.words.specs.Words.{part, put, Stepped}
 use Rattle.words.proofs.Parts.{part-length, lent-part, lent-put, lent-size}
 use Rattle.timestamp_order.specs.Timestamp.{Stamp}
 use Rattle.site_operations.specs.Operations.{Op}
 use Rattle.site.specs.Site.{Site}
 use Rattle.site.specs.InWords.{siteIn, siteRange, siteSize}
-use Rattle.site_operations.specs.InWords.{opsIn, opSize, opsSize, OpsLaid}
-use Rattle.site_operations.proofs.Laws.{front-laid}
+use Rattle.site_operations.specs.InWords.{opsIn, opsSize}
 use Rattle.limits.specs.Limits.{opsMost, sitesMost}
 use Rattle.lines.specs.Lines.{Line, noLine}
 use Rattle.lines.specs.InWords.{lineIn, lineRange, lineSize}
 use Rattle.records.specs.Records.{Record}
-use Rattle.records.specs.InWords.{recordIn, recordSize, opsAt, opsWords, Written}
-use Rattle.records.proofs.Laws.{ops-whole}
+use Rattle.records.specs.InWords.{recordIn, recordSize, Written}
+use Rattle.records.proofs.Laws.{all-coded-same}
 use Rattle.protocol.specs.Network.{siteAt, withSite, withLine, withRecord, noRecord}
 use Rattle.network_layout.specs.Layout.{siteCount, recordCount, sitesAt, linesAt, historyAt}
 use Rattle.network_layout.specs.InWords.{networkIn, inRange, SiteStep, LineStep, RecordStep}
@@ -59,16 +58,6 @@ module _ (w : List ℕ) (k : ℕ) where
         sized = lent-has w (recordStart k) recordSize (omega (arith, h .few));
         meant = ap recordIn (lent-part w (recordStart k) recordSize) ∙ sym (record-read w size k (h .there) (h .few));
       }
-
-  -- the words of its operations, copied over zeros
-  pub record-copied : (ys : List ℕ) → Lent recordSize recordIn (getD (networkIn w .history) k noRecord) ys → (n : ℕ) → n ≡ length (getD (networkIn w .history) k noRecord .ops) → n ≤ opsMost → (out : List ℕ) → out ≡ overlaid (replicate opsSize 0) (take (n * opSize) (opsWords ys))
-      → OpsLaid (length (getD (networkIn w .history) k noRecord .ops)) (getD (networkIn w .history) k noRecord .ops) out
-  record-copied ys l n count few out is =
-      let size = l .sized in
-      let all : n ≡ length (recordIn ys .ops) = count ∙ ap (λ (r : Record). length (r .ops)) (sym (l .meant)) in
-      let front = front-laid n (opsWords ys) (part-length ys opsAt opsSize (omega arith)) few in
-      let own : OpsLaid n (recordIn ys .ops) out = rw is (subst (λ (os : List Op). OpsLaid n os (overlaid (replicate opsSize 0) (take (n * opSize) (opsWords ys)))) (ap (λ (j : ℕ). opsIn j (opsWords ys)) all ∙ ops-whole ys) front) in
-      subst (λ (r : Record). OpsLaid (length (r .ops)) (r .ops) out) (l .meant) (subst (λ (j : ℕ). OpsLaid j (recordIn ys .ops) out) all own)
 
   few-sites : AtSite w k → siteCount w ≤ sitesMost
   unfolding partsOf
@@ -112,11 +101,11 @@ module _ (w : List ℕ) (k : ℕ) where
       }
 
   -- a record more, written to the part behind the others
-  pub record-added : (site count : ℕ) → AtRoom w count → k ≡ recordCount w → (stamp : Stamp) (ops : List ℕ) → length ops ≡ opsSize → (ys : List ℕ)
+  pub record-added : (site count : ℕ) (stamp : Stamp) (ops : List ℕ) → AtRoom w count (opsIn (min count opsMost) ops) → k ≡ recordCount w → length ops ≡ opsSize → (ys : List ℕ)
       → length ys ≡ length (lent w (recordStart k) recordSize) → Written (lent w (recordStart k) recordSize) ys site count stamp ops
       → (v : List ℕ) (m : ℕ) → m ≡ recordCount w → v ≡ set (put w (recordStart k) (recordStart k + recordSize - recordStart k) ys) 2 (m + 1)
       → RecordStep w v (record { site = site; stamp = stamp; ops = opsIn (min count opsMost) ops })
-  record-added site count h is stamp ops long ys size′ s v m ms f =
+  record-added site count stamp ops h is long ys size′ s v m ms f =
       let size = h .sized in
       let inside : recordStart k + recordSize ≤ length w = omega (arith, h .room) in
       let fits : length ys ≡ recordSize = lent-size w (recordStart k) recordSize ys inside size′ in
@@ -126,6 +115,6 @@ module _ (w : List ℕ) (k : ℕ) where
       ∙ ap (λ (x : List ℕ). set x 2 (m + 1)) (lent-put w (recordStart k) recordSize ys ∙ ap (λ (j : ℕ). put w (historyAt + j * recordSize) recordSize ys) is)
       ∙ ap (λ (j : ℕ). set (put w (historyAt + recordCount w * recordSize) recordSize ys) 2 (j + 1)) ms in
       record {
-        meant = ap networkIn g ∙ record-put w size (h .room) ys fits ∙ ap (withRecord (networkIn w)) (s .meant held long);
+        meant = ap networkIn g ∙ record-put w size (h .room) ys fits ∙ ap (withRecord (networkIn w)) (s .meant held long ∙ ap (λ (os : List Op). record { site = site; stamp = stamp; ops = os }) (all-coded-same (opsIn (min count opsMost) ops) (h .fitting)));
         ranged = ap inRange g ∙ record-range w size (h .room) ys fits (h .ranged) (s .ranged held long (h .some) (h .few));
       }

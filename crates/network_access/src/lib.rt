@@ -8,7 +8,6 @@ use network_layout::RECORD;
 use network_layout::RECORD_COUNT;
 use network_layout::SITE;
 use network_layout::SITES;
-use site_operations::OPERATION;
 use site_operations::OPERATIONS;
 use timestamp::GREATEST;
 use timestamp::Timestamp;
@@ -199,7 +198,7 @@ pub fn record_stamp(state: &[u32], k: usize) -> Timestamp
 
 // A record more: its words behind the others, and the number of records one higher.
 pub fn add_record(state: &mut [u32], site: u32, n: u32, t: Timestamp, ops: &[u32; OPERATIONS])
-    requires { ⌜ AtRoom (now state) n ⌝ }
+    requires { ⌜ AtRoom (now state) n (opsIn (min n opsMost) (now ops)) ⌝ }
     ensures { λ r. ⌜ RecordStep (now (state .entry)) (now (state .exit)) (record { site = site; stamp = stampOf t; ops = opsIn (min n opsMost) (now (ops .entry)) }) ⌝ }
 {
     let made = record_count(state);
@@ -216,14 +215,10 @@ pub fn operation_count(state: &[u32], k: usize) -> usize
     records::count(record_at(state, k))
 }
 
-// The words of a record's operations, 0 past the last.
+// A record's operations, three words each, 0 past the last.
 pub fn record_ops(state: &[u32], k: usize) -> [u32; OPERATIONS]
     requires { ⌜ HasRecord (now state) k ⌝ }
     ensures { λ r. ⌜ OpsLaid (length (getD (networkIn (now (state .entry)) .history) k noRecord .ops)) (getD (networkIn (now (state .entry)) .history) k noRecord .ops) r ⌝ }
 {
-    let mut out = [0u32; OPERATIONS];
-    let end = operation_count(state, k) * OPERATION;
-    let ops = records::operations(record_at(state, k));
-    words::copy(&mut out, &ops[..end]);
-    out
+    records::operations(record_at(state, k))
 }

@@ -141,7 +141,7 @@ fn commit_done(state: &mut [u32], site: u32, ops: &[u32], n: usize, mask: u32) -
 
 // The operations worked at the site, and the commit's record added.
 fn work(state: &mut [u32], site: u32, ops: &[u32], n: usize) -> Worked
-    requires { ⌜ WorkReady (now state) site n ⌝ }
+    requires { ⌜ WorkReady (now state) site n (opsIn n (now ops)) ⌝ }
     ensures { λ r. ⌜ WorkDone (now (state .entry)) (now (state .exit)) site (opsIn n (now (ops .entry))) (r .stamp) (opsIn n (r .ops)) ⌝ }
 {
     let i = words::wide(site);

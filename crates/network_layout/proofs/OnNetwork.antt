@@ -7,7 +7,7 @@ use Prim.Native.Nat.{ℕ, _≤_, _<_}
 use native.Mathlib.Omega.{arith}
 use lib.IntN.{ℤ}
 use lib.ListN.{length}
-use Rattle.limits.specs.Limits.{sitesMost}
+use Rattle.limits.specs.Limits.{sitesMost, itemsMost}
 use Rattle.timestamp_order.specs.Timestamp.{Stamp}
 use Rattle.protocol.specs.Network.{Network, noStamp, lineNumber, wellShaped}
 use Rattle.protocol.specs.Calls.{Call, Outcome, refused, judged, perform}
@@ -15,7 +15,7 @@ use Rattle.network_layout.specs.InWords.{networkIn, inRange, shaped, mea
 use Rattle.network_layout.specs.Promises.{Performed}
 use Rattle.network_layout.specs.At.{AtState, AtSite, AtLine, HasRecord, AtNetwork}
 use Rattle.network_layout.proofs.Assembled.{partsOf, range-parts}
-use Rattle.network_layout.proofs.Performs.{sites-count, records-count, shaped-range, shaped-well, number-shaped, performs-refused, performs-accepted, meaning-some}
+use Rattle.network_layout.proofs.Performs.{sites-count, items-count, records-count, shaped-range, shaped-well, number-shaped, performs-refused, performs-accepted, meaning-some}
 
 module _ (w : List ℕ) (net : AtNetwork w) where
   pub ranged-on : inRange w ≡ true
@@ -27,6 +27,10 @@ module _ (w : List ℕ) (net : AtNetwork w) where
   pub few-on : length (networkIn w .sites) ≤ sitesMost
   unfolding partsOf
   few-on = omega (arith, sites-count w, range-parts w ranged-on .few-sites)
+
+  pub few-items-on : length (networkIn w .items) ≤ itemsMost
+  unfolding partsOf
+  few-items-on = omega (arith, items-count w 0, range-parts w ranged-on .few-items)
 
   pub at-state : AtState w
   at-state = record { sized = net .sized; ranged = ranged-on }

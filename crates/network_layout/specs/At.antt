@@ -4,7 +4,10 @@ use mathlib.Core.Bool.{true}
 use mathlib.Core.List.{List}
 use Prim.Native.Nat.{ℕ, _<_, _≤_}
 use lib.ListN.{length}
-use Rattle.limits.specs.Limits.{sitesMost, opsMost, recordsMost}
+use Rattle.limits.specs.Limits.{sitesMost, itemsMost, opsMost, recordsMost}
+use Rattle.lists.specs.Lists.{every}
+use Rattle.site_operations.specs.Operations.{Op}
+use Rattle.records.specs.Records.{opFits}
 use Rattle.protocol.specs.Network.{linesMost}
 use Rattle.network_layout.specs.Layout.{siteCount, itemCount, recordCount, stateSize}
 use Rattle.network_layout.specs.InWords.{inRange, shaped}
@@ -25,13 +28,14 @@ pub record AtLine (w : List ℕ) (k : ℕ) : Type 0 where
   pub ranged : inRange w ≡ true
   pub few : k < linesMost
 
--- a record more, of n operations
-pub record AtRoom (w : List ℕ) (n : ℕ) : Type 0 where
+-- a record more, of n operations, which a record has room for
+pub record AtRoom (w : List ℕ) (n : ℕ) (os : List Op) : Type 0 where
   pub sized : length w ≡ stateSize
   pub ranged : inRange w ≡ true
   pub room : recordCount w < recordsMost
   pub some : 1 ≤ n
   pub few : n ≤ opsMost
+  pub fitting : every (opFits itemsMost) os ≡ true
 
 -- ---- what is only read need not be in range
 pub record HasItem (w : List ℕ) (k : ℕ) : Type 0 where

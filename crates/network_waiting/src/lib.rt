@@ -3,12 +3,10 @@ use limits::ITEMS_WIDE;
 use limits::SITES;
 use network_layout::Report;
 use network_layout::WORDS;
-use site_operations::WRITE;
 ghost use mathlib.Core.Path.{_≡_};
 ghost use lib.ListN.{length, getD};
 ghost use Rattle.lists.specs.Lists.{any};
 ghost use Rattle.site_operations.specs.Operations.{writesItem};
-ghost use Rattle.site_operations.specs.InWords.{opAt, opsIn};
 ghost use Rattle.messages.specs.Messages.{commit};
 ghost use Rattle.protocol.specs.Network.{noRecord};
 ghost use Rattle.protocol.specs.Waiting.{isWaiting};
@@ -123,30 +121,5 @@ fn record_writes(state: &[u32], k: usize, item: u32) -> bool
     requires { ⌜ HasRecord (now state) k ⌝ }
     ensures { λ r. ⌜ r ≡ any (writesItem item) (getD (networkIn (now (state .entry)) .history) k noRecord .ops) ⌝ }
 {
-    let w = network_access::record_at(state, k);
-    writes_item(records::operations(w), records::count(w), item)
-}
-
-// Whether one of the first n operations writes the item.
-fn writes_item(ops: &[u32], n: usize, item: u32) -> bool
-    ensures { λ r. ⌜ r ≡ any (writesItem item) (opsIn n (now (ops .entry))) ⌝ }
-{
-    let mut k = 0;
-    while k < n {
-        if is_write_of(ops, k, item) {
-            return true;
-        }
-        k += 1;
-    }
-    false
-}
-
-// Whether operation k writes the item.
-fn is_write_of(ops: &[u32], k: usize, item: u32) -> bool
-    ensures { λ r. ⌜ r ≡ writesItem item (opAt (now (ops .entry)) k) ⌝ }
-{
-    if site_operations::kind(ops, k) != WRITE {
-        return false;
-    }
-    site_operations::item(ops, k) == item
+    records::writes(network_access::record_at(state, k), item)
 }

@@ -189,7 +189,7 @@ module _ (h : List Record) (r : Record) where
 
 -- ---- the operations of a commit that is not refused
 module _ (xs : List Item) (i : ℕ) (os : List Op) (z : firstNumber (map (opNumber xs i) os) ≡ 0) where
-  ops-fit : every (opFits (length xs)) os ≡ true
+  pub ops-fit : every (opFits (length xs)) os ≡ true
   ops-fit =
       every-all (opFits (length xs)) os noOp
       (λ k h. let o = getD os k noOp in let s = op-at xs i os z k h in rw (le-leb (o .kind) 1 (s .kind)) (lt-ltb (o .item) (length xs) (s .item)))
@@ -212,7 +212,7 @@ recorded-fits items b o = go (reads o)
     go true = refl
     go false = refl
 
-records-fit : (items : ℕ) (b : List ℤ) (os : List Op) → every (opFits items) os ≡ true → every (opFits items) (map (recorded b b) os) ≡ true
+pub records-fit : (items : ℕ) (b : List ℤ) (os : List Op) → every (opFits items) os ≡ true → every (opFits items) (map (recorded b b) os) ≡ true
 records-fit items b [] e = refl
 records-fit items b (o ∷ os) e =
     let q = and-true (opFits items o) (every (opFits items) os) e in

@@ -1,29 +1,35 @@
 -- Laws of a record in words: what is read from them, what is written, and the test for shape.
-use mathlib.Core.Path.{_≡_, refl, sym, ap, ap₂, _∙_}
+use mathlib.Core.Path.{_≡_, refl, sym, ap, ap₂, subst, _∙_}
 use mathlib.Core.Bool.{Bool, true, false, _&&_}
-use mathlib.Core.List.{List, [], _∷_}
-use Prim.Native.Nat.{ℕ, _+_, _-_, _≤_, _<_, min}
+use mathlib.Core.List.{List, [], _∷_, _++_, map}
+use Prim.Native.Nat.{ℕ, zero, suc, _+_, _*_, _-_, _/_, _%_, _^_, _≤_, _<_, min}
 use native.Mathlib.Omega.{arith}
-use lib.ListN.{length, getD, set, take, drop, length-set, length-drop, drop-of-length-le}
-use lib.Seq.{getD-set-same, getD-set-other, take-all}
-use lib.Dec.{ltb, eqb}
-use borrow.Author.Tests.{lt-ltb, le-ltb, le-leb, lt-leb, eq-eqb, ne-eqb}
-use Rattle.words.specs.Words.{part, put, overlaid}
+use native.Mathlib.Numerals.{add-one}
+use lib.ListN.{length, getD, set, take, drop, length-set, length-drop, length-map, drop-of-length-le, List·getD-map}
+use lib.Seq.{getD-set-same, getD-set-other, getD-take, getD-drop, take-all, take-suc, take-length, length-take-le, ext-getD}
+use lib.Bits.{bitAnd}
+use lib.Dec.{ltb, leb, eqb}
+use mir.Val.{toZ}
+use mir.Syntax.{w32}
+use borrow.Author.Tests.{lt-ltb, le-ltb, ltb-true, ltb-false, le-leb, lt-leb, leb-true, eq-eqb, ne-eqb, eqb-true, eqb-false}
 use Rattle.lists.specs.Lists.{every}
-use Rattle.words.proofs.Parts.{part-length, put-length, put-here, put-below, put-getD-below}
+use Rattle.lists.proofs.Every.{and-true, every-all}
+use Rattle.lanes.specs.Lanes.{bytes, each}
+use Rattle.lanes.proofs.Laws.{bytes-length, bytes-take, bytes-of-two, below-128, below-least, raised-fits, each-times}
+use Rattle.words.specs.Words.{part, put, overlaid}
+use Rattle.words.proofs.Parts.{part-length, part-getD, put-length, put-here, put-below, put-getD-below}
 use Rattle.words.proofs.Walks.{overlaid-same}
-use Rattle.lists.proofs.Every.{every-false, every-next, every-done}
 use Rattle.timestamp_order.specs.Timestamp.{Stamp, room}
 use Rattle.timestamp_order.specs.Order.{byNumber}
 use Rattle.timestamp_words.specs.InWords.{stampIn, stampSize, stampRange, stampWords, stampShaped}
 use Rattle.timestamp_order.specs.Made.{madeBy}
 use Rattle.timestamp_words.proofs.Words.{stamp-front, words-back, words-length}
-use Rattle.site_operations.specs.Operations.{Op}
-use Rattle.site_operations.specs.InWords.{opIn, opAt, opsIn, opsSize}
-use Rattle.limits.specs.Limits.{opsMost}
-use Rattle.site_operations.proofs.Laws.{ops-at, ops-length}
+use Rattle.site_operations.specs.Operations.{Op, noOp, writesItem}
+use Rattle.site_operations.specs.InWords.{opIn, opAt, opsIn, opsSize, OpsLaid, Put}
+use Rattle.site_operations.proofs.Laws.{ops-at, ops-length, next-laid}
+use Rattle.limits.specs.Limits.{itemsMost, opsMost}
 use Rattle.records.specs.Records.{opFits, recordFits}
-use Rattle.records.specs.InWords.{stampAt, opsAt, opsWords, recordSize, recordIn, recordRange, Written}
+use Rattle.records.specs.InWords.{stampAt, codesAt, valuesAt, recordSize, packedSize, codesMost, opOfCode, opsOf, joined, codeNumber, codesIn, placesIn, countIn, coded, codeOf, recordIn, recordRange, Packed, Written}
 
 -- ---- read
 module _ (w : List ℕ) where
@@ -35,25 +41,94 @@ module _ (w : List ℕ) where
   unfolding recordIn
   stamp-long = ap stampIn (take-all (length w - 2) (drop 2 w) (omega (arith, length-drop 2 w))) ∙ sym (stamp-front (drop 2 w))
 
-pub count-law : (w : List ℕ) → length (recordIn w .ops) ≡ min (getD w 1 0) opsMost
-unfolding recordIn
-count-law w = ops-length (min (getD w 1 0) opsMost) (opsWords w)
+-- the operations of codes and values, one by one
+pub ops-of-length : (cs vs : List ℕ) → length (opsOf cs vs) ≡ length cs
+ops-of-length [] vs = refl
+ops-of-length (c ∷ cs) vs = ap suc (ops-of-length cs (drop 1 vs))
 
--- as many operations of their words as the record has
-pub ops-whole : (w : List ℕ) → opsIn (length (recordIn w .ops)) (opsWords w) ≡ recordIn w .ops
-unfolding recordIn
-ops-whole w = ap (λ (n : ℕ). opsIn n (opsWords w)) (count-law w)
+ops-of-at : (cs vs : List ℕ) (i : ℕ) → i < length cs → getD (opsOf cs vs) i noOp ≡ opOfCode (getD cs i 0) (getD vs i 0)
+ops-of-at [] vs i h = absurd (omega arith)
+ops-of-at (c ∷ cs) vs zero h = refl
+ops-of-at (c ∷ cs) vs (suc i) h =
+    let next : 1 + i ≡ suc i = omega arith in
+    ops-of-at cs (drop 1 vs) i (omega arith) ∙ ap (opOfCode (getD cs i 0)) (getD-drop 1 vs i 0 ∙ ap (λ (k : ℕ). getD vs k 0) next)
 
--- the operations' words of a slice of any size
 module _ (w : List ℕ) where
-  pub ops-none : length w < opsAt → [] ≡ opsWords w
-  ops-none h = sym (ap (take opsSize) (drop-of-length-le w {i = opsAt} (omega arith)))
+  pub places-length : length (placesIn w) ≡ opsMost
+  places-length = ops-of-length (codesIn w) (part w valuesAt opsMost) ∙ bytes-length opsMost (codeNumber w)
 
-  pub ops-some : length w < recordSize → part w opsAt (length w - opsAt) ≡ opsWords w
-  ops-some h =
-      let rest = drop opsAt w in
-      let few : length rest ≤ opsSize = omega (arith, length-drop opsAt w) in
-      take-all (length w - opsAt) rest (omega (arith, length-drop opsAt w)) ∙ sym (take-all opsSize rest few)
+  pub count-law : length (recordIn w .ops) ≡ min (getD w 1 0) opsMost
+  unfolding recordIn
+  count-law = length-take-le (countIn w) (placesIn w) (omega (arith, places-length))
+
+  pub place-at : (i : ℕ) → i < opsMost → getD (placesIn w) i noOp ≡ opOfCode (getD (codesIn w) i 0) (getD w (valuesAt + i) 0)
+  place-at i h =
+      ops-of-at (codesIn w) (part w valuesAt opsMost) i (omega (arith, bytes-length opsMost (codeNumber w)))
+      ∙ ap (opOfCode (getD (codesIn w) i 0)) (part-getD w valuesAt opsMost i h)
+
+  pub op-at : (i : ℕ) → i < length (recordIn w .ops) → getD (recordIn w .ops) i noOp ≡ getD (placesIn w) i noOp
+  unfolding recordIn
+  op-at i h = getD-take (countIn w) (placesIn w) i noOp (omega (arith, count-law))
+
+  module _ (i : ℕ) (h : i < opsMost) (c : ℕ) (is : c ≡ getD (codesIn w) i 0) where
+    pub unpacked : (v : ℕ) → v ≡ getD w (valuesAt + i) 0 → opOfCode c v ≡ getD (placesIn w) i noOp
+    unpacked v e = ap₂ opOfCode is e ∙ sym (place-at i h)
+
+    coded-write : (item : ℕ) → writesItem item (getD (placesIn w) i noOp) ≡ (eqb (c % 2) 1 && eqb (c / 2) item)
+    coded-write item = ap (writesItem item) (sym (unpacked (getD w (valuesAt + i) 0) refl))
+
+    pub writes-not : (item : ℕ) → (c % 2 ≡ 1 → ⊥) → false ≡ writesItem item (getD (placesIn w) i noOp)
+    writes-not item z = sym (coded-write item ∙ ap (λ (b : Bool). b && eqb (c / 2) item) (ne-eqb (c % 2) 1 z))
+
+    pub writes-if : (item : ℕ) → c % 2 ≡ 1 → eqb (c / 2) item ≡ writesItem item (getD (placesIn w) i noOp)
+    writes-if item e = sym (coded-write item ∙ ap (λ (b : Bool). b && eqb (c / 2) item) (eq-eqb (c % 2) 1 e))
+
+  -- the operations laid so far, and one more
+  pub laid-next : (i : ℕ) (out out′ : List ℕ) → i < length (recordIn w .ops) → OpsLaid i (take i (recordIn w .ops)) out → Put out out′ i (getD (placesIn w) i noOp) → OpsLaid (i + 1) (take (i + 1) (recordIn w .ops)) out′
+  laid-next i out out′ h laid put =
+      let os = recordIn w .ops in
+      let more : take i os ++ (getD (placesIn w) i noOp ∷ []) ≡ take (i + 1) os
+      = ap (λ (o : Op). take i os ++ (o ∷ [])) (sym (op-at i h)) ∙ sym (take-suc os i noOp h) ∙ ap (λ (k : ℕ). take k os) (sym (add-one i)) in
+      subst (λ (xs : List Op). OpsLaid (i + 1) xs out′) more (next-laid i (take i os) out out′ (getD (placesIn w) i noOp) laid (omega (arith, count-law)) put)
+
+  pub laid-all : (i : ℕ) (out : List ℕ) → i ≡ length (recordIn w .ops) → OpsLaid i (take i (recordIn w .ops)) out → OpsLaid (length (recordIn w .ops)) (recordIn w .ops) out
+  laid-all i out is laid =
+      let os = recordIn w .ops in
+      subst (λ (xs : List Op). OpsLaid (length os) xs out) (take-length os) (subst (λ (k : ℕ). OpsLaid k (take k os) out) is laid)
+
+-- ---- packed
+-- the values of the first i operations
+abbrev pub Valued : List ℕ → List ℕ → ℕ → Type 0
+Valued ops w i = (j : ℕ) → j < i → toZ w32 (getD w (2 + j) 0) ≡ opAt ops j .value
+
+pub valued-next : (ops w : List ℕ) (size : length w ≡ packedSize) (i v p : ℕ) → p ≡ 2 + i → i < opsMost → Valued ops w i → toZ w32 v ≡ opAt ops i .value → Valued ops (set w p v) (i + 1)
+valued-next ops w size i v p at few before is j h = go (eqb j i) refl
+  where
+    go : (t : Bool) → eqb j i ≡ t → toZ w32 (getD (set w p v) (2 + j) 0) ≡ opAt ops j .value
+    go true e =
+        let same : j ≡ i = eqb-true j i e in
+        let here : 2 + j ≡ p = omega arith in
+        ap (toZ w32) (ap (λ (k : ℕ). getD (set w p v) k 0) here ∙ getD-set-same w p v 0 (omega arith)) ∙ is ∙ ap (λ (k : ℕ). opAt ops k .value) (sym same)
+    go false e =
+        let apart : j ≡ i → ⊥ = eqb-false j i e in
+        ap (toZ w32) (getD-set-other w p (2 + j) v 0 (λ z. apart (omega arith))) ∙ before j (omega (arith, apart))
+
+pub packed : (ops w : List ℕ) (size : length w ≡ packedSize) → Valued ops w opsMost → (low high : ℕ)
+    → low ≡ codeOf (opAt ops 0) + 256 * (codeOf (opAt ops 1) + 256 * (codeOf (opAt ops 2) + 256 * codeOf (opAt ops 3)))
+    → high ≡ codeOf (opAt ops 4) + 256 * (codeOf (opAt ops 5) + 256 * (codeOf (opAt ops 6) + 256 * codeOf (opAt ops 7)))
+    → Packed ops (set (set w 0 low) 1 high)
+packed ops w size valued low high l g =
+    let u = set w 0 low in
+    let first : getD (set u 1 high) 0 0 ≡ low = getD-set-other u 1 0 high 0 (λ z. omega arith) ∙ getD-set-same w 0 low 0 (omega arith) in
+    let second : getD (set u 1 high) 1 0 ≡ high = getD-set-same u 1 high 0 (omega (arith, length-set w 0 low)) in
+    record {
+      codes-are = λ i h.
+          ap₂ (λ (a b : ℕ). getD (bytes opsMost (joined a b)) i 0) first second
+          ∙ bytes-of-two (λ j. codeOf (opAt ops j)) (λ j. omega arith) low high l g i h;
+      values-are = λ i h.
+          ap (toZ w32) (getD-set-other u 1 (2 + i) high 0 (λ z. omega arith) ∙ getD-set-other w 0 (2 + i) low 0 (λ z. omega arith))
+          ∙ valued i h;
+    }
 
 -- ---- written: the site and the number of operations, then the timestamp, then the operations
 module _ (w : List ℕ) (size : length w ≡ recordSize) (site n : ℕ) where
@@ -76,22 +151,19 @@ module _ (w : List ℕ) (size : length w ≡ recordSize) (site n : ℕ) where
     pub stamped-size : length stamped ≡ recordSize
     stamped-size = put-length headed stampAt stampSize ys (omega (arith, headed-size)) stamp-fits ∙ headed-size
 
-    module _ (ops : List ℕ) (all : length ops ≡ opsSize) (zs : List ℕ) (are : zs ≡ overlaid (part stamped opsAt opsSize) ops) where
+    module _ (ops : List ℕ) (all : length ops ≡ opsSize) (zs : List ℕ) (same : length zs ≡ length (part stamped codesAt packedSize)) (are : Packed ops zs) where
+      fits : length zs ≡ packedSize
+      fits = same ∙ part-length stamped codesAt packedSize (omega (arith, stamped-size))
+
       abbrev filled : List ℕ
-      filled = put stamped opsAt opsSize zs
-
-      ops-words : zs ≡ ops
-      ops-words = are ∙ overlaid-same (part stamped opsAt opsSize) ops (all ∙ sym (part-length stamped opsAt opsSize (omega (arith, stamped-size))))
-
-      ops-fit : length zs ≡ opsSize
-      ops-fit = ap length ops-words ∙ all
+      filled = put stamped codesAt packedSize zs
 
       pub filled-size : length filled ≡ length w
-      filled-size = put-length stamped opsAt opsSize zs (omega (arith, stamped-size)) ops-fit ∙ stamped-size ∙ sym size
+      filled-size = put-length stamped codesAt packedSize zs (omega (arith, stamped-size)) fits ∙ stamped-size ∙ sym size
 
       front : (i : ℕ) → i < stampAt → getD filled i 0 ≡ getD headed i 0
       front i h =
-          put-getD-below stamped opsAt opsSize zs (omega (arith, stamped-size)) ops-fit i (omega arith)
+          put-getD-below stamped codesAt packedSize zs (omega (arith, stamped-size)) fits i (omega arith)
           ∙ put-getD-below headed stampAt stampSize ys (omega (arith, headed-size)) stamp-fits i h
 
       filled-site : getD filled 0 0 ≡ site
@@ -102,24 +174,59 @@ module _ (w : List ℕ) (size : length w ≡ recordSize) (site n : ℕ) where
 
       filled-stamp : part filled stampAt stampSize ≡ stampWords s
       filled-stamp =
-          put-below stamped opsAt opsSize zs (omega (arith, stamped-size)) ops-fit stampAt stampSize (omega arith)
+          put-below stamped codesAt packedSize zs (omega (arith, stamped-size)) fits stampAt stampSize (omega arith)
           ∙ put-here headed stampAt stampSize ys (omega (arith, headed-size)) stamp-fits
           ∙ stamp-words
 
-      filled-ops : part filled opsAt opsSize ≡ ops
-      filled-ops = put-here stamped opsAt opsSize zs (omega (arith, stamped-size)) ops-fit ∙ ops-words
+      filled-word : (i : ℕ) → i < packedSize → getD filled (codesAt + i) 0 ≡ getD zs i 0
+      filled-word i h =
+          sym (part-getD filled codesAt packedSize i h)
+          ∙ ap (λ (x : List ℕ). getD x i 0) (put-here stamped codesAt packedSize zs (omega (arith, stamped-size)) fits)
+
+      filled-code : (i : ℕ) → i < opsMost → getD (codesIn filled) i 0 ≡ codeOf (opAt ops i)
+      filled-code i h =
+          ap₂ (λ (a b : ℕ). getD (bytes opsMost (joined a b)) i 0) (filled-word 0 (omega arith)) (filled-word 1 (omega arith))
+          ∙ are .codes-are i h
+
+      filled-place : (i : ℕ) → i < opsMost → getD (placesIn filled) i noOp ≡ coded (opAt ops i)
+      filled-place i h =
+          let o = opAt ops i in
+          let c = filled-code i h in
+          let kind : getD (codesIn filled) i 0 % 2 ≡ coded o .kind = omega (arith, c) in
+          let item : getD (codesIn filled) i 0 / 2 ≡ coded o .item = omega (arith, c) in
+          let value : toZ w32 (getD filled (valuesAt + i) 0) ≡ o .value = ap (toZ w32) (ap (λ (k : ℕ). getD filled k 0) (omega arith) ∙ filled-word (2 + i) (omega arith)) ∙ are .values-are i h in
+          place-at filled i h ∙ (λ t. record { kind = kind t; item = item t; value = value t })
+
+      filled-ops : (m : ℕ) → m ≤ opsMost → take m (placesIn filled) ≡ map coded (opsIn m ops)
+      filled-ops m few =
+          let sized : length (take m (placesIn filled)) ≡ m = length-take-le m (placesIn filled) (omega (arith, places-length filled)) in
+          let sized′ : length (map coded (opsIn m ops)) ≡ m = length-map (opsIn m ops) coded ∙ ops-length m ops in
+          ext-getD noOp (take m (placesIn filled)) (map coded (opsIn m ops)) (sized ∙ sym sized′)
+          (λ i h.
+          let j : i < m = omega (arith, sized) in
+          getD-take m (placesIn filled) i noOp j
+          ∙ filled-place i (omega arith)
+          ∙ sym (List·getD-map coded (opsIn m ops) i (opIn []) ∙ ap coded (ops-at m ops i j)))
+
+      filled-codes : (m : ℕ) → m ≤ opsMost → every (λ c. ltb c codesMost) (take m (codesIn filled)) ≡ true
+      filled-codes m few =
+          let sized : length (take m (codesIn filled)) ≡ m = length-take-le m (codesIn filled) (omega (arith, bytes-length opsMost (codeNumber filled))) in
+          every-all (λ c. ltb c codesMost) (take m (codesIn filled)) 0
+          (λ i h.
+          let c : getD (take m (codesIn filled)) i 0 ≡ codeOf (opAt ops i) = getD-take m (codesIn filled) i 0 (omega (arith, sized)) ∙ filled-code i (omega (arith, sized)) in
+          lt-ltb (getD (take m (codesIn filled)) i 0) codesMost (omega (arith, c)))
 
       module _ (few : length (s .tuples) ≤ room) where
-        filled-record : recordIn filled ≡ record { site = site; stamp = s; ops = opsIn (min n opsMost) ops }
+        filled-record : recordIn filled ≡ record { site = site; stamp = s; ops = map coded (opsIn (min n opsMost) ops) }
         unfolding recordIn
         filled-record =
             let stamp = ap stampIn filled-stamp ∙ words-back s few in
-            let held = ap₂ (λ (k : ℕ) (x : List ℕ). opsIn (min k opsMost) x) filled-count filled-ops in
+            let held = ap (λ (k : ℕ). take (min k opsMost) (placesIn filled)) filled-count ∙ filled-ops (min n opsMost) (omega arith) in
             λ t. record { site = filled-site t; stamp = stamp t; ops = held t }
 
         filled-range : 1 ≤ n → n ≤ opsMost → recordRange filled ≡ true
         unfolding recordRange stampWords
-        filled-range some most = rw (filled-count, le-leb 1 n some, le-leb n opsMost most, ap stampRange filled-stamp) (le-leb (length (s .tuples)) room few)
+        filled-range some most = rw (filled-count, le-leb 1 n some, le-leb n opsMost most, ap stampRange filled-stamp, le-leb (length (s .tuples)) room few) (filled-codes (min n opsMost) (omega arith))
 
         pub written : Written w filled site n s ops
         written = record { meant = λ _ _. filled-record; ranged = λ _ _. filled-range; kept = λ other. absurd (other size all) }
@@ -127,36 +234,92 @@ module _ (w : List ℕ) (size : length w ≡ recordSize) (site n : ℕ) where
 pub not-written : (w : List ℕ) (site n : ℕ) (s : Stamp) (ops : List ℕ) → (length w ≡ recordSize → length ops ≡ opsSize → ⊥) → Written w w site n s ops
 not-written w site n s ops other = record { meant = λ a b. absurd (other a b); ranged = λ a b. absurd (other a b); kept = λ _. refl }
 
--- ---- one operation, and the walk over all
-module _ (items : ℕ) (o : Op) (kind : ℕ) (k : kind ≡ o .kind) where
-  pub kind-unknown : 1 < kind → false ≡ opFits items o
-  kind-unknown h = sym (rw (lt-leb (o .kind) 1 (omega arith)))
+-- ---- operations that a code has room for are read back as they were
+pub coded-same : (o : Op) → opFits itemsMost o ≡ true → coded o ≡ o
+coded-same o e =
+    let q = and-true (leb (o .kind) 1) (ltb (o .item) itemsMost) e in
+    let kind : o .kind % 2 ≡ o .kind = omega (arith, leb-true (o .kind) 1 (q .0)) in
+    let item : o .item % itemsMost ≡ o .item = omega (arith, ltb-true (o .item) itemsMost (q .1)) in
+    λ t. record { kind = kind t; item = item t; value = o .value }
 
-  pub kind-known : kind ≤ 1 → (item : ℕ) → item ≡ o .item → ltb item items ≡ opFits items o
-  kind-known h item j = ap (λ (x : ℕ). ltb x items) j ∙ sym (rw (le-leb (o .kind) 1 (omega arith)))
+pub all-coded-same : (os : List Op) → every (opFits itemsMost) os ≡ true → map coded os ≡ os
+all-coded-same [] e = refl
+all-coded-same (o ∷ os) e =
+    let q = and-true (opFits itemsMost o) (every (opFits itemsMost) os) e in
+    ap₂ (λ (x : Op) (xs : List Op). x ∷ xs) (coded-same o (q .0)) (all-coded-same os (q .1))
 
-module _ (items n : ℕ) (ops : List ℕ) (i : ℕ) (e : every (opFits items) (opsIn n ops) ≡ every (opFits items) (drop i (opsIn n ops))) where
-  pub walk-done : n ≤ i → true ≡ every (opFits items) (opsIn n ops)
-  walk-done h = sym (every-done (opFits items) (opsIn n ops) i (opIn []) e (omega (arith, ops-length n ops)))
+-- what fits so many items fits more
+pub fits-more : (items more : ℕ) → items ≤ more → (os : List Op) → every (opFits items) os ≡ true → every (opFits more) os ≡ true
+fits-more items more h [] e = refl
+fits-more items more h (o ∷ os) e =
+    let q = and-true (opFits items o) (every (opFits items) os) e in
+    let k = and-true (leb (o .kind) 1) (ltb (o .item) items) (q .0) in
+    rw (k .0, lt-ltb (o .item) more (omega (arith, ltb-true (o .item) items (k .1)))) (fits-more items more h os (q .1))
 
-  module _ (h : i < n) (r : Bool) (is : r ≡ opFits items (opAt ops i)) where
-    inside : i < length (opsIn n ops)
-    inside = omega (arith, ops-length n ops)
+-- ---- the test of the codes
+-- of codes below 128 those of the items are those that fit
+fits-by-code : (items c v : ℕ) → c < codesMost → ltb c (codesMost - (codesMost - 2 * items)) ≡ opFits items (opOfCode c v)
+fits-by-code items c v l = go (ltb (c / 2) items) refl ∙ sym (ap (λ (b : Bool). b && ltb (c / 2) items) (le-leb (c % 2) 1 (omega arith)))
+  where
+    go : (t : Bool) → ltb (c / 2) items ≡ t → ltb c (codesMost - (codesMost - 2 * items)) ≡ t
+    go true f = lt-ltb c (codesMost - (codesMost - 2 * items)) (omega (arith, ltb-true (c / 2) items f))
+    go false f = le-ltb c (codesMost - (codesMost - 2 * items)) (omega (arith, ltb-false (c / 2) items f))
 
-    fits-at : opFits items (getD (opsIn n ops) i (opIn [])) ≡ r
-    fits-at = ap (opFits items) (ops-at n ops i h) ∙ sym is
+all-fit-by-code : (items : ℕ) (cs vs : List ℕ) → every (λ c. ltb c codesMost) cs ≡ true → every (λ c. ltb c (codesMost - (codesMost - 2 * items))) cs ≡ every (opFits items) (opsOf cs vs)
+all-fit-by-code items [] vs e = refl
+all-fit-by-code items (c ∷ cs) vs e =
+    let q = and-true (ltb c codesMost) (every (λ c. ltb c codesMost) cs) e in
+    ap₂ (λ (s t : Bool). s && t) (fits-by-code items c (getD vs 0 0) (ltb-true c codesMost (q .0))) (all-fit-by-code items cs (drop 1 vs) (q .1))
 
-    pub walk-false : r ≡ false → false ≡ every (opFits items) (opsIn n ops)
-    walk-false f = sym (every-false (opFits items) (opsIn n ops) i (opIn []) e inside (fits-at ∙ f))
+-- the first operations are those of the first codes
+ops-of-take : (n : ℕ) (cs vs : List ℕ) → take n (opsOf cs vs) ≡ opsOf (take n cs) vs
+ops-of-take zero cs vs = refl
+ops-of-take (suc n) [] vs = refl
+ops-of-take (suc n) (c ∷ cs) vs = ap (λ (os : List Op). opOfCode c (getD vs 0 0) ∷ os) (ops-of-take n cs (drop 1 vs))
 
-    pub walk-next : r ≡ true → every (opFits items) (opsIn n ops) ≡ every (opFits items) (drop (i + 1) (opsIn n ops))
-    walk-next t = every-next (opFits items) (opsIn n ops) i (opIn []) e inside (fits-at ∙ t)
+module _ (w : List ℕ) (items n : ℕ) (few : n ≤ opsMost) where
+  abbrev inRange : Bool
+  inRange = every (λ c. ltb c codesMost) (take n (codesIn w))
+
+  abbrev fitting : Bool
+  fitting = inRange && every (opFits items) (take n (placesIn w))
+
+  codes-first : take n (codesIn w) ≡ bytes n (codeNumber w)
+  codes-first = bytes-take n opsMost (codeNumber w) few
+
+  module _ (x tops : ℕ) (xs : x ≡ codeNumber w) (ts : tops ≡ each 128 n) where
+    tested : eqb (bitAnd x tops) 0 ≡ inRange
+    tested = ap₂ (λ (a b : ℕ). eqb (bitAnd a b) 0) xs ts ∙ below-128 n (codeNumber w) ∙ ap (every (λ c. ltb c codesMost)) (sym codes-first)
+
+    pub fit-none : (bitAnd x tops ≡ 0 → ⊥) → false ≡ fitting
+    fit-none z = sym (ap (λ (b : Bool). b && every (opFits items) (take n (placesIn w))) (sym tested ∙ ne-eqb (bitAnd x tops) 0 z))
+
+    module _ (z : bitAnd x tops ≡ 0) (k : ℕ) (ks : k ≡ codesMost - 2 * items) where
+      all-below : inRange ≡ true
+      all-below = sym tested ∙ eq-eqb (bitAnd x tops) 0 z
+
+      pub fit-sum : bitAnd x (each 127 8) + k * 72340172838076673 < 2 ^ 64
+      fit-sum = omega (arith, raised-fits x k (omega arith), each-times k)
+
+      pub fit-all : eqb (bitAnd (bitAnd x (each 127 8) + k * 72340172838076673) tops) 0 ≡ fitting
+      fit-all =
+          let low : every (λ c. ltb c codesMost) (bytes n x) ≡ true = ap (λ (y : ℕ). every (λ c. ltb c codesMost) (bytes n y)) xs ∙ sym (ap (every (λ c. ltb c codesMost)) codes-first) ∙ all-below in
+          ap₂ (λ (a b : ℕ). eqb (bitAnd (bitAnd x (each 127 8) + a) b) 0) (each-times k) ts
+          ∙ below-least x k (omega arith) n few low
+          ∙ ap₂ (λ (a b : ℕ). every (λ c. ltb c (codesMost - a)) (bytes n b)) ks xs
+          ∙ ap (every (λ c. ltb c (codesMost - (codesMost - 2 * items)))) (sym codes-first)
+          ∙ all-fit-by-code items (take n (codesIn w)) (part w valuesAt opsMost) all-below
+          ∙ ap (every (opFits items)) (sym (ops-of-take n (codesIn w) (part w valuesAt opsMost)))
+          ∙ sym (ap (λ (b : Bool). b && every (opFits items) (take n (placesIn w))) all-below)
 
 -- ---- the test for shape
-turned : (a b c d : Bool) → (a && (b && (c && d))) ≡ (b && ((a && c) && d))
-turned true b c d = refl
-turned false true c d = refl
-turned false false c d = refl
+turned : (a e b c d : Bool) → ((a && e) && (b && (c && d))) ≡ (b && ((a && c) && (e && d)))
+turned true true b c d = refl
+turned true false true true d = refl
+turned true false true false d = refl
+turned true false false c d = refl
+turned false e true c d = refl
+turned false e false c d = refl
 
 module _ (w : List ℕ) (sites items : ℕ) where
   abbrev pub shape : Bool
@@ -176,12 +339,15 @@ module _ (w : List ℕ) (sites items : ℕ) where
       shape-many h = sym (rw (eq-eqb (length w) recordSize size, le-leb 1 (getD w 1 0) (omega arith), lt-leb (getD w 1 0) opsMost (omega arith)))
 
       module _ (few : n ≤ opsMost) (site : ℕ) (at : site ≡ getD w 0 0) where
-        shape-is : shape ≡ (ltb site sites && (stampShaped site (part w stampAt stampSize) && every (opFits items) (opsIn n (part w opsAt opsSize))))
+        abbrev fitting-ops : ℕ → Bool
+        fitting-ops k = every (λ c. ltb c codesMost) (take k (codesIn w)) && every (opFits items) (take k (placesIn w))
+
+        shape-is : shape ≡ (ltb site sites && (stampShaped site (part w stampAt stampSize) && fitting-ops n))
         unfolding recordRange recordFits recordIn stampShaped
         shape-is =
             let m : min n opsMost ≡ n = omega arith in
             rw (eq-eqb (length w) recordSize size, ← is, ← at, le-leb 1 n (omega arith), le-leb n opsMost few, m)
-            (turned (stampRange (part w stampAt stampSize)) (ltb site sites) (madeBy byNumber site (stampIn (part w stampAt stampSize))) (every (opFits items) (opsIn n (part w opsAt opsSize))))
+            (turned (stampRange (part w stampAt stampSize)) (every (λ c. ltb c codesMost) (take n (codesIn w))) (ltb site sites) (madeBy byNumber site (stampIn (part w stampAt stampSize))) (every (opFits items) (take n (placesIn w))))
 
         pub shape-elsewhere : sites ≤ site → false ≡ shape
         shape-elsewhere h = sym (shape-is ∙ rw (le-ltb site sites h))
@@ -190,6 +356,5 @@ module _ (w : List ℕ) (sites items : ℕ) where
           pub shape-unmade : made ≡ false → false ≡ shape
           shape-unmade f = sym (shape-is ∙ rw (lt-ltb site sites here, sym m ∙ f))
 
-          pub shape-by-ops : made ≡ true → (k : ℕ) → k ≡ n → (fit : Bool) → fit ≡ every (opFits items) (opsIn k (part w opsAt opsSize)) → fit ≡ shape
-          shape-by-ops t k same fit e =
-              e ∙ ap (λ (m : ℕ). every (opFits items) (opsIn m (part w opsAt opsSize))) same ∙ sym (shape-is ∙ rw (lt-ltb site sites here, sym m ∙ t))
+          pub shape-by-ops : made ≡ true → (k : ℕ) → k ≡ n → (fit : Bool) → fit ≡ fitting-ops k → fit ≡ shape
+          shape-by-ops t k same fit e = e ∙ ap fitting-ops same ∙ sym (shape-is ∙ rw (lt-ltb site sites here, sym m ∙ t))

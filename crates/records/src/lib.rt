@@ -1,30 +1,34 @@
 // A record of the history in words of a lent slice: written, read, and tested for shape.
+mod packed; // packed.rt: its operations, as codes and values
+
 use limits::OPERATIONS_WIDE;
-use site_operations::WRITE;
 use timestamp::Timestamp;
 ghost use mathlib.Core.Path.{_≡_};
 ghost use mathlib.Core.Bool.{_&&_};
 ghost use Prim.Native.Nat.{_≤_};
 ghost use lib.ListN.{length};
 ghost use lib.Dec.{eqb};
-ghost use Rattle.lists.specs.Lists.{every};
+ghost use Rattle.lists.specs.Lists.{any};
 ghost use Rattle.timestamp.specs.Value.{stampOf, PlainValue};
 ghost use Rattle.timestamp_order.specs.Order.{byNumber};
-ghost use Rattle.site_operations.specs.InWords.{opAt, opsIn};
+ghost use Rattle.site_operations.specs.Operations.{writesItem};
+ghost use Rattle.site_operations.specs.InWords.{OpsLaid};
 ghost use Rattle.limits.specs.Limits.{opsMost};
-ghost use Rattle.records.specs.Records.{recordFits, opFits};
-ghost use Rattle.records.specs.InWords.{recordIn, opsWords, recordRange, recordSize, Written};
+ghost use Rattle.records.specs.Records.{recordFits};
+ghost use Rattle.records.specs.InWords.{recordIn, recordRange, recordSize, Written};
 
-// Where a record has its site, the number of its operations, its timestamp and its operations; and its size.
+// Where a record has its site, the number of its operations, its timestamp, and the codes and values of its operations; and its size.
 const SITE: usize = 0;
 
 const COUNT: usize = SITE + 1;
 
 const STAMP: usize = COUNT + 1;
 
-pub const OPERATIONS: usize = STAMP + timestamp_words::WORDS;
+const CODES: usize = STAMP + timestamp_words::WORDS;
 
-pub const WORDS: usize = OPERATIONS + site_operations::OPERATIONS;
+const VALUES: usize = CODES + packed::CODES;
+
+pub const WORDS: usize = VALUES + OPERATIONS_WIDE;
 
 // A record written: its site, its operations, as many as `n` says, and its timestamp.
 pub fn write(w: &mut [u32], site: u32, n: u32, t: Timestamp, ops: &[u32])
@@ -38,8 +42,8 @@ pub fn write(w: &mut [u32], site: u32, n: u32, t: Timestamp, ops: &[u32])
     }
     w[SITE] = site;
     w[COUNT] = n;
-    timestamp_words::write_to(t, &mut w[STAMP..OPERATIONS]);
-    words::copy(&mut w[OPERATIONS..WORDS], ops);
+    timestamp_words::write_to(t, &mut w[STAMP..CODES]);
+    packed::pack(&mut w[CODES..WORDS], ops);
 }
 
 // The site of a record.
@@ -70,18 +74,33 @@ pub fn count(w: &[u32]) -> usize
     n
 }
 
-// The words of a record's operations, as far as the slice reaches.
-pub fn operations(w: &[u32]) -> &[u32]
-    ensures { λ r. ⌜ now r ≡ opsWords (now (w .entry)) ⌝ }
+// The operations of a record, three words each, 0 past the last.
+pub fn operations(w: &[u32]) -> [u32; site_operations::OPERATIONS]
+    ensures { λ r. ⌜ OpsLaid (length (recordIn (now (w .entry)) .ops)) (recordIn (now (w .entry)) .ops) r ⌝ }
 {
-    let n = w.len();
-    if n < OPERATIONS {
-        return &w[0..0];
+    let mut out = [0u32; site_operations::OPERATIONS];
+    let n = count(w);
+    let mut i = 0;
+    while i < n {
+        packed::unpack(&mut out, w, i);
+        i += 1;
     }
-    if n < WORDS {
-        return &w[OPERATIONS..n];
+    out
+}
+
+// Whether an operation of a record writes the item.
+pub fn writes(w: &[u32], item: u32) -> bool
+    ensures { λ r. ⌜ r ≡ any (writesItem item) (recordIn (now (w .entry)) .ops) ⌝ }
+{
+    let n = count(w);
+    let mut i = 0;
+    while i < n {
+        if packed::is_write_of(w, i, item) {
+            return true;
+        }
+        i += 1;
     }
-    &w[OPERATIONS..WORDS]
+    false
 }
 
 // Whether the words are those of a record of a group of that many sites and items.
@@ -102,32 +121,8 @@ pub fn shaped(w: &[u32], sites: u32, items: u32) -> bool
     if sites <= site {
         return false;
     }
-    if !timestamp_words::made_by(&w[STAMP..OPERATIONS], site) {
+    if !timestamp_words::made_by(&w[STAMP..CODES], site) {
         return false;
     }
-    operations_fit(&w[OPERATIONS..WORDS], words::wide(n), items)
-}
-
-// Whether the first n operations of the words are of a known kind on one of the items.
-fn operations_fit(ops: &[u32], n: usize, items: u32) -> bool
-    ensures { λ r. ⌜ r ≡ every (opFits items) (opsIn n (now (ops .entry))) ⌝ }
-{
-    let mut i = 0;
-    while i < n {
-        if !operation_fits(ops, i, items) {
-            return false;
-        }
-        i += 1;
-    }
-    true
-}
-
-// Whether operation i is of a known kind on one of the items.
-fn operation_fits(ops: &[u32], i: usize, items: u32) -> bool
-    ensures { λ r. ⌜ r ≡ opFits items (opAt (now (ops .entry)) i) ⌝ }
-{
-    if WRITE < site_operations::kind(ops, i) {
-        return false;
-    }
-    site_operations::item(ops, i) < items
+    packed::fit(w, words::wide(n), items)
 }

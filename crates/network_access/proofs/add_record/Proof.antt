@@ -56,7 +56,7 @@ returns c =
     let at = done .before .before .before .wide in
     let made = done .before .before .before .before .record-count in
     let long : length (s .args .ops .now) ≡ opsSize = omega (arith, s .good) in
-    record-added (s .args .state .now) (at .result) (s .args .site) (s .args .n) (s .pre) (at .ensures ∙ made .ensures) (stampOf (s .args .t)) (s .args .ops .now) long (done .write .last .0) (done .write .kept .0) (done .write .ensures) (stored .last .0) (made .result) (made .ensures) (stored .ensures)
+    record-added (s .args .state .now) (at .result) (s .args .site) (s .args .n) (stampOf (s .args .t)) (s .args .ops .now) (s .pre) (at .ensures ∙ made .ensures) long (done .write .last .0) (done .write .kept .0) (done .write .ensures) (stored .last .0) (made .result) (made .ensures) (stored .ensures)
 
 pub add-record-spec : {M : Type 1} → statement M
 add-record-spec =

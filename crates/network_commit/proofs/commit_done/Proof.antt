@@ -1,20 +1,24 @@
 -- `commit_done` works the commit, sends its message and gathers the values read.
 use mathlib.Core.Path.{_≡_, refl, sym, ap, subst, _∙_}
-use mathlib.Core.Bool.{Bool, cond}
+use mathlib.Core.Bool.{Bool, true, cond}
 use native.Mathlib.Omega.{arith}
-use lib.ListN.{getD}
+use lib.ListN.{length, getD}
 use lib.Dec.{ltb}
 use borrow.Author.Tests.{lt-ltb}
-use Rattle.limits.specs.Limits.{sitesMost, recordsMost}
+use Rattle.limits.specs.Limits.{sitesMost, itemsMost, recordsMost}
+use Rattle.lists.specs.Lists.{every}
 use Rattle.timestamp.specs.Value.{stampOf}
 use Rattle.site_operations.specs.Operations.{valuesRead}
 use Rattle.site_operations.specs.InWords.{opsIn}
 use Rattle.placement.specs.Masks.{bit}
+use Rattle.records.specs.Records.{opFits}
+use Rattle.records.proofs.Laws.{fits-more}
+use Rattle.protocol.proofs.Keeps.{ops-fit}
 use Rattle.messages.specs.Messages.{Message, commit as commitMessage, dummy}
-use Rattle.network_layout.specs.InWords.{SentStep}
+use Rattle.network_layout.specs.InWords.{networkIn, SentStep}
 use Rattle.network_layout.specs.At.{AtSite}
 use Rattle.network_layout.proofs.Performs.{records-count}
-use Rattle.network_layout.proofs.OnNetwork.{at-site}
+use Rattle.network_layout.proofs.OnNetwork.{at-site, few-items-on}
 use Rattle.network_commit.proofs.CommitLaws.{room-now, network-now}
 use borrow.Author.Needs.{needs}
 use Rattle.network_commit.proofs.commit_done.Statement.{statement}
@@ -22,6 +26,14 @@ use Rattle.network_commit.proofs.commit_done.Tie as tie
 
 at : (c : tie.Start) → AtSite (c .args .state .now) (c .args .site)
 at c = at-site (c .args .state .now) (c .pre .masked .at .net) (c .args .site) (c .args .site) refl (c .pre .allowed .there)
+
+-- a record has room for them, since there are at most 64 items
+fitting : (c : tie.Start) → every (opFits itemsMost) (opsIn (c .args .n) (c .args .ops .now)) ≡ true
+fitting c =
+    let w = c .args .state .now in
+    let os = opsIn (c .args .n) (c .args .ops .now) in
+    let items = networkIn w .items in
+    fits-more (length items) itemsMost (few-items-on w (c .pre .masked .at .net)) os (ops-fit items (c .args .site) os (c .pre .allowed .each-op))
 
 slice-read-name : tie.Need-slice-read-name
 slice-read-name c = search needs
@@ -39,6 +51,7 @@ work-requires c κs =
       room = omega (arith, start .pre .allowed .room, records-count (start .args .state .now));
       some-ops = asked .some-ops;
       few-ops = asked .few-ops;
+      fitting = fitting start;
     }
 
 send-all-requires : tie.Need-send-all-requires

@@ -4,15 +4,19 @@ use mathlib.Core.List.{List}
 use Prim.Native.Nat.{ℕ, min, _≤_, _<_}
 use native.Mathlib.Omega.{arith}
 use lib.ListN.{length, getD}
-use Rattle.limits.specs.Limits.{opsMost, recordsMost}
+use mathlib.Core.Bool.{true}
+use Rattle.limits.specs.Limits.{itemsMost, opsMost, recordsMost}
+use Rattle.lists.specs.Lists.{every}
 use Rattle.timestamp.specs.Value.{stampOf, PlainValue}
 use Rattle.timestamp.proofs.Plain.{plain-as}
 use Rattle.site_operations.specs.Operations.{worked}
 use Rattle.site.specs.Site.{committed}
 use Rattle.site_operations.specs.InWords.{opsIn}
-use Rattle.records.specs.Records.{Record}
+use Rattle.site_operations.proofs.Laws.{work-ops}
+use Rattle.records.specs.Records.{Record, opFits}
 use Rattle.protocol.specs.Network.{Network, siteAt, withSite, withRecord}
 use Rattle.protocol.specs.Steps.{recordOf}
+use Rattle.protocol.proofs.Keeps.{records-fit}
 use Rattle.network_layout.specs.InWords.{networkIn, SiteStep}
 use Rattle.network_layout.specs.At.{AtSite}
 use Rattle.network_layout.proofs.Performs.{sites-count, records-count, site-step-below}
@@ -58,6 +62,18 @@ stamped c =
     let v = done .site-commit .last .0 in
     plain-as (ap (λ (k : ℕ). siteAt (networkIn v) k .stamp) (done .before .before .wide .ensures) ∙ stamp-now (A .state .now) (A .site) (opsIn (A .n) (A .ops .now)) (there start) v (stepped done)) (c .site-stamp .ensures)
 
+-- the operations as recorded are of the kinds and items that came
+fitting : (c : tie.After-short) → every (opFits itemsMost) (opsIn (min (c .short .result) opsMost) (c .before .before .before .before .before .before .site-commit .result)) ≡ true
+fitting c =
+    let done = c .before .before .before .before .before .before in
+    let start = done .before .before .before .before .before in
+    let A = start .args in
+    let table = siteAt (networkIn (A .state .now)) (A .site) .table in
+    let os = opsIn (A .n) (A .ops .now) in
+    let count : min (c .short .result) opsMost ≡ A .n = omega (arith, c .short .ensures, start .pre .few-ops) in
+    ap (every (opFits itemsMost)) (ap (λ (m : ℕ). opsIn m (done .site-commit .result)) count ∙ recorded done ∙ work-ops table table os)
+    ∙ records-fit itemsMost table os (start .pre .fitting)
+
 wide-requires : tie.Need-wide-requires
 wide-requires c κs = search needs
 
@@ -94,6 +110,7 @@ add-record-requires c κs =
       room = room done;
       some = omega (arith, n .ensures, start .pre .some-ops);
       few = omega (arith, n .ensures, start .pre .few-ops);
+      fitting = fitting (c .before);
     }
 
 same-length : tie.Need-same-length

@@ -1,54 +1,59 @@
--- `operations` hands back what the slice has of the words from the operations on.
-use Rattle.records.proofs.Laws.{ops-none, ops-some}
+-- `operations` lays one operation after another: the first i of the record.
+use Prim.Native.Nat.{_≤_, _-_}
+use native.Mathlib.Omega.{arith}
+use lib.ListN.{take}
+use Rattle.site_operations.specs.InWords.{OpsLaid}
+use Rattle.site_operations.proofs.Laws.{none-laid}
 use borrow.Author.Needs.{needs}
+use Rattle.records.specs.InWords.{recordIn}
+use Rattle.records.proofs.Laws.{laid-next, laid-all}
 use Rattle.records.proofs.operations.Statement.{statement}
 use Rattle.records.proofs.operations.Tie as tie
 
-sub-result : tie.Need-sub-result
-sub-result c = search needs
+abbrev Inv-loop : tie.InvT-loop
+Inv-loop w out₀ n i₀ out i = (i ≤ n) × OpsLaid i (take i (recordIn w .ops)) out
 
-part-result-start : tie.Need-part-result-start
-part-result-start c = search needs
+abbrev μ-loop : tie.MeasureT-loop
+μ-loop w out₀ n i₀ out i = n - i
 
-part-result-end : tie.Need-part-result-end
-part-result-end c = search needs
+count-requires : tie.Need-count-requires Inv-loop μ-loop
+count-requires c κs = search needs
 
-returns : tie.Need-returns
-returns c = ops-none (c .before .before .args .w .now) (c .before .if1 .taken)
+loop-holds : tie.Need-loop-holds Inv-loop μ-loop
+loop-holds c = (omega arith, none-laid)
 
-part-result-start-2 : tie.Need-part-result-start-2
-part-result-start-2 c = search needs
+unpack-requires : tie.Need-unpack-requires Inv-loop μ-loop
+unpack-requires c κs = omega (arith, c .before .before .before .count .ensures .1)
 
-part-result-end-2 : tie.Need-part-result-end-2
-part-result-end-2 c = search needs
+add-i : tie.Need-add-i Inv-loop μ-loop
+add-i c = search needs
 
-returns-2 : tie.Need-returns-2
-returns-2 c = ops-some (c .before .before .before .args .w .now) (c .before .if2 .taken)
+loop-less : tie.Need-loop-less Inv-loop μ-loop
+loop-less c = search needs
 
-sub-result-2 : tie.Need-sub-result-2
-sub-result-2 c = search needs
+loop-again : tie.Need-loop-again Inv-loop μ-loop
+loop-again c =
+    let h = c .before .before .before in
+    let count = h .before .count in
+    let A = h .before .before .before .args in
+    (omega arith, laid-next (A .w .now) (h .loop .i) (h .loop .out) (c .unpack .last .0) (omega (arith, count .ensures .0, c .before .before .loop-test .taken)) (h .loop .inv .1) (c .unpack .ensures))
 
-part-result-start-3 : tie.Need-part-result-start-3
-part-result-start-3 c = search needs
-
-part-result-end-3 : tie.Need-part-result-end-3
-part-result-end-3 c = search needs
-
-returns-3 : tie.Need-returns-3
-returns-3 c = search needs
+returns : tie.Need-returns Inv-loop μ-loop
+returns c =
+    let h = c .before in
+    let count = h .before .count in
+    laid-all (h .before .before .before .args .w .now) (h .loop .i) (h .loop .out) (omega (arith, count .ensures .0)) (h .loop .inv .1)
 
 pub operations-spec : {M : Type 1} → statement M
 operations-spec =
     tie.close
     (tie.spec
-    sub-result
-    part-result-start
-    part-result-end
-    returns
-    part-result-start-2
-    part-result-end-2
-    returns-2
-    sub-result-2
-    part-result-start-3
-    part-result-end-3
-    returns-3)
+    Inv-loop
+    μ-loop
+    count-requires
+    loop-holds
+    unpack-requires
+    add-i
+    loop-less
+    loop-again
+    returns)

@@ -48,25 +48,16 @@ returns-5 c =
     let A = c .before .before .before .before .before .before .before .before .before .before .args in
     shape-unmade (A .w .now) (A .sites) (A .items) (c .before .before .before .before .before .before .before .before .if1 .left) (c .before .before .before .before .before .before .before .word .result) (c .before .before .before .before .before .before .before .word .ensures) (c .before .before .before .before .before .before .if2 .left) (c .before .before .before .before .before .if3 .left) (c .before .before .before .before .word2 .result) (c .before .before .before .before .word2 .ensures) (c .before .before .before .if4 .left) (c .before .made-by .result) (c .before .made-by .ensures) (not-true (c .before .made-by .result) (c .if5 .taken))
 
-sub-operations-fit : tie.Need-sub-operations-fit
-sub-operations-fit c = search needs
-
-part-operations-fit-start : tie.Need-part-operations-fit-start
-part-operations-fit-start c = search needs
-
-part-operations-fit-end : tie.Need-part-operations-fit-end
-part-operations-fit-end c = search needs
-
 wide-requires : tie.Need-wide-requires
 wide-requires c κs = search needs
 
-operations-fit-requires : tie.Need-operations-fit-requires
-operations-fit-requires c κs = search needs
+fit-requires : tie.Need-fit-requires
+fit-requires c κs = search needs
 
 returns-6 : tie.Need-returns-6
 returns-6 c =
-    let A = c .before .before .before .before .before .before .before .before .before .before .before .before .before .args in
-    shape-by-ops (A .w .now) (A .sites) (A .items) (c .before .before .before .before .before .before .before .before .before .before .before .if1 .left) (c .before .before .before .before .before .before .before .before .before .before .word .result) (c .before .before .before .before .before .before .before .before .before .before .word .ensures) (c .before .before .before .before .before .before .before .before .before .if2 .left) (c .before .before .before .before .before .before .before .before .if3 .left) (c .before .before .before .before .before .before .before .word2 .result) (c .before .before .before .before .before .before .before .word2 .ensures) (c .before .before .before .before .before .before .if4 .left) (c .before .before .before .before .made-by .result) (c .before .before .before .before .made-by .ensures) (not-false (c .before .before .before .before .made-by .result) (c .before .before .before .if5 .left)) (c .before .wide .result) (c .before .wide .ensures) (c .operations-fit .result) (c .operations-fit .ensures)
+    let A = c .before .before .before .before .before .before .before .before .before .before .before .before .args in
+    shape-by-ops (A .w .now) (A .sites) (A .items) (c .before .before .before .before .before .before .before .before .before .before .if1 .left) (c .before .before .before .before .before .before .before .before .before .word .result) (c .before .before .before .before .before .before .before .before .before .word .ensures) (c .before .before .before .before .before .before .before .before .if2 .left) (c .before .before .before .before .before .before .before .if3 .left) (c .before .before .before .before .before .before .word2 .result) (c .before .before .before .before .before .before .word2 .ensures) (c .before .before .before .before .before .if4 .left) (c .before .before .before .made-by .result) (c .before .before .before .made-by .ensures) (not-false (c .before .before .before .made-by .result) (c .before .before .if5 .left)) (c .before .wide .result) (c .before .wide .ensures) (c .fit .result) (c .fit .ensures)
 
 pub shaped-spec : {M : Type 1} → statement M
 shaped-spec =
@@ -83,9 +74,6 @@ shaped-spec =
     part-made-by-end
     made-by-requires
     returns-5
-    sub-operations-fit
-    part-operations-fit-start
-    part-operations-fit-end
     wide-requires
-    operations-fit-requires
+    fit-requires
     returns-6)

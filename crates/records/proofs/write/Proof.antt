@@ -1,4 +1,4 @@
--- `write` stores the site and the number of operations, and then the words of the timestamp and of the operations.
+-- `write` stores the site and the number of operations, and then the words of the timestamp and of the packed operations.
 use lib.ListN.{length-set}
 use native.Mathlib.Omega.{arith}
 use Rattle.timestamp.specs.Value.{stampOf}
@@ -35,29 +35,29 @@ part-write-to-end c = simp length-set (omega arith)
 write-to-requires : tie.Need-write-to-requires
 write-to-requires c κs = search needs
 
-sub-copy : tie.Need-sub-copy
-sub-copy c = search needs
+sub-pack : tie.Need-sub-pack
+sub-pack c = search needs
 
-part-copy-start : tie.Need-part-copy-start
-part-copy-start c = search needs
+part-pack-start : tie.Need-part-pack-start
+part-pack-start c = search needs
 
-part-copy-end : tie.Need-part-copy-end
-part-copy-end c =
+part-pack-end : tie.Need-part-pack-end
+part-pack-end c =
     let A = c .before .before .before .before .before .before .before .before .args in
     omega (arith, stamped-size (A .w .now) (c .before .before .before .before .before .if1 .left) (A .site) (A .n) (stampOf (A .t)) (c .before .before .write-to .last .1 .0) (c .before .before .write-to .ensures .0))
 
-copy-requires : tie.Need-copy-requires
-copy-requires c κs = search needs
+pack-requires : tie.Need-pack-requires
+pack-requires c κs = search needs
 
 same-length : tie.Need-same-length
 same-length c =
     let A = c .before .before .before .before .before .before .before .before .before .before .before .before .args in
-    filled-size (A .w .now) (c .before .before .before .before .before .before .before .before .before .if1 .left) (A .site) (A .n) (stampOf (A .t)) (c .before .before .before .before .before .before .write-to .last .1 .0) (c .before .before .before .before .before .before .write-to .ensures .0) (A .ops .now) (c .before .before .before .before .before .before .before .before .if2 .left) (c .before .before .copy .last .0) (c .before .before .copy .ensures)
+    filled-size (A .w .now) (c .before .before .before .before .before .before .before .before .before .if1 .left) (A .site) (A .n) (stampOf (A .t)) (c .before .before .before .before .before .before .write-to .last .1 .0) (c .before .before .before .before .before .before .write-to .ensures .0) (A .ops .now) (c .before .before .before .before .before .before .before .before .if2 .left) (c .before .before .pack .last .0) (c .before .before .pack .kept .0) (c .before .before .pack .ensures)
 
 returns-3 : tie.Need-returns-3
 returns-3 c =
     let A = c .before .before .before .before .before .before .before .before .before .before .before .before .args in
-    written (A .w .now) (c .before .before .before .before .before .before .before .before .before .if1 .left) (A .site) (A .n) (stampOf (A .t)) (c .before .before .before .before .before .before .write-to .last .1 .0) (c .before .before .before .before .before .before .write-to .ensures .0) (A .ops .now) (c .before .before .before .before .before .before .before .before .if2 .left) (c .before .before .copy .last .0) (c .before .before .copy .ensures) (c .before .before .before .before .before .before .write-to .ensures .1)
+    written (A .w .now) (c .before .before .before .before .before .before .before .before .before .if1 .left) (A .site) (A .n) (stampOf (A .t)) (c .before .before .before .before .before .before .write-to .last .1 .0) (c .before .before .before .before .before .before .write-to .ensures .0) (A .ops .now) (c .before .before .before .before .before .before .before .before .if2 .left) (c .before .before .pack .last .0) (c .before .before .pack .kept .0) (c .before .before .pack .ensures) (c .before .before .before .before .before .before .write-to .ensures .1)
 
 pub write-spec : {M : Type 1} → statement M
 write-spec =
@@ -71,9 +71,9 @@ write-spec =
     part-write-to-start
     part-write-to-end
     write-to-requires
-    sub-copy
-    part-copy-start
-    part-copy-end
-    copy-requires
+    sub-pack
+    part-pack-start
+    part-pack-end
+    pack-requires
     same-length
     returns-3)

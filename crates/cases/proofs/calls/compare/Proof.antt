@@ -1,14 +1,15 @@
 -- `compare` ends: i rises to the number of words.
 use Prim.Native.Nat.{_≤_, _-_}
+use Rattle.network_layout.specs.Layout.{stateSize}
 use borrow.Author.Needs.{needs}
 use Rattle.cases.proofs.calls.compare.Statement.{statement}
 use Rattle.cases.proofs.calls.compare.Tie as tie
 
 abbrev Inv-loop : tie.InvT-loop
-Inv-loop before state i₀ t4 t5 i = i ≤ 31635
+Inv-loop before state i₀ t4 t5 i = i ≤ stateSize
 
 abbrev μ-loop : tie.MeasureT-loop
-μ-loop before state i₀ t4 t5 i = 31635 - i
+μ-loop before state i₀ t4 t5 i = stateSize - i
 
 loop-holds : tie.Need-loop-holds Inv-loop μ-loop
 loop-holds c = search needs

@@ -1,0 +1,1 @@
+// The bytes of a number as lanes that are worked on all at once: definitions and laws, no code.
