@@ -10,29 +10,26 @@ use Rattle.words.specs.Words.{part, put}
 use Rattle.words.proofs.Parts.{part-length, put-length}
 use Rattle.limits.specs.Limits.{recordsMost}
 use Rattle.records.specs.Records.{Record}
-use Rattle.network_layout.specs.declared.Entry.{Entry}
 use Rattle.protocol.specs.Network.{noRecord}
 use Rattle.network_layout.specs.InWords.{networkIn, shaped, meaning}
-use Rattle.network_layout.specs.Reading.{Entered}
 use Rattle.network_layout.proofs.Assembled.{partsOf, range-parts}
 use Rattle.network_layout.proofs.Performs.{records-count, shaped-range}
 use Rattle.history_file.specs.Bytes.{byte, joined}
 use Rattle.history_file.specs.File.{History, historyOf, recordBytes, trailer, trailerSize, body, fileOf}
-use Rattle.history_file.specs.Entries.{entryOf}
 use Rattle.history_file.specs.Promises.{exportOf}
 use Rattle.history_file.proofs.Written.{put-next, joined-append, joined-next, joined-all}
 
-pub entered-is : (r : Record) (e : Entry) → Entered r e → entryOf e ≡ r
-entered-is r e h = λ t. record { site = h .site-is t; stamp = h .stamp-is .means t; ops = h .laid .ops-are t }
-
 -- ---- the records
-module _ (hs : List Record) (i : ℕ) (less : i < length hs) (e : Entry) (is : Entered (getD hs i noRecord) e) where
-  pub body-next : joined recordBytes (take (i + 1) hs) ≡ joined recordBytes (take i hs) ++ recordBytes (entryOf e)
-  body-next = joined-next recordBytes hs i noRecord less ∙ ap (λ (r : Record). joined recordBytes (take i hs) ++ recordBytes r) (sym (entered-is (getD hs i noRecord) e is))
+module _ (hs : List Record) (i : ℕ) (less : i < length hs) where
+  abbrev this : List ℕ
+  this = recordBytes (getD hs i noRecord)
 
-  module _ (at s : ℕ) (ats : at ≡ length (joined recordBytes (take i hs))) (ss : s ≡ length (recordBytes (entryOf e))) where
+  body-next : joined recordBytes (take (i + 1) hs) ≡ joined recordBytes (take i hs) ++ this
+  body-next = joined-next recordBytes hs i noRecord less
+
+  module _ (at s : ℕ) (ats : at ≡ length (joined recordBytes (take i hs))) (ss : s ≡ length (this)) where
     pub body-more : at + s ≡ length (joined recordBytes (take (i + 1) hs))
-    body-more = ap₂ (λ (x y : ℕ). x + y) ats ss ∙ sym (ap length body-next ∙ length-append (joined recordBytes (take i hs)) (recordBytes (entryOf e)))
+    body-more = ap₂ (λ (x y : ℕ). x + y) ats ss ∙ sym (ap length body-next ∙ length-append (joined recordBytes (take i hs)) (this))
 
     pub body-room : at + s ≤ length (joined recordBytes hs)
     body-room =
@@ -40,13 +37,13 @@ module _ (hs : List Record) (i : ℕ) (less : i < length hs) (e : Entry) (is : E
         = sym (joined-append recordBytes (take (i + 1) hs) (drop (i + 1) hs)) ∙ ap (joined recordBytes) (take-append-drop (i + 1) hs) in
         omega (arith, body-more, ap length whole, length-append (joined recordBytes (take (i + 1) hs)) (joined recordBytes (drop (i + 1) hs)))
 
-    pub body-put : (b w ys : List ℕ) → length b ≡ length (joined recordBytes hs) → w ≡ joined recordBytes (take i hs) ++ drop at b → ys ≡ recordBytes (entryOf e)
+    pub body-put : (b w ys : List ℕ) → length b ≡ length (joined recordBytes hs) → w ≡ joined recordBytes (take i hs) ++ drop at b → ys ≡ this
         → put w at (at + s - at) ys ≡ joined recordBytes (take (i + 1) hs) ++ drop (at + s) b
     body-put b w ys long e′ ye =
         put-next b (joined recordBytes (take i hs)) ys w at s (at + s - at) e′ (sym ats) (omega arith)
         ∙ ap (λ (x : List ℕ). x ++ drop (at + s) b) (ap (λ (y : List ℕ). joined recordBytes (take i hs) ++ y) ye ∙ sym body-next)
 
-    pub body-put-length : (b w ys : List ℕ) → length b ≡ length (joined recordBytes hs) → length w ≡ length b → ys ≡ recordBytes (entryOf e) → length (put w at (at + s - at) ys) ≡ length b
+    pub body-put-length : (b w ys : List ℕ) → length b ≡ length (joined recordBytes hs) → length w ≡ length b → ys ≡ this → length (put w at (at + s - at) ys) ≡ length b
     body-put-length b w ys long lw ye =
         put-length w at (at + s - at) ys (omega (arith, body-room)) (ap length ye ∙ sym ss ∙ (let z : s ≡ at + s - at = omega arith in z)) ∙ lw
 
@@ -114,12 +111,11 @@ module _ (w b : List ℕ) where
         pub written-length : length (put b 0 (m - 0) ys) ≡ length b
         written-length = ap (λ (k : ℕ). length (put b 0 k ys)) whole ∙ put-length b 0 m ys (omega arith) (ap length yi ∙ sym ms)
 
-        pub export-done : (zs : List ℕ) (n k s i : ℕ) → n ≡ length (networkIn w .history) → k ≡ m + trailerSize → s ≡ length (networkIn w .sites) → i ≡ length (networkIn w .items) → zs ≡ trailer n k s i
+        pub export-done : (zs : List ℕ) → zs ≡ trailer (length (own .records)) (m + trailerSize) (own .sites) (own .items)
             → exportOf (meaning w) b ≡ record { number = 0; size = m + trailerSize; buffer = put (put b 0 (m - 0) ys) m (m + trailerSize - m) zs }
         unfolding exportOf meaning fileOf
-        export-done zs n k s i ns ks ss is zi =
-            let distance : k ≡ length (body own) + trailerSize = ks ∙ ap (λ (x : ℕ). x + trailerSize) ms in
-            let file : ys ++ zs ≡ fileOf own = ap₂ (λ (x y : List ℕ). x ++ y) yi (zi ∙ (λ t. trailer (ns t) (distance t) (ss t) (is t))) in
+        export-done zs zi =
+            let file : ys ++ zs ≡ fileOf own = ap₂ (λ (x y : List ℕ). x ++ y) yi (zi ∙ ap (λ (k : ℕ). trailer (length (own .records)) (k + trailerSize) (own .sites) (own .items)) ms) in
             let size : length (fileOf own) ≡ m + trailerSize = file-length own ∙ ap (λ (x : ℕ). x + trailerSize) (sym ms) in
             let buffer : put (put b 0 (m - 0) ys) m (m + trailerSize - m) zs ≡ fileOf own ++ drop (m + trailerSize) b
             = put-next b ys zs (put b 0 (m - 0) ys) m trailerSize (m + trailerSize - m) written-is (ap length yi ∙ sym ms) (omega arith) ∙ ap (λ (x : List ℕ). x ++ drop (m + trailerSize) b) file in

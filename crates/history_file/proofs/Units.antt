@@ -38,7 +38,7 @@ module _ (t o : ℕ) where
 
 -- ---- a test of each eight
 module _ (p : List ℕ → Bool) (n : ℕ) (b : List ℕ) (i : ℕ) (e : every p (chunks unitSize n b) ≡ every p (drop i (chunks unitSize n b))) where
-  units-done : n ≤ i → every p (chunks unitSize n b) ≡ true
+  pub units-done : n ≤ i → every p (chunks unitSize n b) ≡ true
   units-done h = every-done p (chunks unitSize n b) i [] e (omega (arith, chunks-length unitSize n b))
 
   module _ (h : i < n) where
@@ -48,10 +48,10 @@ module _ (p : List ℕ → Bool) (n : ℕ) (b : List ℕ) (i : ℕ) (e : every p
     inside : i < length (chunks unitSize n b)
     inside = omega (arith, chunks-length unitSize n b)
 
-    unit-fails : p (part b (i * unitSize) unitSize) ≡ false → every p (chunks unitSize n b) ≡ false
+    pub unit-fails : p (part b (i * unitSize) unitSize) ≡ false → every p (chunks unitSize n b) ≡ false
     unit-fails q = every-false p (chunks unitSize n b) i [] e inside (at-unit ∙ q)
 
-    unit-passes : p (part b (i * unitSize) unitSize) ≡ true → every p (chunks unitSize n b) ≡ every p (drop (i + 1) (chunks unitSize n b))
+    pub unit-passes : p (part b (i * unitSize) unitSize) ≡ true → every p (chunks unitSize n b) ≡ every p (drop (i + 1) (chunks unitSize n b))
     unit-passes q = every-next p (chunks unitSize n b) i [] e inside (at-unit ∙ q)
 
 -- a byte of an eight
@@ -100,40 +100,10 @@ module _ (b : List ℕ) (n : ℕ) where
       let f : length pairsOf - 1 ≡ n - 1 = omega (arith, pairs-length) in
       ap (λ (p : Pair). p .site) (last-at pairsOf ∙ ap (λ (k : ℕ). getD pairsOf k noPair) f) ∙ pair-site (n - 1) (n * unitSize - unitSize) (omega arith) (omega arith)
 
--- ---- operations
-every-map : {A B : Type 0} (q : B → Bool) (f : A → B) (l : List A) → every q (map f l) ≡ every (λ x. q (f x)) l
+-- ---- a test of what each stands for
+pub every-map : {A B : Type 0} (q : B → Bool) (f : A → B) (l : List A) → every q (map f l) ≡ every (λ x. q (f x)) l
 every-map q f [] = refl
 every-map q f (x ∷ l) = ap (λ (t : Bool). q (f x) && t) (every-map q f l)
-
-abbrev pub opTest : ℕ → List ℕ → Bool
-opTest items u = opFits items (opRead u)
-
-module _ (items n : ℕ) (b : List ℕ) (i : ℕ) (e : every (opTest items) (chunks unitSize n b) ≡ every (opTest items) (drop i (chunks unitSize n b))) where
-  abbrev passes : Bool
-  passes = every (opFits items) (map opRead (chunks unitSize n b))
-
-  same-test : passes ≡ every (opTest items) (chunks unitSize n b)
-  same-test = every-map (opFits items) opRead (chunks unitSize n b)
-
-  pub ops-done : n ≤ i → true ≡ every (opFits items) (map opRead (chunks unitSize n b))
-  ops-done h = sym (same-test ∙ units-done (opTest items) n b i e h)
-
-  module _ (h : i < n) (kind : ℕ) (k : kind ≡ getD b (i * unitSize) 0) where
-    kind-is : getD (part b (i * unitSize) unitSize) 0 0 ≡ kind
-    kind-is = let z : i * unitSize + 0 ≡ i * unitSize = omega arith in unit-byte b i 0 (omega arith) ∙ ap (λ (j : ℕ). getD b j 0) z ∙ sym k
-
-    pub kind-unknown : 1 < kind → false ≡ every (opFits items) (map opRead (chunks unitSize n b))
-    kind-unknown g = sym (same-test ∙ unit-fails (opTest items) n b i e h (rw (kind-is, lt-leb kind 1 g)))
-
-    module _ (known : kind ≤ 1) (item : ℕ) (j : item ≡ getD b (i * unitSize + 1) 0) where
-      item-is : getD (part b (i * unitSize) unitSize) 1 0 ≡ item
-      item-is = unit-byte b i 1 (omega arith) ∙ sym j
-
-      pub item-unknown : items ≤ item → false ≡ every (opFits items) (map opRead (chunks unitSize n b))
-      item-unknown g = sym (same-test ∙ unit-fails (opTest items) n b i e h (rw (kind-is, item-is, le-leb kind 1 known, le-ltb item items g)))
-
-      pub op-passes : item < items → every (opTest items) (chunks unitSize n b) ≡ every (opTest items) (drop (i + 1) (chunks unitSize n b))
-      op-passes g = unit-passes (opTest items) n b i e h (rw (kind-is, item-is, le-leb kind 1 known, lt-ltb item items g))
 
 -- ---- eight bytes copied over eight
 pub unit-copied : (d out : List ℕ) (x y z n a b c p q r s : ℕ) → length d ≡ unitSize

@@ -39,49 +39,6 @@ module _ (b : List ℕ) (n site : ℕ) where
     pub made-last : r ≡ true → (own : ℕ) → own ≡ getD b (n * unitSize - unitSize) 0 → eqb own site ≡ madeBy byNumber site bare
     made-last t own e = sym (made-is ∙ rw (t, ← e))
 
--- ---- 00 bytes
-module _ (b : List ℕ) (head : ℕ) (h : head ≡ getD b 3 0) where
-  pub pads-head : (head ≡ 0 → ⊥) → false ≡ padsZero b
-  pads-head n = sym (rw (ne-eqb (getD b 3 0) 0 (λ e. n (h ∙ e))))
-
-  module _ (z : head ≡ 0) (t : ℕ) (ts : t ≡ tupleCount b) (r : Bool) (is : r ≡ every (padded 1) (chunks unitSize t (part b unitSize (length b - unitSize)))) where
-    tuples-is : r ≡ every (padded 1) (tupleUnits b)
-    tuples-is = is ∙ ap₂ (λ (k : ℕ) (x : List ℕ). every (padded 1) (chunks unitSize k x)) ts (rest-part b unitSize)
-
-    pads-is : padsZero b ≡ (r && every (padded 2) (opUnits b))
-    pads-is = rw (eq-eqb (getD b 3 0) 0 (sym h ∙ z), ← tuples-is)
-
-    pub pads-tuples : r ≡ false → false ≡ padsZero b
-    pads-tuples f = sym (pads-is ∙ rw f)
-
-    pub pads-ops : r ≡ true → (o a : ℕ) → o ≡ opCount b → a ≡ unitSize + unitSize * t → (q : Bool) → q ≡ every (padded 2) (chunks unitSize o (part b a (length b - a))) → q ≡ padsZero b
-    pads-ops g o a os es q e =
-        e
-        ∙ ap₂ (λ (k : ℕ) (x : List ℕ). every (padded 2) (chunks unitSize k x)) os (rest-part b a ∙ ap (λ (k : ℕ). drop k b) (es ∙ ap (λ (k : ℕ). unitSize + unitSize * k) ts))
-        ∙ sym (pads-is ∙ rw g)
-
--- ---- fields
-module _ (sites items : ℕ) (b : List ℕ) (site : ℕ) (s : site ≡ getD b 0 0) where
-  fits-is : recordFits byNumber sites items (recordRead b) ≡ (ltb site sites && (madeBy byNumber site (bare (drop unitSize b) (tupleCount b) site) && every (opFits items) (map opRead (opUnits b))))
-  unfolding recordFits recordRead madeBy
-  fits-is = ap (λ (x : ℕ). ltb x sites && (madeBy byNumber x (bare (drop unitSize b) (tupleCount b) site) && every (opFits items) (map opRead (opUnits b)))) (sym s)
-
-  pub fits-elsewhere : sites ≤ site → false ≡ recordFits byNumber sites items (recordRead b)
-  fits-elsewhere h = sym (fits-is ∙ rw (le-ltb site sites h))
-
-  module _ (here : site < sites) (t : ℕ) (ts : t ≡ tupleCount b) (made : Bool) (m : made ≡ madeBy byNumber site (bare (part b unitSize (length b - unitSize)) t site)) where
-    made-same : made ≡ madeBy byNumber site (bare (drop unitSize b) (tupleCount b) site)
-    made-same = m ∙ ap₂ (λ (k : ℕ) (x : List ℕ). madeBy byNumber site (bare x k site)) ts (rest-part b unitSize)
-
-    pub fits-unmade : made ≡ false → false ≡ recordFits byNumber sites items (recordRead b)
-    fits-unmade f = sym (fits-is ∙ rw (lt-ltb site sites here, ← made-same, f))
-
-    pub fits-by-ops : made ≡ true → (o a : ℕ) → o ≡ opCount b → a ≡ unitSize + unitSize * t → (q : Bool) → q ≡ every (opFits items) (map opRead (chunks unitSize o (part b a (length b - a)))) → q ≡ recordFits byNumber sites items (recordRead b)
-    fits-by-ops g o a os es q e =
-        e
-        ∙ ap₂ (λ (k : ℕ) (x : List ℕ). every (opFits items) (map opRead (chunks unitSize k x))) os (rest-part b a ∙ ap (λ (k : ℕ). drop k b) (es ∙ ap (λ (k : ℕ). unitSize + unitSize * k) ts))
-        ∙ sym (fits-is ∙ rw (lt-ltb site sites here, ← made-same, g))
-
 -- ---- a whole record
 module _ (sites items : ℕ) (b : List ℕ) (size : ℕ) (is : size ≡ sizeRead b) where
   pub valid-short : length b < size → false ≡ recordValid sites items b
@@ -96,12 +53,8 @@ module _ (sites items : ℕ) (b : List ℕ) (size : ℕ) (is : size ≡ sizeRead
     pub valid-uncounted : counts ≡ false → false ≡ recordValid sites items b
     valid-uncounted f = sym (valid-is ∙ rw f)
 
-    module _ (counted : counts ≡ true) (pads : Bool) (ps : pads ≡ padsZero b) where
-      pub valid-unpadded : pads ≡ false → false ≡ recordValid sites items b
-      valid-unpadded f = sym (valid-is ∙ rw (counted, ← ps, f))
-
-      pub valid-by-fields : pads ≡ true → (q : Bool) → q ≡ recordFits byNumber sites items (recordRead b) → q ≡ recordValid sites items b
-      valid-by-fields g q e = e ∙ sym (valid-is ∙ rw (counted, ← ps, g))
+    pub valid-by-fields : counts ≡ true → (q : Bool) → q ≡ (padsZero b && recordFits byNumber sites items (recordRead b)) → q ≡ recordValid sites items b
+    valid-by-fields f q e = e ∙ sym (valid-is ∙ rw f)
 
 pub valid-room : (sites items : ℕ) (b : List ℕ) → recordValid sites items b ≡ true → sizeRead b ≤ length b
 unfolding recordValid

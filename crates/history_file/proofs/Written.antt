@@ -28,6 +28,20 @@ put-next d pre ys w at n m e size same =
     ∙ ap (λ (x : List ℕ). pre ++ (ys ++ x)) (drop-drop n at d)
     ∙ sym (append-assoc pre ys (drop (at + n) d))
 
+-- m bytes in front, and n behind them that fill the rest
+module _ (b u : List ℕ) (m n k : ℕ) (long : length b ≡ m + n) (us : length u ≡ m) (ks : k ≡ m) where
+  front-is : put b 0 k u ≡ u ++ drop m b
+  front-is = ap (λ (x : ℕ). u ++ drop x b) ks
+
+  pub front-length : length (put b 0 k u) ≡ length b
+  front-length = ap length front-is ∙ length-append u (drop m b) ∙ (let e : length u + length (drop m b) ≡ length b = omega (arith, length-drop m b) in e)
+
+  pub both-written : (v : List ℕ) → put (put b 0 k u) m (m + n - m) v ≡ u ++ v
+  both-written v =
+      put-next b u v (put b 0 k u) m n (m + n - m) front-is us (omega arith)
+      ∙ ap (λ (x : List ℕ). (u ++ v) ++ x) (drop-of-length-le b {i = m + n} (omega arith))
+      ∙ append-nil (u ++ v)
+
 -- ---- joined
 module _ {A : Type 0} (f : A → List ℕ) where
   pub joined-append : (xs ys : List A) → joined f (xs ++ ys) ≡ joined f xs ++ joined f ys
@@ -97,45 +111,10 @@ record-size r =
     length-append (unit (r .site) (length (r .stamp .tuples)) (length (r .ops)) (r .stamp .epoch)) (joined pairBytes (r .stamp .tuples) ++ joined opBytes (r .ops))
     ∙ (let e : length (unit (r .site) (length (r .stamp .tuples)) (length (r .ops)) (r .stamp .epoch)) + length (joined pairBytes (r .stamp .tuples) ++ joined opBytes (r .ops)) ≡ unitSize + unitSize * length (r .stamp .tuples) + unitSize * length (r .ops) = omega (arith, unit-length (r .site) (length (r .stamp .tuples)) (length (r .ops)) (r .stamp .epoch), length-append (joined pairBytes (r .stamp .tuples)) (joined opBytes (r .ops)), pairs-size (r .stamp .tuples), ops-size (r .ops)) in e)
 
--- head, tuples and operations, one after another
-module _ (b : List ℕ) (r : Record) (n c : ℕ) (ns : n ≡ length (r .stamp .tuples)) (cs : c ≡ length (r .ops)) (long : length b ≡ length (recordBytes r)) where
-  abbrev pub afterHead : List ℕ → List ℕ
-  afterHead u = put b 0 unitSize u
-
-  abbrev pub afterTuples : List ℕ → List ℕ → List ℕ
-  afterTuples u t = put (afterHead u) unitSize (unitSize + unitSize * n - unitSize) t
-
-  all-size : length b ≡ unitSize + unitSize * n + unitSize * c
-  all-size = long ∙ record-size r ∙ sym (ap₂ (λ (x y : ℕ). unitSize + unitSize * x + unitSize * y) ns cs)
-
-  module _ (u t o : List ℕ) (us : u ≡ unit (r .site) (length (r .stamp .tuples)) (length (r .ops)) (r .stamp .epoch)) where
-    head-is : afterHead u ≡ u ++ drop unitSize b
-    head-is = put-next b [] u b 0 unitSize unitSize refl refl refl
-
-    head-size : length u ≡ unitSize
-    head-size = ap length us ∙ unit-length (r .site) (length (r .stamp .tuples)) (length (r .ops)) (r .stamp .epoch)
-
-    pub head-length : length (afterHead u) ≡ length b
-    head-length = ap length head-is ∙ length-append u (drop unitSize b) ∙ (let e : length u + length (drop unitSize b) ≡ length b = omega (arith, head-size, length-drop unitSize b, all-size) in e)
-
-    module _ (ts : t ≡ joined pairBytes (r .stamp .tuples)) where
-      tuples-is : afterTuples u t ≡ (u ++ t) ++ drop (unitSize + unitSize * n) b
-      tuples-is = put-next b u t (afterHead u) unitSize (unitSize * n) (unitSize + unitSize * n - unitSize) head-is head-size (omega arith)
-
-      front-size : length (u ++ t) ≡ unitSize + unitSize * n
-      front-size = length-append u t ∙ (let e : length u + length t ≡ unitSize + unitSize * n = omega (arith, head-size, ap length ts, pairs-size (r .stamp .tuples)) in e)
-
-      pub tuples-length : length (afterTuples u t) ≡ length b
-      tuples-length = ap length tuples-is ∙ length-append (u ++ t) (drop (unitSize + unitSize * n) b) ∙ (let e : length (u ++ t) + length (drop (unitSize + unitSize * n) b) ≡ length b = omega (arith, front-size, length-drop (unitSize + unitSize * n) b, all-size) in e)
-
-      pub record-written : o ≡ joined opBytes (r .ops) → put (afterTuples u t) (unitSize + unitSize * n) (unitSize + unitSize * n + unitSize * c - (unitSize + unitSize * n)) o ≡ recordBytes r
-      unfolding recordBytes
-      record-written os =
-          put-next b (u ++ t) o (afterTuples u t) (unitSize + unitSize * n) (unitSize * c) (unitSize + unitSize * n + unitSize * c - (unitSize + unitSize * n)) tuples-is front-size (omega arith)
-          ∙ ap (λ (x : List ℕ). ((u ++ t) ++ o) ++ x) (drop-of-length-le b {i = unitSize + unitSize * n + unitSize * c} (omega (arith, all-size)))
-          ∙ append-nil ((u ++ t) ++ o)
-          ∙ append-assoc u t o
-          ∙ (λ i. us i ++ (ts i ++ os i))
+-- its head, its tuples and its operations
+pub record-parts : (r : Record) → (unit (r .site) (length (r .stamp .tuples)) (length (r .ops)) (r .stamp .epoch) ++ joined pairBytes (r .stamp .tuples)) ++ joined opBytes (r .ops) ≡ recordBytes r
+unfolding recordBytes
+record-parts r = append-assoc (unit (r .site) (length (r .stamp .tuples)) (length (r .ops)) (r .stamp .epoch)) (joined pairBytes (r .stamp .tuples)) (joined opBytes (r .ops))
 
 -- ---- the words of an operation
 pub op-written : (n : ℕ) (ops : List ℕ) (i : ℕ) → i < n → (kind item v : ℕ) → kind ≡ getD ops (3 * i) 0 → item ≡ getD ops (3 * i + 1) 0 → v ≡ getD ops (3 * i + 2) 0 → v < 4294967296

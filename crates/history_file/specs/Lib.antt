@@ -3,5 +3,4 @@ pub mod File
 pub mod Reading
 pub mod Promises
 pub mod Example
-pub mod Entries
 pub mod Statements

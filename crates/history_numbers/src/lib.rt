@@ -1,8 +1,10 @@
-// Numbers in bytes, little-endian: read and written.
+// Numbers in bytes, little-endian, read and written; and what is made of them: an eight of bytes, a trailer.
+use history_file::MARK;
 ghost use mathlib.Core.Path.{_≡_};
 ghost use Prim.Native.Nat.{_+_, _*_, _≤_};
 ghost use lib.ListN.{length, getD};
 ghost use Rattle.history_file.specs.Bytes.{byte, unit, unitSize, numberAt, allZero as zerosOf};
+ghost use Rattle.history_file.specs.File.{trailer, trailerSize};
 
 // A byte as a number.
 pub fn wide(x: u8) -> u32
@@ -33,10 +35,10 @@ pub fn number(b: &[u8], at: usize) -> u32
     requires { ⌜ at + 4 ≤ length (now b) ⌝ }
     ensures { λ r. ⌜ r ≡ numberAt (now (b .entry)) at ⌝ }
 {
-    let p = byte_at(b, at);
-    let q = byte_at(b, at + 1);
-    let r = byte_at(b, at + 2);
-    let s = byte_at(b, at + 3);
+    let p = b[at];
+    let q = b[at + 1];
+    let r = b[at + 2];
+    let s = b[at + 3];
     joined(p, q, r, s)
 }
 
@@ -83,4 +85,30 @@ pub fn put_unit(b: &mut [u8], x: u32, y: u32, z: u32, n: u32)
         low(n / 256 / 256 / 256),
     ];
     bytes::copy(&u, b);
+}
+
+// The trailer of a file.
+pub fn put_trailer(b: &mut [u8], count: u32, distance: u32, sites: u32, items: u32)
+    requires { ⌜ length (now b) ≡ trailerSize ⌝ }
+    ensures { λ r. ⌜ now (b .exit) ≡ trailer count distance sites items ⌝ }
+{
+    let t = [
+        MARK[0],
+        MARK[1],
+        MARK[2],
+        MARK[3],
+        low(count),
+        low(count / 256),
+        low(count / 256 / 256),
+        low(count / 256 / 256 / 256),
+        low(distance),
+        low(distance / 256),
+        low(distance / 256 / 256),
+        low(distance / 256 / 256 / 256),
+        low(sites),
+        low(items),
+        0u8,
+        0u8,
+    ];
+    bytes::copy(&t, b);
 }

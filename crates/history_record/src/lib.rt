@@ -40,7 +40,7 @@ fn tuple_at(b: &[u8], n: usize, i: usize) -> Tuple
     if i < n {
         let a = i * 8;
         return Tuple {
-            site: history_numbers::field(b, a),
+            site: history_numbers::wide(b[a]),
             count: Count(history_numbers::number(b, a + 4)),
         };
     }
@@ -78,8 +78,8 @@ fn operation_at(b: &[u8], i: usize) -> Operation
 {
     let a = i * 8;
     Operation {
-        kind: history_numbers::byte_at(b, a),
-        item: history_numbers::field(b, a + 1),
+        kind: b[a],
+        item: history_numbers::wide(b[a + 1]),
         value: words::value(history_numbers::number(b, a + 4)),
     }
 }

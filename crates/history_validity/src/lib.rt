@@ -8,10 +8,10 @@ ghost use Rattle.words.specs.Words.{chunks};
 ghost use Rattle.lists.specs.Lists.{every};
 ghost use Rattle.timestamp_order.specs.Order.{byNumber};
 ghost use Rattle.timestamp_order.specs.Made.{rising as risingOf, madeBy};
-ghost use Rattle.records.specs.Records.{opFits, recordFits};
 ghost use Rattle.history_file.specs.Bytes.{unitSize, padded as paddedOf};
-ghost use Rattle.history_file.specs.Reading.{pairRead, opRead, recordRead, sizeRead, recordValid, countsFit, padsZero, recordsFill};
-ghost use Rattle.history_validity.specs.Asked.{Padding};
+ghost use Rattle.history_file.specs.Reading.{pairRead, sizeRead, recordValid, countsFit, recordsFill};
+ghost use Rattle.history_validity.specs.Asked.{Padding, Whole};
+ghost use Rattle.history_validity.specs.Fits.{tuplesFit, opFit, fieldsFit};
 
 // A count in one byte.
 pub fn count(b: &[u8], i: usize) -> usize
@@ -66,23 +66,6 @@ fn padded(b: &[u8], n: usize, from: usize) -> bool
     true
 }
 
-// Whether every 00 byte of a record is 0.
-fn pads_zero(b: &[u8]) -> bool
-    requires { ⌜ sizeRead (now b) ≤ length (now b) ⌝ }
-    ensures { λ r. ⌜ r ≡ padsZero (now (b .entry)) ⌝ }
-{
-    let t = count(b, 1);
-    let o = count(b, 2);
-    let a = 8 + 8 * t;
-    if history_numbers::byte_at(b, 3) != 0 {
-        return false;
-    }
-    if !padded(&b[8..], t, 1) {
-        return false;
-    }
-    padded(&b[a..], o, 2)
-}
-
 // Whether the sites of n tuples rise.
 fn rising(b: &[u8], n: usize) -> bool
     requires { ⌜ n * unitSize ≤ length (now b) ⌝ }
@@ -91,7 +74,7 @@ fn rising(b: &[u8], n: usize) -> bool
     let mut i = 1usize;
     while i < n {
         let a = i * 8;
-        if history_numbers::field(b, a) <= history_numbers::field(b, a - 8) {
+        if b[a] <= b[a - 8] {
             return false;
         }
         i += 1;
@@ -110,21 +93,44 @@ fn made_by(b: &[u8], n: usize, site: u32) -> bool
     if !rising(b, n) {
         return false;
     }
-    history_numbers::field(b, n * 8 - 8) == site
+    history_numbers::wide(b[n * 8 - 8]) == site
 }
 
-// Whether n operations are each of a known kind on one of the items.
+// Whether n tuples are those of a timestamp that the site made, their 00 bytes 0.
+fn tuples_fit(b: &[u8], n: usize, site: u32) -> bool
+    requires { ⌜ n * unitSize ≤ length (now b) ⌝ }
+    ensures { λ r. ⌜ r ≡ tuplesFit site n (now (b .entry)) ⌝ }
+{
+    if !padded(b, n, 1) {
+        return false;
+    }
+    made_by(b, n, site)
+}
+
+// Whether an operation is of a known kind on one of the items, its 00 bytes 0.
+fn operation_fits(u: &[u8], items: u32) -> bool
+    requires { ⌜ length (now u) ≡ unitSize ⌝ }
+    ensures { λ r. ⌜ r ≡ opFit items (now (u .entry)) ⌝ }
+{
+    if !history_numbers::zeros(&u[2..4]) {
+        return false;
+    }
+    if 1 < u[0] {
+        return false;
+    }
+    history_numbers::wide(u[1]) < items
+}
+
+// Whether n operations fit.
 fn operations_fit(b: &[u8], n: usize, items: u32) -> bool
     requires { ⌜ n * unitSize ≤ length (now b) ⌝ }
-    ensures { λ r. ⌜ r ≡ every (opFits items) (map opRead (chunks unitSize n (now (b .entry)))) ⌝ }
+    ensures { λ r. ⌜ r ≡ every (opFit items) (chunks unitSize n (now (b .entry))) ⌝ }
 {
     let mut i = 0usize;
     while i < n {
         let a = i * 8;
-        if 1 < history_numbers::field(b, a) {
-            return false;
-        }
-        if items <= history_numbers::field(b, a + 1) {
+        let e = a + 8;
+        if !operation_fits(&b[a..e], items) {
             return false;
         }
         i += 1;
@@ -132,19 +138,20 @@ fn operations_fit(b: &[u8], n: usize, items: u32) -> bool
     true
 }
 
-// Whether the fields of a record are in range.
-fn fields_fit(b: &[u8], sites: u32, items: u32) -> bool
-    requires { ⌜ sizeRead (now b) ≤ length (now b) ⌝ }
-    ensures { λ r. ⌜ r ≡ recordFits byNumber sites items (recordRead (now (b .entry))) ⌝ }
+// Whether every field of a record of t tuples and o operations is in range, and every 00 byte 0.
+fn fields_fit(b: &[u8], t: usize, o: usize, sites: u32, items: u32) -> bool
+    requires { ⌜ Whole (now b) t o ⌝ }
+    ensures { λ r. ⌜ r ≡ fieldsFit sites items (now (b .entry)) ⌝ }
 {
-    let t = count(b, 1);
-    let o = count(b, 2);
     let a = 8 + 8 * t;
-    let site = history_numbers::field(b, 0);
+    let site = history_numbers::wide(b[0]);
+    if b[3] != 0 {
+        return false;
+    }
     if sites <= site {
         return false;
     }
-    if !made_by(&b[8..], t, site) {
+    if !tuples_fit(&b[8..], t, site) {
         return false;
     }
     operations_fit(&b[a..], o, items)
@@ -154,16 +161,18 @@ fn fields_fit(b: &[u8], sites: u32, items: u32) -> bool
 pub fn valid(b: &[u8], sites: u32, items: u32) -> bool
     ensures { λ r. ⌜ r ≡ recordValid sites items (now (b .entry)) ⌝ }
 {
-    if b.len() < size(b) {
+    if b.len() < 8 {
         return false;
     }
-    if !counts_fit(count(b, 1), count(b, 2)) {
+    let t = wide(b[1]);
+    let o = wide(b[2]);
+    if b.len() < 8 + 8 * t + 8 * o {
         return false;
     }
-    if !pads_zero(b) {
+    if !counts_fit(t, o) {
         return false;
     }
-    fields_fit(b, sites, items)
+    fields_fit(b, t, o, sites, items)
 }
 
 // The size of the record that starts at a place, and 0 where there is none.

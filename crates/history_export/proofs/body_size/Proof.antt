@@ -4,6 +4,7 @@ use Prim.Native.Nat.{_≤_, _<_, _-_, _*_}
 use native.Mathlib.Omega.{arith}
 use lib.ListN.{length, take}
 use Rattle.network_layout.specs.InWords.{networkIn}
+use Rattle.network_layout.proofs.Performs.{records-count}
 use Rattle.history_file.specs.Bytes.{joined}
 use Rattle.history_file.specs.File.{recordBytes}
 use Rattle.history_file.proofs.Exports.{body-more, body-done}
@@ -20,14 +21,13 @@ abbrev μ-loop : tie.MeasureT-loop
 loop-holds : tie.Need-loop-holds Inv-loop μ-loop
 loop-holds c = (omega arith, refl, omega arith)
 
-record-requires : tie.Need-record-requires Inv-loop μ-loop
-record-requires c κs = search needs
-
 size-requires : tie.Need-size-requires Inv-loop μ-loop
-size-requires c κs = omega (arith, c .«record» .ensures .laid .filled .fits)
+size-requires c κs = search needs
 
 add-sum : tie.Need-add-sum Inv-loop μ-loop
-add-sum c = omega (arith, c .before .before .before .loop .inv, c .size .ensures .1, c .before .before .before .before .pre .few, c .before .before .loop-test .taken)
+add-sum c =
+    let at = c .before .before in
+    omega (arith, at .loop .inv .2, c .size .ensures .1, at .before .before .pre .few, c .before .loop-test .taken)
 
 add-i : tie.Need-add-i Inv-loop μ-loop
 add-i c = search needs
@@ -37,26 +37,21 @@ loop-less c = search needs
 
 loop-again : tie.Need-loop-again Inv-loop μ-loop
 loop-again c =
-    let hs = networkIn (c .before .before .before .before .args .state .now) .history in
-    let less : c .before .before .before .loop .i < length hs = omega (arith, c .before .before .before .before .pre .all, c .before .before .loop-test .taken) in
-    (omega (arith, c .before .before .loop-test .taken), body-more hs (c .before .before .before .loop .i) less (c .before .«record» .result) (c .before .«record» .ensures) (c .before .before .before .loop .sum) (c .size .result) (c .before .before .before .loop .inv .1) (c .size .ensures .0), omega (arith, c .before .before .before .loop .inv .2, c .size .ensures .1))
+    let turn = c .before in
+    let at = turn .before in
+    let start = at .before .before in
+    let w = start .args .state .now in
+    let less : at .loop .i < length (networkIn w .history) = omega (arith, start .pre .all, records-count w, turn .loop-test .taken) in
+    (omega (arith, turn .loop-test .taken), body-more (networkIn w .history) (at .loop .i) less (at .loop .sum) (c .size .result) (at .loop .inv .1) (c .size .ensures .0), omega (arith, at .loop .inv .2, c .size .ensures .1))
 
 returns : tie.Need-returns Inv-loop μ-loop
 returns c =
-    let hs = networkIn (c .before .before .args .state .now) .history in
-    (body-done hs (c .before .loop .i) (c .before .loop .sum) (omega (arith, c .before .before .pre .all, c .loop-test .left)) (c .before .loop .inv .1), omega (arith, c .before .loop .inv, c .before .before .pre .few))
+    let at = c .before in
+    let start = at .before .before in
+    let w = start .args .state .now in
+    (body-done (networkIn w .history) (at .loop .i) (at .loop .sum) (omega (arith, start .pre .all, records-count w, c .loop-test .left)) (at .loop .inv .1), omega (arith, at .loop .inv, start .pre .few))
 
 pub body-size-spec : {M : Type 1} → statement M
 body-size-spec =
     tie.close
-    (tie.spec
-    Inv-loop
-    μ-loop
-    loop-holds
-    record-requires
-    size-requires
-    add-sum
-    add-i
-    loop-less
-    loop-again
-    returns)
+    (tie.spec Inv-loop μ-loop loop-holds size-requires add-sum add-i loop-less loop-again returns)

@@ -1,32 +1,40 @@
--- `put_record` writes the head, the tuples and the operations.
-use mathlib.Core.Path.{_≡_, sym, _∙_}
-use mathlib.Core.List.{[]}
+-- `put_record` writes what stands before the operations, then the operations.
+use mathlib.Core.Path.{_≡_, refl, sym, ap, _∙_}
+use mathlib.Core.List.{List, _++_}
+use Prim.Native.Nat.{ℕ, _+_, _*_, _-_}
 use native.Mathlib.Omega.{arith}
-use lib.ListN.{length}
-use Rattle.site_operations.proofs.Laws.{ops-length}
-use Rattle.history_file.specs.Bytes.{unit}
-use Rattle.history_file.specs.Entries.{entryOf}
-use Rattle.history_file.proofs.Written.{record-size, head-length, tuples-length, record-written}
+use lib.ListN.{length, length-append}
+use Rattle.records.specs.Records.{Record}
+use Rattle.history_file.specs.Bytes.{unitSize, unit, joined}
+use Rattle.history_file.specs.File.{pairBytes}
+use Rattle.history_file.proofs.Written.{front-length, both-written, unit-length, pairs-size, record-size, record-parts}
+use Rattle.history_export.specs.Asked.{recordAt, frontBytes}
 use borrow.Author.Needs.{needs}
 use Rattle.history_export.proofs.put_record.Statement.{statement}
 use Rattle.history_export.proofs.put_record.Tie as tie
 
--- the numbers of tuples and operations, and the head that says them
-tuples-are : (c : tie.After-size) → c .size .result ≡ length (entryOf (c .before .before .before .args .r) .stamp .tuples)
-tuples-are c = c .size .ensures .0
+-- the bytes lent, and those of the front
+all-size : (c : tie.After-operation-count) → length (c .before .before .before .before .args .b .now) ≡ unitSize + unitSize * c .before .tuples .result + unitSize * c .operation-count .result
+all-size c =
+    let start = c .before .before .before .before in
+    omega (arith, start .pre .sized, record-size (recordAt (start .args .state .now) (start .args .k)), c .before .tuples .ensures .0, c .operation-count .ensures .0)
 
-ops-are : (c : tie.Start) → c .args .r .count ≡ length (entryOf (c .args .r) .ops)
-ops-are c = sym (ops-length (c .args .r .count) (c .args .r .ops))
+front-size : (r : Record) → length (frontBytes r) ≡ unitSize + unitSize * length (r .stamp .tuples)
+front-size r =
+    length-append (unit (r .site) (length (r .stamp .tuples)) (length (r .ops)) (r .stamp .epoch)) (joined pairBytes (r .stamp .tuples))
+    ∙ (let e : length (unit (r .site) (length (r .stamp .tuples)) (length (r .ops)) (r .stamp .epoch)) + length (joined pairBytes (r .stamp .tuples)) ≡ unitSize + unitSize * length (r .stamp .tuples) = omega (arith, unit-length (r .site) (length (r .stamp .tuples)) (length (r .ops)) (r .stamp .epoch), pairs-size (r .stamp .tuples)) in e)
 
-headed : (c : tie.After-put-unit) → c .put-unit .last .0 ≡ unit (c .before .before .before .before .before .before .before .before .args .r .site) (length (entryOf (c .before .before .before .before .before .before .before .before .args .r) .stamp .tuples)) (length (entryOf (c .before .before .before .before .before .before .before .before .args .r) .ops)) (entryOf (c .before .before .before .before .before .before .before .before .args .r) .stamp .epoch)
-headed c =
-    let r = c .before .before .before .before .before .before .before .before .args .r in
-    let tuples = c .before .before .short .ensures ∙ tuples-are (c .before .before .before .before .before) in
-    let ops = c .before .short2 .ensures ∙ ops-are (c .before .before .before .before .before .before .before .before) in
-    c .put-unit .ensures ∙ (λ t. unit (r .site) (tuples t) (ops t) (r .stamp .epoch .0))
+front-sized : (c : tie.After-put-front) → length (c .put-front .last .0) ≡ unitSize + unitSize * c .before .before .before .tuples .result
+front-sized c =
+    let tupled = c .before .before .before in
+    let start = tupled .before .before .before in
+    ap length (c .put-front .ensures) ∙ front-size (recordAt (start .args .state .now) (start .args .k)) ∙ ap (λ (k : ℕ). unitSize + unitSize * k) (sym (tupled .tuples .ensures .0))
 
-size-requires : tie.Need-size-requires
-size-requires c κs = search needs
+tuples-requires : tie.Need-tuples-requires
+tuples-requires c κs = search needs
+
+operation-count-requires : tie.Need-operation-count-requires
+operation-count-requires c κs = search needs
 
 mul-a : tie.Need-mul-a
 mul-a c = search needs
@@ -40,86 +48,67 @@ mul-e c = search needs
 add-e : tie.Need-add-e
 add-e c = search needs
 
-sub-put-unit : tie.Need-sub-put-unit
-sub-put-unit c = search needs
+sub-put-front : tie.Need-sub-put-front
+sub-put-front c = search needs
 
-part-put-unit-start : tie.Need-part-put-unit-start
-part-put-unit-start c = search needs
+part-put-front-start : tie.Need-part-put-front-start
+part-put-front-start c = search needs
 
-part-put-unit-end : tie.Need-part-put-unit-end
-part-put-unit-end c = omega (arith, c .before .before .before .before .pre .sized, record-size (entryOf (c .before .before .before .before .args .r)))
+part-put-front-end : tie.Need-part-put-front-end
+part-put-front-end c = omega (arith, all-size c)
 
-short-requires : tie.Need-short-requires
-short-requires c κs = search needs
+put-front-requires : tie.Need-put-front-requires
+put-front-requires c κs = search needs
 
-short-requires-2 : tie.Need-short-requires-2
-short-requires-2 c κs = search needs
+sub-put-operations-of : tie.Need-sub-put-operations-of
+sub-put-operations-of c = search needs
 
-put-unit-requires : tie.Need-put-unit-requires
-put-unit-requires c κs = search needs
+part-put-operations-of-start : tie.Need-part-put-operations-of-start
+part-put-operations-of-start c = search needs
 
-sub-put-tuples : tie.Need-sub-put-tuples
-sub-put-tuples c = search needs
+part-put-operations-of-end : tie.Need-part-put-operations-of-end
+part-put-operations-of-end c =
+    let put = c .before .before in
+    let counted = put .before .before in
+    let tupled = counted .before in
+    let start = tupled .before .before .before in
+    omega (arith, all-size counted, front-length (start .args .b .now) (put .put-front .last .0) (unitSize + unitSize * tupled .tuples .result) (unitSize * counted .operation-count .result) (unitSize + unitSize * tupled .tuples .result - 0) (all-size counted) (front-sized put) (omega arith))
 
-part-put-tuples-start : tie.Need-part-put-tuples-start
-part-put-tuples-start c = search needs
-
-part-put-tuples-end : tie.Need-part-put-tuples-end
-part-put-tuples-end c =
-    let A = c .before .before .before .before .before .before .before .before .before .before .args in
-    omega (arith, head-length (A .b .now) (entryOf (A .r)) (c .before .before .before .before .before .before .before .size .result) (A .r .count) (tuples-are (c .before .before .before .before .before .before .before)) (ops-are (c .before .before .before .before .before .before .before .before .before .before)) (c .before .before .before .before .before .before .before .before .before .before .pre .sized) (c .before .before .put-unit .last .0) [] [] (headed (c .before .before)), c .before .before .before .before .before .before .before .before .before .before .pre .sized, record-size (entryOf (A .r)), tuples-are (c .before .before .before .before .before .before .before))
-
-put-tuples-requires : tie.Need-put-tuples-requires
-put-tuples-requires c κs = search needs
-
-sub-put-operations : tie.Need-sub-put-operations
-sub-put-operations c = search needs
-
-part-put-operations-start : tie.Need-part-put-operations-start
-part-put-operations-start c = search needs
-
-part-put-operations-end : tie.Need-part-put-operations-end
-part-put-operations-end c =
-    let A = c .before .before .before .before .before .before .before .before .before .before .before .before .before .before .args in
-    omega (arith, tuples-length (A .b .now) (entryOf (A .r)) (c .before .before .before .before .before .before .before .before .before .before .before .size .result) (A .r .count) (tuples-are (c .before .before .before .before .before .before .before .before .before .before .before)) (ops-are (c .before .before .before .before .before .before .before .before .before .before .before .before .before .before)) (c .before .before .before .before .before .before .before .before .before .before .before .before .before .before .pre .sized) (c .before .before .before .before .before .before .put-unit .last .0) (c .before .before .put-tuples .last .0) [] (headed (c .before .before .before .before .before .before)) (c .before .before .put-tuples .ensures), c .before .before .before .before .before .before .before .before .before .before .before .before .before .before .pre .sized, record-size (entryOf (A .r)), tuples-are (c .before .before .before .before .before .before .before .before .before .before .before), ops-are (c .before .before .before .before .before .before .before .before .before .before .before .before .before .before))
-
-slice-aggregate-put-operations : tie.Need-slice-aggregate-put-operations
-slice-aggregate-put-operations c = search needs
-
-put-operations-requires : tie.Need-put-operations-requires
-put-operations-requires c κs = search needs
+put-operations-of-requires : tie.Need-put-operations-of-requires
+put-operations-of-requires c κs = search needs
 
 same-length : tie.Need-same-length
 same-length c = search needs
 
 returns : tie.Need-returns
 returns c =
-    let A = c .before .before .before .before .before .before .before .before .before .before .before .before .before .before .before .before .before .before .before .args in
-    record-written (A .b .now) (entryOf (A .r)) (c .before .before .before .before .before .before .before .before .before .before .before .before .before .before .before .before .size .result) (A .r .count) (tuples-are (c .before .before .before .before .before .before .before .before .before .before .before .before .before .before .before .before)) (ops-are (c .before .before .before .before .before .before .before .before .before .before .before .before .before .before .before .before .before .before .before)) (c .before .before .before .before .before .before .before .before .before .before .before .before .before .before .before .before .before .before .before .pre .sized) (c .before .before .before .before .before .before .before .before .before .before .before .put-unit .last .0) (c .before .before .before .before .before .before .before .put-tuples .last .0) (c .before .before .put-operations .last .0) (headed (c .before .before .before .before .before .before .before .before .before .before .before)) (c .before .before .before .before .before .before .before .put-tuples .ensures) (c .before .before .put-operations .ensures)
+    let last = c .before .before in
+    let put = last .before .before .before .before in
+    let counted = put .before .before in
+    let tupled = counted .before in
+    let start = tupled .before .before .before in
+    let r = recordAt (start .args .state .now) (start .args .k) in
+    both-written (start .args .b .now) (put .put-front .last .0) (unitSize + unitSize * tupled .tuples .result) (unitSize * counted .operation-count .result) (unitSize + unitSize * tupled .tuples .result - 0) (all-size counted) (front-sized put) (omega arith) (last .put-operations-of .last .0)
+    ∙ (λ t. put .put-front .ensures t ++ last .put-operations-of .ensures t)
+    ∙ record-parts r
 
 pub put-record-spec : {M : Type 1} → statement M
 put-record-spec =
     tie.close
     (tie.spec
-    size-requires
+    tuples-requires
+    operation-count-requires
     mul-a
     add-a
     mul-e
     add-e
-    sub-put-unit
-    part-put-unit-start
-    part-put-unit-end
-    short-requires
-    short-requires-2
-    put-unit-requires
-    sub-put-tuples
-    part-put-tuples-start
-    part-put-tuples-end
-    put-tuples-requires
-    sub-put-operations
-    part-put-operations-start
-    part-put-operations-end
-    slice-aggregate-put-operations
-    put-operations-requires
+    sub-put-front
+    part-put-front-start
+    part-put-front-end
+    put-front-requires
+    sub-put-operations-of
+    part-put-operations-of-start
+    part-put-operations-of-end
+    put-operations-of-requires
     same-length
     returns)

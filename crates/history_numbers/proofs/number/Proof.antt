@@ -4,26 +4,26 @@ use borrow.Author.Needs.{needs}
 use Rattle.history_numbers.proofs.number.Statement.{statement}
 use Rattle.history_numbers.proofs.number.Tie as tie
 
-byte-at-requires : tie.Need-byte-at-requires
-byte-at-requires c κs = search needs
+shared-slice-read-p : tie.Need-shared-slice-read-p
+shared-slice-read-p c = search needs
 
-add-byte-at : tie.Need-add-byte-at
-add-byte-at c = search needs
+add-q : tie.Need-add-q
+add-q c = search needs
 
-byte-at-requires-2 : tie.Need-byte-at-requires-2
-byte-at-requires-2 c κs = search needs
+shared-slice-read-q : tie.Need-shared-slice-read-q
+shared-slice-read-q c = search needs
 
-add-byte-at-2 : tie.Need-add-byte-at-2
-add-byte-at-2 c = search needs
+add-r : tie.Need-add-r
+add-r c = search needs
 
-byte-at-requires-3 : tie.Need-byte-at-requires-3
-byte-at-requires-3 c κs = search needs
+shared-slice-read-r : tie.Need-shared-slice-read-r
+shared-slice-read-r c = search needs
 
-add-byte-at-3 : tie.Need-add-byte-at-3
-add-byte-at-3 c = search needs
+add-s : tie.Need-add-s
+add-s c = search needs
 
-byte-at-requires-4 : tie.Need-byte-at-requires-4
-byte-at-requires-4 c κs = search needs
+shared-slice-read-s : tie.Need-shared-slice-read-s
+shared-slice-read-s c = search needs
 
 joined-requires : tie.Need-joined-requires
 joined-requires c κs = search needs
@@ -36,12 +36,12 @@ pub number-spec : {M : Type 1} → statement M
 number-spec =
     tie.close
     (tie.spec
-    byte-at-requires
-    add-byte-at
-    byte-at-requires-2
-    add-byte-at-2
-    byte-at-requires-3
-    add-byte-at-3
-    byte-at-requires-4
+    shared-slice-read-p
+    add-q
+    shared-slice-read-q
+    add-r
+    shared-slice-read-r
+    add-s
+    shared-slice-read-s
     joined-requires
     returns)

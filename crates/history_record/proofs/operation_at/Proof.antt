@@ -8,14 +8,17 @@ use Rattle.history_record.proofs.operation_at.Tie as tie
 mul-a : tie.Need-mul-a
 mul-a c = search needs
 
-byte-at-requires : tie.Need-byte-at-requires
-byte-at-requires c κs = search needs
+shared-slice-read-t5 : tie.Need-shared-slice-read-t5
+shared-slice-read-t5 c = search needs
 
-add-field : tie.Need-add-field
-add-field c = search needs
+add-wide : tie.Need-add-wide
+add-wide c = search needs
 
-field-requires : tie.Need-field-requires
-field-requires c κs = search needs
+shared-slice-read-wide : tie.Need-shared-slice-read-wide
+shared-slice-read-wide c = search needs
+
+wide-requires : tie.Need-wide-requires
+wide-requires c κs = search needs
 
 add-number : tie.Need-add-number
 add-number c = search needs
@@ -29,11 +32,10 @@ value-requires c κs = search needs
 returns : tie.Need-returns
 returns c =
     let numbered = c .before in
-    let first = numbered .before .before in
-    let A = first .before .before .args in
+    let A = numbered .before .before .before .before .before .args in
     record {
-      kind-is = first .byte-at .ensures ∙ op-kind (A .b .now) (A .i);
-      item-is = numbered .before .field .ensures ∙ op-item (A .b .now) (A .i);
+      kind-is = op-kind (A .b .now) (A .i);
+      item-is = numbered .before .wide .ensures ∙ op-item (A .b .now) (A .i);
       value-is = passed-on (c .value .result) _ (record { sfits = c .value .ok }) (c .value .ensures ∙ op-value (A .b .now) (A .i) (numbered .number .result) (numbered .number .ensures));
     }
 
@@ -42,9 +44,10 @@ operation-at-spec =
     tie.close
     (tie.spec
     mul-a
-    byte-at-requires
-    add-field
-    field-requires
+    shared-slice-read-t5
+    add-wide
+    shared-slice-read-wide
+    wide-requires
     add-number
     number-requires
     value-requires

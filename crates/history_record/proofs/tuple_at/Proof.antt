@@ -7,8 +7,11 @@ use Rattle.history_record.proofs.tuple_at.Tie as tie
 mul-a : tie.Need-mul-a
 mul-a c = search needs
 
-field-requires : tie.Need-field-requires
-field-requires c κs = search needs
+shared-slice-read-wide : tie.Need-shared-slice-read-wide
+shared-slice-read-wide c = search needs
+
+wide-requires : tie.Need-wide-requires
+wide-requires c κs = search needs
 
 add-number : tie.Need-add-number
 add-number c = search needs
@@ -18,8 +21,10 @@ number-requires c κs = search needs
 
 returns : tie.Need-returns
 returns c =
-    let A = c .before .before .before .before .args in
-    tuple-there (A .b .now) (A .n) (A .i) (c .before .before .if1 .taken) (c .before .field .result) (c .number .result) (c .before .field .ensures) (c .number .ensures)
+    let sited = c .before in
+    let there = sited .before .before in
+    let A = there .before .before .args in
+    tuple-there (A .b .now) (A .n) (A .i) (there .if1 .taken) (sited .wide .result) (c .number .result) (sited .wide .ensures) (c .number .ensures)
 
 returns-2 : tie.Need-returns-2
 returns-2 c =
@@ -28,4 +33,12 @@ returns-2 c =
 
 pub tuple-at-spec : {M : Type 1} → statement M
 tuple-at-spec =
-    tie.close (tie.spec mul-a field-requires add-number number-requires returns returns-2)
+    tie.close
+    (tie.spec
+    mul-a
+    shared-slice-read-wide
+    wide-requires
+    add-number
+    number-requires
+    returns
+    returns-2)

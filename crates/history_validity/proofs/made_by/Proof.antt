@@ -15,24 +15,40 @@ rising-requires c κs = search needs
 
 returns-2 : tie.Need-returns-2
 returns-2 c =
-    let A = c .before .before .before .before .args in
-    made-falling (A .b .now) (A .n) (A .site) (c .before .before .if1 .left) (c .before .rising .result) (c .before .rising .ensures) (not-true (c .before .rising .result) (c .if2 .taken))
+    let some = c .before .before in
+    let A = some .before .before .args in
+    let r = c .before .rising in
+    made-falling (A .b .now) (A .n) (A .site) (some .if1 .left) (r .result) (r .ensures) (not-true (r .result) (c .if2 .taken))
 
-mul-field : tie.Need-mul-field
-mul-field c = search needs
+mul-wide : tie.Need-mul-wide
+mul-wide c = search needs
 
-sub-field : tie.Need-sub-field
-sub-field c = search needs
+sub-wide : tie.Need-sub-wide
+sub-wide c = search needs
 
-field-requires : tie.Need-field-requires
-field-requires c κs = search needs
+shared-slice-read-wide : tie.Need-shared-slice-read-wide
+shared-slice-read-wide c = search needs
+
+wide-requires : tie.Need-wide-requires
+wide-requires c κs = search needs
 
 returns-3 : tie.Need-returns-3
 returns-3 c =
-    let A = c .before .before .before .before .before .args in
-    made-last (A .b .now) (A .n) (A .site) (c .before .before .before .if1 .left) (c .before .before .rising .result) (c .before .before .rising .ensures) (not-false (c .before .before .rising .result) (c .before .if2 .left)) (c .field .result) (c .field .ensures)
+    let rose = c .before .before in
+    let some = rose .before .before in
+    let A = some .before .before .args in
+    let r = rose .before .rising in
+    made-last (A .b .now) (A .n) (A .site) (some .if1 .left) (r .result) (r .ensures) (not-false (r .result) (rose .if2 .left)) (c .wide .result) (c .wide .ensures)
 
 pub made-by-spec : {M : Type 1} → statement M
 made-by-spec =
     tie.close
-    (tie.spec returns rising-requires returns-2 mul-field sub-field field-requires returns-3)
+    (tie.spec
+    returns
+    rising-requires
+    returns-2
+    mul-wide
+    sub-wide
+    shared-slice-read-wide
+    wide-requires
+    returns-3)

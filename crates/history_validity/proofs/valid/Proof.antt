@@ -1,59 +1,96 @@
--- `valid` tests the size, the counts, the 00 bytes and the fields.
+-- `valid` tests the size, the counts and the fields.
+use mathlib.Core.Path.{_≡_, ap₂}
+use Prim.Native.Nat.{ℕ, _+_, _*_}
+use native.Mathlib.Omega.{arith}
 use borrow.Author.Tests.{not-true, not-false}
-use Rattle.history_file.proofs.Validity.{valid-short, valid-uncounted, valid-unpadded, valid-by-fields}
+use Rattle.history_file.specs.Reading.{sizeRead}
+use Rattle.history_file.proofs.Validity.{valid-short, valid-uncounted, valid-by-fields, size-some}
+use mathlib.Core.Path.{refl}
 use borrow.Author.Needs.{needs}
 use Rattle.history_validity.proofs.valid.Statement.{statement}
 use Rattle.history_validity.proofs.valid.Tie as tie
 
-size-requires : tie.Need-size-requires
-size-requires c κs = search needs
+-- the size that the bytes say
+said : (c : tie.After-wide2) → 8 + 8 * c .before .before .wide .result + 8 * c .wide2 .result ≡ sizeRead (c .before .before .before .before .before .before .args .b .now)
+unfolding sizeRead
+said c = ap₂ (λ (t o : ℕ). 8 + 8 * t + 8 * o) (c .before .before .wide .ensures .0) (c .wide2 .ensures .0)
 
 returns : tie.Need-returns
 returns c =
-    let A = c .before .before .before .args in
-    valid-short (A .sites) (A .items) (A .b .now) (c .before .size .result) (c .before .size .ensures .0) (c .if1 .taken)
+    let A = c .before .before .args in
+    valid-short (A .sites) (A .items) (A .b .now) (sizeRead (A .b .now)) refl (omega (arith, size-some (A .b .now), c .if1 .taken))
 
-count-requires : tie.Need-count-requires
-count-requires c κs = search needs
+shared-slice-read-wide : tie.Need-shared-slice-read-wide
+shared-slice-read-wide c = search needs
 
-count-requires-2 : tie.Need-count-requires-2
-count-requires-2 c κs = search needs
+wide-requires : tie.Need-wide-requires
+wide-requires c κs = search needs
+
+shared-slice-read-wide-2 : tie.Need-shared-slice-read-wide-2
+shared-slice-read-wide-2 c = search needs
+
+wide-requires-2 : tie.Need-wide-requires-2
+wide-requires-2 c κs = search needs
+
+mul-if2 : tie.Need-mul-if2
+mul-if2 c = search needs
+
+add-if2 : tie.Need-add-if2
+add-if2 c = search needs
+
+mul-if2-2 : tie.Need-mul-if2-2
+mul-if2-2 c = search needs
+
+add-if2-2 : tie.Need-add-if2-2
+add-if2-2 c = search needs
+
+returns-2 : tie.Need-returns-2
+returns-2 c =
+    let start = c .before .before .before .before .before .before .before in
+    let A = start .args in
+    valid-short (A .sites) (A .items) (A .b .now) _ (said (c .before)) (c .if2 .taken)
 
 counts-fit-requires : tie.Need-counts-fit-requires
 counts-fit-requires c κs = search needs
 
-returns-2 : tie.Need-returns-2
-returns-2 c =
-    let A = c .before .before .before .before .before .before .before .args in
-    valid-uncounted (A .sites) (A .items) (A .b .now) (c .before .before .before .before .before .size .result) (c .before .before .before .before .before .size .ensures .0) (c .before .before .before .before .if1 .left) (c .before .before .before .count .result) (c .before .before .count2 .result) (c .before .before .before .count .ensures .0) (c .before .before .count2 .ensures .0) (c .before .counts-fit .result) (c .before .counts-fit .ensures) (not-true (c .before .counts-fit .result) (c .if2 .taken))
-
-pads-zero-requires : tie.Need-pads-zero-requires
-pads-zero-requires c κs = search needs
-
 returns-3 : tie.Need-returns-3
 returns-3 c =
-    let A = c .before .before .before .before .before .before .before .before .before .args in
-    valid-unpadded (A .sites) (A .items) (A .b .now) (c .before .before .before .before .before .before .before .size .result) (c .before .before .before .before .before .before .before .size .ensures .0) (c .before .before .before .before .before .before .if1 .left) (c .before .before .before .before .before .count .result) (c .before .before .before .before .count2 .result) (c .before .before .before .before .before .count .ensures .0) (c .before .before .before .before .count2 .ensures .0) (c .before .before .before .counts-fit .result) (c .before .before .before .counts-fit .ensures) (not-false (c .before .before .before .counts-fit .result) (c .before .before .if2 .left)) (c .before .pads-zero .result) (c .before .pads-zero .ensures) (not-true (c .before .pads-zero .result) (c .if3 .taken))
+    let long = c .before .before in
+    let counted = long .before in
+    let A = counted .before .before .before .before .before .before .args in
+    let f = c .before .counts-fit in
+    valid-uncounted (A .sites) (A .items) (A .b .now) _ (said counted) (long .if2 .left) (counted .before .before .wide .result) (counted .wide2 .result) (counted .before .before .wide .ensures .0) (counted .wide2 .ensures .0) (f .result) (f .ensures) (not-true (f .result) (c .if3 .taken))
 
 fields-fit-requires : tie.Need-fields-fit-requires
-fields-fit-requires c κs = search needs
+fields-fit-requires c κs =
+    let long = c .before .before in
+    let counted = long .before in
+    record { inside = omega (arith, said counted, long .if2 .left); tuples = counted .before .before .wide .ensures .0; ops = counted .wide2 .ensures .0 }
 
 returns-4 : tie.Need-returns-4
 returns-4 c =
-    let A = c .before .before .before .before .before .before .before .before .before .before .args in
-    valid-by-fields (A .sites) (A .items) (A .b .now) (c .before .before .before .before .before .before .before .before .size .result) (c .before .before .before .before .before .before .before .before .size .ensures .0) (c .before .before .before .before .before .before .before .if1 .left) (c .before .before .before .before .before .before .count .result) (c .before .before .before .before .before .count2 .result) (c .before .before .before .before .before .before .count .ensures .0) (c .before .before .before .before .before .count2 .ensures .0) (c .before .before .before .before .counts-fit .result) (c .before .before .before .before .counts-fit .ensures) (not-false (c .before .before .before .before .counts-fit .result) (c .before .before .before .if2 .left)) (c .before .before .pads-zero .result) (c .before .before .pads-zero .ensures) (not-false (c .before .before .pads-zero .result) (c .before .if3 .left)) (c .fields-fit .result) (c .fields-fit .ensures)
+    let fit = c .before in
+    let long = fit .before .before in
+    let counted = long .before in
+    let A = counted .before .before .before .before .before .before .args in
+    let f = fit .before .counts-fit in
+    valid-by-fields (A .sites) (A .items) (A .b .now) _ (said counted) (long .if2 .left) (counted .before .before .wide .result) (counted .wide2 .result) (counted .before .before .wide .ensures .0) (counted .wide2 .ensures .0) (f .result) (f .ensures) (not-false (f .result) (fit .if3 .left)) (c .fields-fit .result) (c .fields-fit .ensures)
 
 pub valid-spec : {M : Type 1} → statement M
 valid-spec =
     tie.close
     (tie.spec
-    size-requires
     returns
-    count-requires
-    count-requires-2
-    counts-fit-requires
+    shared-slice-read-wide
+    wide-requires
+    shared-slice-read-wide-2
+    wide-requires-2
+    mul-if2
+    add-if2
+    mul-if2-2
+    add-if2-2
     returns-2
-    pads-zero-requires
+    counts-fit-requires
     returns-3
     fields-fit-requires
     returns-4)
