@@ -1,4 +1,2 @@
 pub mod ItemWords
-pub mod NewWords
 pub mod SetUpLaws
-pub mod StartWords

@@ -8,8 +8,8 @@ use lib.ListN.{length}
 use lib.Dec.{eqb, ltb}
 use borrow.Author.Tests.{ltb-false, eqb-true, not-false, eq-eqb, ne-eqb}
 use Rattle.limits.specs.Limits.{itemsMost, sitesMost}
-use Rattle.lists.specs.Numbers.{firstNumber, outside}
-use Rattle.lists.proofs.Numbers.{first-some, or-false}
+use Rattle.lists.specs.Numbers.{numberIf, firstNumber, outside}
+use Rattle.lists.proofs.Numbers.{first-some, first-none, none-holds, or-false}
 use Rattle.placement.specs.Placement.{itemsNumber}
 use Rattle.placement.specs.InWords.{itemsIn}
 use Rattle.protocol.specs.Network.{noStamp}
@@ -21,40 +21,52 @@ use Rattle.network_layout.specs.Layout.{itemsSize, stateSize}
 use Rattle.network_layout.specs.InWords.{meaning}
 use Rattle.network_layout.specs.Promises.{Performed}
 use Rattle.network_layout.proofs.Performs.{meaning-some}
-use Rattle.network_set_up.specs.SetUp.{newNetwork, Begun, Paired, LayingOut}
+use Rattle.network_new.specs.New.{newNetwork, Begun, LayingOut}
+use Rattle.network_set_up.specs.SetUp.{countsNumber, Paired}
 
 -- ---- the number
--- a mask for each of at most 64 primaries, where cause 2 does not hold
-pub paired : (items : ℕ) (ps ms : List ℕ) → wrongItems items (length ps) (length ms) ≡ false → Paired ps ms
-paired items ps ms e =
-    let other : List ℕ → Bool = λ l. not (eqb (length l) items) in
-    let o = or-false (outside 1 itemsMost items) (other ps || other ms) e in
-    let l = or-false (other ps) (other ms) (o .1) in
-    let most = ltb-false itemsMost items (or-false (ltb items 1) (ltb itemsMost items) (o .0) .1) in
-    let primaries = eqb-true (length ps) items (not-false (eqb (length ps) items) (l .0)) in
-    record { few = omega (arith, most, primaries); same = primaries ∙ sym (eqb-true (length ms) items (not-false (eqb (length ms) items) (l .1))) }
+-- the first of three, as the first of the first two's and the third
+of-three : (x y : Bool) (n : ℕ) → firstNumber (numberIf x 1 ∷ (numberIf y 2 ∷ (n ∷ []))) ≡ firstNumber (firstNumber (numberIf x 1 ∷ (numberIf y 2 ∷ [])) ∷ (n ∷ []))
+of-three true y n = refl
+of-three false true n = refl
+of-three false false n = refl
 
-single : (n : ℕ) → firstNumber (n ∷ []) ≡ n
+pub single : (n : ℕ) → firstNumber (n ∷ []) ≡ n
 single zero = refl
 single (suc n) = first-some (suc n) [] (λ z. omega arith)
 
 module _ (sites items : ℕ) (ps ms : List ℕ) where
-  pub sites-refused : outside 1 sitesMost sites ≡ true → setUpNumber sites items ps ms ≡ 1
+  abbrev counts : ℕ
+  counts = countsNumber sites items (length ps) (length ms)
+
+  number-is : setUpNumber sites items ps ms ≡ firstNumber (counts ∷ (itemsNumber sites (itemsOf ps ms) ∷ []))
   unfolding setUpNumber
-  sites-refused a = rw a
+  number-is = of-three (outside 1 sitesMost sites) (wrongItems items (length ps) (length ms)) (itemsNumber sites (itemsOf ps ms))
 
-  module _ (a : outside 1 sitesMost sites ≡ false) where
-    pub items-refused : wrongItems items (length ps) (length ms) ≡ true → setUpNumber sites items ps ms ≡ 2
-    unfolding setUpNumber
-    items-refused b = rw (a, b)
+  pub counts-refused : (r : ℕ) → r ≡ counts → (r ≡ 0 → ⊥) → r ≡ setUpNumber sites items ps ms
+  counts-refused r e h = e ∙ sym (number-is ∙ first-some counts (itemsNumber sites (itemsOf ps ms) ∷ []) (λ z. h (e ∙ z)))
 
-    -- else it is that of the placement, as the code asks for it
-    pub placed-number : wrongItems items (length ps) (length ms) ≡ false → (w : List ℕ) → itemsIn (length ps) w ≡ itemsOf ps ms → (r : ℕ) → r ≡ itemsNumber sites (itemsIn (min (length ps) itemsMost) w)
-        → r ≡ setUpNumber sites items ps ms
-    unfolding setUpNumber
-    placed-number b w e r f =
-        let all : min (length ps) itemsMost ≡ length ps = omega (arith, paired items ps ms b .few) in
-        f ∙ ap (λ (k : ℕ). itemsNumber sites (itemsIn k w)) all ∙ ap (itemsNumber sites) e ∙ sym (rw (a, b) (single (itemsNumber sites (itemsOf ps ms))))
+  -- the counts give no cause
+  module _ (r : ℕ) (is : r ≡ counts) (none : r ≡ 0) where
+    pub paired : Paired ps ms
+    paired =
+        let wrong = none-holds (outside 1 sitesMost sites) 0 (numberIf (wrongItems items (length ps) (length ms)) 2 ∷ []) (sym is ∙ none) .1 in
+        let e = none-holds (wrongItems items (length ps) (length ms)) 1 [] wrong .0 in
+        let other : List ℕ → Bool = λ l. not (eqb (length l) items) in
+        let o = or-false (outside 1 itemsMost items) (other ps || other ms) e in
+        let l = or-false (other ps) (other ms) (o .1) in
+        let most = ltb-false itemsMost items (or-false (ltb items 1) (ltb itemsMost items) (o .0) .1) in
+        let primaries = eqb-true (length ps) items (not-false (eqb (length ps) items) (l .0)) in
+        record { few = omega (arith, most, primaries); same = primaries ∙ sym (eqb-true (length ms) items (not-false (eqb (length ms) items) (l .1))) }
+
+    -- the number is that of the placement, as the code asks for it
+    pub placed-number : (w : List ℕ) → itemsIn (length ps) w ≡ itemsOf ps ms → (k : ℕ) → k ≡ itemsNumber sites (itemsIn (min (length ps) itemsMost) w) → k ≡ setUpNumber sites items ps ms
+    placed-number w e k f =
+        let all : min (length ps) itemsMost ≡ length ps = omega (arith, paired .few) in
+        f
+        ∙ ap (λ (n : ℕ). itemsNumber sites (itemsIn n w)) all
+        ∙ ap (itemsNumber sites) e
+        ∙ sym (number-is ∙ first-none counts (itemsNumber sites (itemsOf ps ms) ∷ []) (sym is ∙ none) ∙ single (itemsNumber sites (itemsOf ps ms)))
 
 -- ---- the call
 outcome-is : (call : Call) (w v : List ℕ) (o : Outcome) → perform (meaning w) call ≡ o → meaning v ≡ o .after → ((o .number ≡ 0 → ⊥) → v ≡ w)
@@ -86,11 +98,12 @@ module _ (sites items : ℕ) (ps ms w : List ℕ) where
         let a = set-up-allowed sites items ps ms z in
         record { sized = size; placed-sized = placed-size; some-sites = a .some-sites; few-sites = a .few-sites; some-items = a .some-items; few-items = a .few-items }
 
-    pub set-up-done : (v : List ℕ) → itemsIn (length ps) placed ≡ itemsOf ps ms → Begun v sites (itemsIn items placed) → Performed (setUp sites items ps ms) w v 0 0 noStamp []
+    pub set-up-done : (r : ℕ) → r ≡ 0 → (v : List ℕ) → itemsIn (length ps) placed ≡ itemsOf ps ms → Begun v sites (itemsIn items placed) → Performed (setUp sites items ps ms) w v r 0 noStamp []
     unfolding perform setUpNetwork
-    set-up-done v e b =
+    set-up-done r none v e b =
         let k = setUpNumber sites items ps ms in
         let a = set-up-allowed sites items ps ms z in
         let o : perform (meaning w) (setUp sites items ps ms) ≡ done = ap (λ (t : Bool). cond t done (refused k (meaning w))) (eq-eqb k 0 z) in
         let is = b .meant ∙ ap (newNetwork sites) (ap (λ (n : ℕ). itemsIn n placed) (sym (a .each-primary)) ∙ e) in
-        outcome-is (setUp sites items ps ms) w v done o (meaning-some v (setUpNetwork sites ps ms) (b .ranged) is (keeps-set-up sites items ps ms a)) (λ y. absurd (y refl))
+        subst (λ (n : ℕ). Performed (setUp sites items ps ms) w v n 0 noStamp []) (sym none)
+        (outcome-is (setUp sites items ps ms) w v done o (meaning-some v (setUpNetwork sites ps ms) (b .ranged) is (keeps-set-up sites items ps ms a)) (λ y. absurd (y refl)))

@@ -1,22 +1,18 @@
-// Set-up: the counts, the placement and the sites of a new network, its lines empty and its history too.
-use network_layout::ITEMS;
-use network_layout::LINES;
-use network_layout::SITE;
-use network_layout::SITES;
+// Set-up: a new network, where no cause refuses it.
 use network_layout::WORDS;
 ghost use mathlib.Core.Path.{_≡_};
 ghost use mathlib.Core.List.{[], _∷_, _++_};
 ghost use Prim.Native.Nat.{_+_, _<_};
 ghost use lib.ListN.{length};
 ghost use Rattle.limits.specs.Limits.{itemsMost};
-ghost use Rattle.lists.specs.Numbers.{outside as outsideOf};
+ghost use Rattle.lists.specs.Numbers.{numberIf, firstNumber, outside as outsideOf};
 ghost use Rattle.placement.specs.InWords.{itemsIn};
 ghost use Rattle.protocol.specs.Network.{noStamp};
 ghost use Rattle.protocol.specs.Steps.{wrongItems, itemsOf};
 ghost use Rattle.protocol.specs.Calls.{setUp as setUpCall};
 ghost use Rattle.network_layout.specs.Layout.{stateSize};
 ghost use Rattle.network_layout.specs.Promises.{Performed};
-ghost use Rattle.network_set_up.specs.SetUp.{Begun, Started, Paired, LayingOut, Starting, StartingNext};
+ghost use Rattle.network_set_up.specs.SetUp.{countsNumber, Paired};
 
 // Set-up: a new network, whatever the state was before. It answers its number.
 pub fn set_up(
@@ -36,19 +32,47 @@ fn set_up_in(state: &mut [u32], sites: u32, items: u32, primaries: &[u32], masks
     requires { ⌜ length (now state) ≡ stateSize ⌝ }
     ensures { λ r. ⌜ Performed (setUpCall sites items (now (primaries .entry)) (now (masks .entry))) (now (state .entry)) (now (state .exit)) r 0 noStamp [] ⌝ }
 {
-    if outside(1, limits::SITES, sites) {
-        return 1;
-    }
-    if items_wrong(items, primaries.len(), masks.len()) {
-        return 2;
+    let cause = counts_number(sites, items, primaries.len(), masks.len());
+    if cause != 0 {
+        return cause;
     }
     let placed = item_words(primaries, masks);
     let number = placement::number(sites, &placed, primaries.len());
     if number != 0 {
         return number;
     }
-    lay_out(state, sites, items, &placed);
+    network_new::lay_out(state, sites, items, &placed);
+    number
+}
+
+// ---- the counts
+// The number for which the counts are refused, or 0: the sites', then the items'.
+fn counts_number(sites: u32, items: u32, primaries: usize, masks: usize) -> u32
+    ensures { λ r. ⌜ r ≡ countsNumber sites items primaries masks ⌝ }
+{
+    let few = number_if(outside(1, limits::SITES, sites), 1);
+    let each = number_if(items_wrong(items, primaries, masks), 2);
+    first(few, each)
+}
+
+// The number of a cause that holds, and 0 of any other.
+fn number_if(holds: bool, number: u32) -> u32
+    ensures { λ r. ⌜ r ≡ numberIf holds number ⌝ }
+{
+    if holds {
+        return number;
+    }
     0
+}
+
+// The first of two numbers that is not 0.
+fn first(a: u32, b: u32) -> u32
+    ensures { λ r. ⌜ r ≡ firstNumber (a ∷ (b ∷ [])) ⌝ }
+{
+    if a != 0 {
+        return a;
+    }
+    b
 }
 
 fn outside(low: u32, high: u32, k: u32) -> bool
@@ -96,40 +120,4 @@ fn wide8(x: u8) -> u32
     ensures { λ r. ⌜ r ≡ x ⌝ }
 {
     x as u32
-}
-
-// ---- the state
-// The words of a new network of these sites and items.
-fn lay_out(state: &mut [u32], sites: u32, items: u32, placed: &[u32])
-    requires { ⌜ LayingOut (now state) (now placed) sites items ⌝ }
-    ensures { λ r. ⌜ Begun (now (state .exit)) sites (itemsIn items (now (placed .entry))) ⌝ }
-{
-    words::fill(state, 0);
-    state[0] = sites;
-    state[1] = items;
-    words::lay(state, ITEMS, placed);
-    start_sites(&mut state[SITES..LINES], sites);
-}
-
-// The first n sites at their start.
-fn start_sites(w: &mut [u32], n: u32)
-    requires { ⌜ Starting (now w) n ⌝ }
-    ensures { λ r. ⌜ Started (now (w .exit)) n ⌝ }
-{
-    let mut i: u32 = 0;
-    while i < n {
-        start_one(w, i);
-        i += 1;
-    }
-}
-
-// Site i after the i before it.
-fn start_one(w: &mut [u32], i: u32)
-    requires { ⌜ StartingNext (now w) i ⌝ }
-    ensures { λ r. ⌜ Started (now (w .exit)) (i + 1) ⌝ }
-{
-    let mut words = [0u32; SITE];
-    words[1] = 1;
-    words[2] = i;
-    words::lay(w, words::wide(i) * SITE, &words);
 }

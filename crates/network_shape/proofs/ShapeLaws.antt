@@ -1,6 +1,6 @@
 -- The test for shape: what each part of it says of the network.
-use mathlib.Core.Path.{_≡_, refl, sym, ap, ap₂, _∙_}
-use mathlib.Core.Bool.{Bool, true, false, _&&_, _||_, and-false, and-comm}
+use mathlib.Core.Path.{_≡_, refl, sym, ap, ap₂, subst, _∙_}
+use mathlib.Core.Bool.{Bool, true, false, _&&_, _||_, and-false, and-comm, false≢true}
 use mathlib.Core.List.{List, [], _∷_, map}
 use Prim.Native.Nat.{ℕ, zero, suc, _+_, _-_, _*_, _/_, _%_, _≤_, _<_, min}
 use native.Mathlib.Omega.{arith}
@@ -21,7 +21,7 @@ use Rattle.timestamp_order.specs.Made.{madeBy}
 use Rattle.site.specs.Site.{Site}
 use Rattle.site.specs.InWords.{siteIn, siteRange, siteSize}
 use Rattle.site.proofs.Laws.{stamp-law}
-use Rattle.placement.specs.Placement.{Item, itemsNumber, isLine}
+use Rattle.placement.specs.Placement.{Item, itemsNumber, isLine, LineBits}
 use Rattle.placement.specs.InWords.{itemSize, itemIn, itemsIn}
 use Rattle.limits.specs.Limits.{itemsMost, sitesMost, heldMost, recordsMost}
 use Rattle.lines.specs.InWords.{boxesAt, boxesSize, boxesIn, lineIn, lineRange, lineCounted}
@@ -115,8 +115,8 @@ some-held : {A : Type 0} (l : List A) → 0 < length l → isEmpty l ≡ false
 some-held [] h = absurd (omega arith)
 some-held (x ∷ xs) h = refl
 
-pub placed-all : (items : ℕ) → items ≤ itemsMost → (placed : List ℕ) (p c : ℕ) (r : Bool) → r ≡ isLine (itemsIn (min items itemsMost) placed) p c → isLine (itemsIn items placed) p c ≡ r
-placed-all items few placed p c r e = let all : items ≡ min items itemsMost = omega arith in ap (λ (m : ℕ). isLine (itemsIn m placed) p c) all ∙ sym e
+pub placed-lines : (items : ℕ) → items ≤ itemsMost → (placed : List ℕ) (m : ℕ) → LineBits (itemsIn (min items itemsMost) placed) m → LineBits (itemsIn items placed) m
+placed-lines items few placed m bits = let all : min items itemsMost ≡ items = omega arith in subst (λ (n : ℕ). LineBits (itemsIn n placed) m) all bits
 
 module _ (xs : List Item) (h : List Record) (k : ℕ) (l : List ℕ) where
   held-few : lineCounted l ≡ true → (getD l 0 0 ≤ heldMost) × (getD l 1 0 ≤ getD l 0 0)
@@ -165,7 +165,7 @@ module _ (xs : List Item) (h : List Record) (k : ℕ) (l : List ℕ) where
         )
         (and-swap (every messageRange boxes) (isEmpty (map messageIn boxes) || isLine xs (k / sitesMost) (k % sitesMost)) (every fits (map messageIn boxes)))
 
-    pub line-none : n ≡ 0 → true ≡ lineTest xs h k l
+    line-none : n ≡ 0 → true ≡ lineTest xs h k l
     unfolding chunks
     line-none z =
         let none : boxes ≡ [] = ap (λ (m : ℕ). chunks messageSize m (part l boxesAt boxesSize)) z in
@@ -180,6 +180,22 @@ module _ (xs : List Item) (h : List Record) (k : ℕ) (l : List ℕ) where
 
       pub line-by-messages : isLine xs (k / sitesMost) (k % sitesMost) ≡ true → (t : Bool) → t ≡ every (messageTest h (k / sitesMost)) boxes → t ≡ lineTest xs h k l
       line-by-messages f t g = sym (line-by ∙ ap (λ (b : Bool). b && every (messageTest h (k / sitesMost)) boxes) f ∙ sym g)
+
+  -- one that holds nothing
+  none-counted : getD l 0 0 ≡ 0 → getD l 1 0 ≡ 0 → lineCounted l ≡ true
+  unfolding lineCounted
+  none-counted z y = rw (z, y)
+
+  pub line-empty : (n : ℕ) → n ≡ length (lineIn l .messages) → n ≡ 0 → (arrived : ℕ) → arrived ≡ lineIn l .arrived → eqb arrived 0 ≡ lineTest xs h k l
+  unfolding lineIn
+  line-empty n is z arrived e = go (lineCounted l) refl
+    where
+      none : getD l 0 0 ≡ 0
+      none = omega (arith, messages-length l)
+
+      go : (b : Bool) → lineCounted l ≡ b → eqb arrived 0 ≡ lineTest xs h k l
+      go true t = eq-eqb arrived 0 (omega (arith, none, held-few t .1)) ∙ line-none t n is z
+      go false f = ne-eqb arrived 0 (λ y. false≢true (sym f ∙ none-counted none (omega arith))) ∙ line-uncounted f
 
 -- ---- the whole
 -- ranges first, as the definition has them; thing by thing, as the code tests them

@@ -9,7 +9,7 @@ use Rattle.words.specs.Words.{part, chunks}
 use Rattle.lists.specs.Lists.{every, everyFrom}
 use Rattle.limits.specs.Limits.{sitesMost, itemsMost, heldMost, recordsMost}
 use Rattle.timestamp_words.specs.InWords.{stampShaped}
-use Rattle.placement.specs.Placement.{Item, itemsNumber}
+use Rattle.placement.specs.Placement.{Item, itemsNumber, LineBits}
 use Rattle.placement.specs.InWords.{itemsIn}
 use Rattle.lines.specs.InWords.{lineIn, lineRange, lineSize}
 use Rattle.messages.specs.InWords.{messageIn, messageRange, messageSize}
@@ -36,6 +36,10 @@ messageTest h p x = messageRange x && messageFits byNumber h p (messageIn x)
 
 abbrev pub lineTest : List Item → List Record → ℕ → List ℕ → Bool
 lineTest xs h k x = lineRange x && lineFits xs h k (lineIn x)
+
+-- the test of a line by the bits of all lines: that of every placement that gives these
+abbrev pub LineTested : ℕ → List Record → ℕ → List ℕ → Bool → Type 0
+LineTested given h k x r = (xs : List Item) → LineBits xs given → r ≡ lineTest xs h k x
 
 -- ---- all things of a state
 abbrev pub placedIn : List ℕ → List Item
@@ -66,7 +70,7 @@ pub record Places (w : List ℕ) (one most n : ℕ) : Type 0 where
   pub sized : length w ≡ most * one
   pub few : n ≤ most
 
--- a message, those of a line, a line and all lines, beside the history that they are held against
+-- a message, those of a line, a line, one that holds n, and all lines, beside the history that they are held against
 pub record MessageAsked (w kept : List ℕ) (made : ℕ) : Type 0 where
   pub sized : length w ≡ messageSize
   pub history : Places kept recordSize recordsMost made
@@ -75,13 +79,23 @@ pub record MessagesAsked (w : List ℕ) (n : ℕ) (kept : List ℕ) (made : ℕ)
   pub messages : Places w messageSize heldMost n
   pub history : Places kept recordSize recordsMost made
 
-pub record LineAsked (l : List ℕ) (k items : ℕ) (kept : List ℕ) (made : ℕ) : Type 0 where
+pub record LineAsked (l : List ℕ) (k : ℕ) (kept : List ℕ) (made : ℕ) : Type 0 where
   pub sized : length l ≡ lineSize
   pub few : k < linesMost
-  pub few-items : items ≤ itemsMost
   pub history : Places kept recordSize recordsMost made
+
+pub record HeldAsked (l : List ℕ) (n k : ℕ) (kept : List ℕ) (made : ℕ) : Type 0 where
+  pub line : LineAsked l k kept made
+  pub held : n ≡ length (lineIn l .messages)
+  pub few : n ≤ heldMost
+  pub some : n ≡ 0 → ⊥
 
 pub record LinesAsked (w : List ℕ) (items : ℕ) (kept : List ℕ) (made : ℕ) : Type 0 where
   pub sized : length w ≡ linesSize
   pub few-items : items ≤ itemsMost
   pub history : Places kept recordSize recordsMost made
+
+-- a record that was made
+pub record MadeAsked (kept : List ℕ) (made k : ℕ) : Type 0 where
+  pub history : Places kept recordSize recordsMost made
+  pub there : k < made

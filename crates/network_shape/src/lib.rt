@@ -18,7 +18,7 @@ use network_layout::SITE_COUNT;
 use network_layout::SITES;
 use network_layout::WORDS;
 ghost use mathlib.Core.Path.{_≡_};
-ghost use Prim.Native.Nat.{_+_, _*_, _≤_};
+ghost use Prim.Native.Nat.{_+_, _*_, _≤_, _<_};
 ghost use lib.ListN.{length};
 ghost use Rattle.words.specs.Words.{part, chunks};
 ghost use Rattle.lists.specs.Lists.{every, everyFrom};
@@ -26,6 +26,7 @@ ghost use Rattle.lists.specs.Numbers.{numberIf};
 ghost use Rattle.limits.specs.Limits.{sitesMost, recordsMost};
 ghost use Rattle.timestamp_words.specs.InWords.{stampShaped};
 ghost use Rattle.site.specs.InWords.{siteSize};
+ghost use Rattle.placement.specs.Masks.{bit};
 ghost use Rattle.placement.specs.InWords.{itemsIn};
 ghost use Rattle.lines.specs.InWords.{lineSize};
 ghost use Rattle.messages.specs.InWords.{messageSize};
@@ -34,7 +35,7 @@ ghost use Rattle.protocol.specs.Network.{linesMost};
 ghost use Rattle.protocol.specs.Steps.{noSuchSite};
 ghost use Rattle.network_layout.specs.Layout.{stateSize};
 ghost use Rattle.network_layout.specs.InWords.{shaped as shapedWords, numberIn};
-ghost use Rattle.network_shape.specs.Tested.{countsFit, historyIn, recordTest, commitTest, messageTest, lineTest, groupShaped, historyShaped, linesShaped, Counted, Places, MessageAsked, MessagesAsked, LineAsked, LinesAsked};
+ghost use Rattle.network_shape.specs.Tested.{countsFit, historyIn, recordTest, commitTest, messageTest, lineTest, groupShaped, historyShaped, linesShaped, Counted, Places, MessageAsked, MessagesAsked, LineAsked, HeldAsked, LinesAsked, MadeAsked, LineTested};
 
 // 6 where the words are not those of a network, 7 where it has no such site, else 0.
 pub fn site_number(state: &[u32], site: u32) -> u32
@@ -162,9 +163,10 @@ fn lines_shaped(w: &[u32], placed: &[u32], items: usize, kept: &[u32], made: u32
     requires { ⌜ LinesAsked (now w) items (now kept) made ⌝ }
     ensures { λ r. ⌜ r ≡ everyFrom (lineTest (itemsIn items (now (placed .entry))) (historyIn (now (kept .entry)) made)) 0 (chunks lineSize linesMost (now (w .entry))) ⌝ }
 {
+    let given = placement::lines(placed, items);
     let mut k = 0;
     while k < LINES_MOST {
-        if !line_shaped(chunk(w, k, LINE), k, placed, items, kept, made) {
+        if !line_shaped(chunk(w, k, LINE), k, given, kept, made) {
             return false;
         }
         k += 1;
@@ -172,23 +174,38 @@ fn lines_shaped(w: &[u32], placed: &[u32], items: usize, kept: &[u32], made: u32
     true
 }
 
-// Whether line k fits: at once where it holds nothing.
-fn line_shaped(l: &[u32], k: usize, placed: &[u32], items: usize, kept: &[u32], made: u32) -> bool
-    requires { ⌜ LineAsked (now l) k items (now kept) made ⌝ }
-    ensures { λ r. ⌜ r ≡ lineTest (itemsIn items (now (placed .entry))) (historyIn (now (kept .entry)) made) k (now (l .entry)) ⌝ }
+// Whether line k fits, by the bits of all lines: at once where it holds nothing.
+fn line_shaped(l: &[u32], k: usize, given: u64, kept: &[u32], made: u32) -> bool
+    requires { ⌜ LineAsked (now l) k (now kept) made ⌝ }
+    ensures { λ r. ⌜ LineTested given (historyIn (now (kept .entry)) made) k (now (l .entry)) r ⌝ }
+{
+    let n = lines::held(l);
+    if n == 0 {
+        return lines::arrived(l) == 0;
+    }
+    held_shaped(l, n, k, given, kept, made)
+}
+
+// Whether line k, which holds n messages, fits.
+fn held_shaped(l: &[u32], n: usize, k: usize, given: u64, kept: &[u32], made: u32) -> bool
+    requires { ⌜ HeldAsked (now l) n k (now kept) made ⌝ }
+    ensures { λ r. ⌜ LineTested given (historyIn (now (kept .entry)) made) k (now (l .entry)) r ⌝ }
 {
     if !lines::counted(l) {
         return false;
     }
-    let n = lines::held(l);
-    if n == 0 {
-        return true;
-    }
-    let p = (k / SITES_WIDE) as u32;
-    if !placement::is_line(placed, items, p, (k % SITES_WIDE) as u32) {
+    if !is_given(given, k) {
         return false;
     }
-    messages_shaped(&l[BOXES..LINE], n, p, kept, made)
+    messages_shaped(&l[BOXES..LINE], n, (k / SITES_WIDE) as u32, kept, made)
+}
+
+// Bit k of the bits of all lines.
+fn is_given(given: u64, k: usize) -> bool
+    requires { ⌜ k < linesMost ⌝ }
+    ensures { λ r. ⌜ r ≡ bit given k ⌝ }
+{
+    (given >> k) % 2 == 1
 }
 
 // Whether each of the first n messages fits a line from site p.
@@ -212,20 +229,20 @@ fn message_shaped(w: &[u32], p: u32, kept: &[u32], made: u32) -> bool
     ensures { λ r. ⌜ r ≡ messageTest (historyIn (now (kept .entry)) made) p (now (w .entry)) ⌝ }
 {
     let name = words::word(w, messages::NAME);
-    if RECORDS_MOST <= name {
-        return timestamp_words::made_by(&w[messages::STAMP..MESSAGE], p);
+    if name < made {
+        return made_at(kept, made, name, p);
     }
-    made_at(kept, made, name, p)
-}
-
-// Whether there is a record of that number, and site p made it.
-fn made_at(kept: &[u32], made: u32, k: u32, p: u32) -> bool
-    requires { ⌜ Places (now kept) recordSize recordsMost made ⌝ }
-    ensures { λ r. ⌜ r ≡ commitTest (historyIn (now (kept .entry)) made) p k ⌝ }
-{
-    if made <= k {
+    if name < RECORDS_MOST {
         return false;
     }
+    timestamp_words::made_by(&w[messages::STAMP..MESSAGE], p)
+}
+
+// Whether site p made record k.
+fn made_at(kept: &[u32], made: u32, k: u32, p: u32) -> bool
+    requires { ⌜ MadeAsked (now kept) made k ⌝ }
+    ensures { λ r. ⌜ r ≡ commitTest (historyIn (now (kept .entry)) made) p k ⌝ }
+{
     records::site(chunk(kept, words::wide(k), RECORD)) == p
 }
 

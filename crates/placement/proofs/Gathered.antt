@@ -12,7 +12,6 @@ use lib.ListN.{length, getD, drop, drop-of-length-le}
 use lib.Seq.{drop-cons}
 use lib.Dec.{eqb, ltb}
 use borrow.Author.Tests.{ltb-true, ltb-false, eq-eqb, ne-eqb}
-use Rattle.limits.specs.Limits.{sitesMost}
 use Rattle.lists.specs.Lists.{any}
 use Rattle.placement.specs.Masks.{bit, maskOf, Names}
 use Rattle.placement.specs.Placement.{Item, noItem}
@@ -80,16 +79,16 @@ or-assoc : (a b c : Bool) → (a || (b || c)) ≡ ((a || b) || c)
 or-assoc true b c = refl
 or-assoc false b c = refl
 
--- of the sites that there can be, a site passes a test of some item exactly where m names it or it passes that of an item from k on
-abbrev pub Gathered : (ℕ → Item → Bool) → ℕ → List ℕ → ℕ → ℕ → Type 0
-Gathered test n w m k = (c : ℕ) → c < sitesMost → any (test c) (itemsIn n w) ≡ (bit m c || any (test c) (drop k (itemsIn n w)))
+-- a number below `most` passes a test of some item exactly where m names it or it passes that of an item from k on
+abbrev pub Gathered : ℕ → (ℕ → Item → Bool) → ℕ → List ℕ → ℕ → ℕ → Type 0
+Gathered most test n w m k = (c : ℕ) → c < most → any (test c) (itemsIn n w) ≡ (bit m c || any (test c) (drop k (itemsIn n w)))
 
-module _ (test : ℕ → Item → Bool) (n : ℕ) (w : List ℕ) where
-  pub gather-none : Gathered test n w 0 0
+module _ (most : ℕ) (test : ℕ → Item → Bool) (n : ℕ) (w : List ℕ) where
+  pub gather-none : Gathered most test n w 0 0
   gather-none c h = sym (ap (λ (b : Bool). b || any (test c) (itemsIn n w)) (bit-none c))
 
-  module _ (m k : ℕ) (before : Gathered test n w m k) where
-    pub gather-next : k < n → (r : ℕ) → Names r (λ c. test c (itemAt w k)) → Gathered test n w (bitOr m r) (k + 1)
+  module _ (m k : ℕ) (before : Gathered most test n w m k) where
+    pub gather-next : k < n → (r : ℕ) → Names most r (λ c. test c (itemAt w k)) → Gathered most test n w (bitOr m r) (k + 1)
     gather-next few r names c h =
         let xs = itemsIn n w in
         let next = any (test c) (drop (k + 1) xs) in
@@ -100,8 +99,9 @@ module _ (test : ℕ → Item → Bool) (n : ℕ) (w : List ℕ) where
         ∙ or-assoc (bit m c) (bit r c) next
         ∙ ap (λ (b : Bool). b || next) (sym (bit-or m r c))
 
-    pub gather-done : n ≤ k → m % 2 ^ sitesMost ≡ maskOf (λ c. any (test c) (itemsIn n w)) sitesMost
-    gather-done all =
-        mask-of-bits m sitesMost
-        ∙ mask-same (bit m) (λ c. any (test c) (itemsIn n w)) sitesMost
-        (λ c h. sym (before c h ∙ ap (λ (xs : List Item). bit m c || any (test c) xs) (drop-of-length-le (itemsIn n w) {i = k} (omega (arith, items-length n w))) ∙ or-false (bit m c)))
+    pub gather-done : n ≤ k → Names most m (λ c. any (test c) (itemsIn n w))
+    gather-done all c h =
+        sym (before c h ∙ ap (λ (xs : List Item). bit m c || any (test c) xs) (drop-of-length-le (itemsIn n w) {i = k} (omega (arith, items-length n w))) ∙ or-false (bit m c))
+
+    pub gather-mask : n ≤ k → m % 2 ^ most ≡ maskOf (λ c. any (test c) (itemsIn n w)) most
+    gather-mask all = mask-of-bits m most ∙ mask-same (bit m) (λ c. any (test c) (itemsIn n w)) most (gather-done all)

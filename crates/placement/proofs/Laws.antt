@@ -23,13 +23,16 @@ bit-weight m k t =
     let h : 1 * 2 ^ k ≤ m = le-div-iff-mul-le {k = 2 ^ k} {x = 1} {y = m} (pow-pos k) .0 (omega arith) in
     omega arith
 
+-- the bits below n are those of the remainder
+pub low-bit : (m n k : ℕ) → k < n → m % 2 ^ n / 2 ^ k % 2 ≡ m / 2 ^ k % 2
+low-bit m n k h =
+    let j = n - suc k in
+    let e : j + 1 + k ≡ n = omega arith in
+    ap (λ (i : ℕ). m % 2 ^ i / 2 ^ k % 2) (sym e) ∙ ap (λ (x : ℕ). x % 2) (field m (j + 1) k) ∙ mod-mod-pow (m / 2 ^ k) j 1
+
 -- no bit below p is set: bit k, below p, is not
-bit-below : (m p k : ℕ) → m % 2 ^ p ≡ 0 → k < p → m / 2 ^ k % 2 ≡ 0
-bit-below m p k z h =
-    let j = p - suc k in
-    let e : j + 1 + k ≡ p = omega arith in
-    sym (mod-mod-pow (m / 2 ^ k) j 1)
-    ∙ ap (λ (x : ℕ). x % 2) (sym (field m (j + 1) k) ∙ ap (λ (i : ℕ). m % 2 ^ i / 2 ^ k) e ∙ ap (λ (x : ℕ). x / 2 ^ k) z ∙ zero-div (2 ^ k))
+pub bit-below : (m p k : ℕ) → m % 2 ^ p ≡ 0 → k < p → m / 2 ^ k % 2 ≡ 0
+bit-below m p k z h = sym (low-bit m p k h) ∙ ap (λ (x : ℕ). x / 2 ^ k % 2) z ∙ ap (λ (x : ℕ). x % 2) (zero-div (2 ^ k))
 
 -- a bit of weight 2 to the power n, or none, added to bits of less weight: it is there
 pub bit-added : (m n : ℕ) → m < 2 ^ n → (b : Bool) → bit (m + cond b (2 ^ n) 0) n ≡ b

@@ -2,3 +2,4 @@ pub mod Shifts
 pub mod Items
 pub mod Laws
 pub mod Gathered
+pub mod LineBits

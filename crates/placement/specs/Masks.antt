@@ -3,7 +3,6 @@ use mathlib.Core.Path.{_≡_}
 use mathlib.Core.Bool.{Bool, cond}
 use Prim.Native.Nat.{ℕ, zero, suc, _+_, _/_, _%_, _^_, _<_}
 use lib.Dec.{eqb}
-use Rattle.limits.specs.Limits.{sitesMost}
 
 abbrev pub bit : ℕ → ℕ → Bool
 bit m k = eqb (m / 2 ^ k % 2) 1
@@ -13,6 +12,6 @@ unfoldable pub maskOf : (ℕ → Bool) → ℕ → ℕ
 maskOf f zero = 0
 maskOf f (suc k) = maskOf f k + cond (f k) (2 ^ k) 0
 
--- of the sites that there can be, the mask names those that the test does
-abbrev pub Names : ℕ → (ℕ → Bool) → Type 0
-Names m f = (k : ℕ) → k < sitesMost → bit m k ≡ f k
+-- of the numbers below n, the mask names those that the test does
+abbrev pub Names : ℕ → ℕ → (ℕ → Bool) → Type 0
+Names n m f = (k : ℕ) → k < n → bit m k ≡ f k

@@ -1,12 +1,13 @@
 -- Placement: each item's primary site and copy mask, what set-up refuses of it, and the lines that it gives.
 use mathlib.Core.Bool.{Bool, cond, _&&_, _||_}
 use mathlib.Core.List.{List, map}
-use Prim.Native.Nat.{ℕ, _/_, _%_, _^_}
+use Prim.Native.Nat.{ℕ, _*_, _/_, _%_, _^_}
 use lib.ListN.{getD}
 use lib.Dec.{eqb, ltb, leb}
 use Rattle.lists.specs.Numbers.{firstNumber}
 use Rattle.lists.specs.Lists.{any}
-use Rattle.placement.specs.Masks.{bit}
+use Rattle.limits.specs.Limits.{sitesMost}
+use Rattle.placement.specs.Masks.{bit, Names}
 
 pub record Item : Type 0 where
   pub primary : ℕ
@@ -50,6 +51,10 @@ givesLine p c x = eqb (x .primary) p && bit (x .mask) c
 -- there is a line from site p to site c: some item gives it
 unfoldable pub isLine : List Item → ℕ → ℕ → Bool
 isLine xs p c = any (givesLine p c) xs
+
+-- the bits of all lines: bit 8 p + c is that of the line from site p to site c
+abbrev pub LineBits : List Item → ℕ → Type 0
+LineBits xs m = Names (sitesMost * sitesMost) m (λ k. isLine xs (k / sitesMost) (k % sitesMost))
 
 -- site c has a parent: some item has a copy there
 unfoldable pub hasParents : List Item → ℕ → Bool

@@ -5,10 +5,10 @@ use limits::ITEMS_WIDE;
 use limits::SITES;
 pub use masks::bit;
 ghost use mathlib.Core.Path.{_≡_};
-ghost use Prim.Native.Nat.{min, _<_};
+ghost use Prim.Native.Nat.{min, _*_, _/_, _%_, _<_};
 ghost use lib.ListN.{getD};
 ghost use Rattle.placement.specs.Masks.{maskOf, Names};
-ghost use Rattle.placement.specs.Placement.{itemNumber, itemsNumber, givesLine, isLine, hasParents};
+ghost use Rattle.placement.specs.Placement.{itemNumber, itemsNumber, givesLine, isLine, LineBits, hasParents};
 ghost use Rattle.placement.specs.InWords.{itemSize, itemWords, itemAt, itemsIn};
 ghost use Rattle.limits.specs.Limits.{itemsMost, sitesMost};
 
@@ -94,6 +94,37 @@ pub fn is_line(w: &[u32], items: usize, p: u32, c: u32) -> bool
     false
 }
 
+// The lines that the placement gives, in one walk: bit 8 p + c, of weight 2 to that power, is that of the line from site p to site c.
+pub fn lines(w: &[u32], items: usize) -> u64
+    ensures { λ r. ⌜ LineBits (itemsIn (min items itemsMost) (now (w .entry))) r ⌝ }
+{
+    let n = few(items);
+    let mut m: u64 = 0;
+    let mut k = 0;
+    while k < n {
+        m = m | lines_by(primary(w, k), mask(w, k));
+        k += 1;
+    }
+    m
+}
+
+// The lines that an item gives: from its primary to the sites of its copies.
+fn lines_by(primary: u32, mask: u32) -> u64
+    ensures { λ r. ⌜ Names (sitesMost * sitesMost) r (λ k. givesLine (k / sitesMost) (k % sitesMost) (record { primary = primary; mask = mask })) ⌝ }
+{
+    if primary < SITES {
+        return wide(masks::below(mask, SITES)) << (SITES * primary);
+    }
+    0
+}
+
+// A mask of the sites that there can be, as one of lines.
+fn wide(x: u32) -> u64
+    ensures { λ r. ⌜ r ≡ x ⌝ }
+{
+    x as u64
+}
+
 // Whether site c has a parent.
 pub fn has_parents(w: &[u32], items: usize, c: u32) -> bool
     ensures { λ r. ⌜ r ≡ hasParents (itemsIn (min items itemsMost) (now (w .entry))) c ⌝ }
@@ -139,7 +170,7 @@ pub fn parents(w: &[u32], items: usize, c: u32) -> u32
 
 // The children that item k gives site p: the sites of its copies, where p is its primary.
 fn children_by(w: &[u32], k: usize, p: u32) -> u32
-    ensures { λ r. ⌜ Names r (λ c. givesLine p c (itemAt (now (w .entry)) k)) ⌝ }
+    ensures { λ r. ⌜ Names sitesMost r (λ c. givesLine p c (itemAt (now (w .entry)) k)) ⌝ }
 {
     if primary(w, k) == p {
         return mask(w, k);
@@ -149,7 +180,7 @@ fn children_by(w: &[u32], k: usize, p: u32) -> u32
 
 // The parents that item k gives site c: its primary, where c has a copy.
 fn parents_by(w: &[u32], k: usize, c: u32) -> u32
-    ensures { λ r. ⌜ Names r (λ p. givesLine p c (itemAt (now (w .entry)) k)) ⌝ }
+    ensures { λ r. ⌜ Names sitesMost r (λ p. givesLine p c (itemAt (now (w .entry)) k)) ⌝ }
 {
     if bit(mask(w, k), c) {
         return masks::one(primary(w, k));

@@ -2,6 +2,7 @@
 ghost use mathlib.Core.Path.{_≡_};
 ghost use Prim.Native.Nat.{_/_, _%_, _^_};
 ghost use lib.Dec.{eqb};
+ghost use Rattle.limits.specs.Limits.{sitesMost};
 ghost use Rattle.placement.specs.Masks.{bit as bitOf, Names};
 
 // Whether the mask names site k.
@@ -33,7 +34,7 @@ pub fn below(mask: u32, k: u32) -> u32
 
 // The mask that of the sites that there can be names site k alone.
 pub fn one(k: u32) -> u32
-    ensures { λ r. ⌜ Names r (λ j. eqb k j) ⌝ }
+    ensures { λ r. ⌜ Names sitesMost r (λ j. eqb k j) ⌝ }
 {
     if 31 < k {
         return 0;

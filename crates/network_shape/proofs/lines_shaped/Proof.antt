@@ -11,22 +11,32 @@ use Rattle.placement.specs.InWords.{itemsIn}
 use Rattle.lines.specs.InWords.{lineSize}
 use Rattle.protocol.specs.Network.{linesMost}
 use Rattle.network_shape.specs.Tested.{historyIn, lineTest}
-use Rattle.network_shape.proofs.ShapeLaws.{Passed, walk-false, walk-next, walk-done}
+use Rattle.network_shape.proofs.ShapeLaws.{placed-lines, Passed, walk-false, walk-next, walk-done}
 use Rattle.network_shape.proofs.lines_shaped.Statement.{statement}
 use Rattle.network_shape.proofs.lines_shaped.Tie as tie
 
 abbrev Inv-loop : tie.InvT-loop
-Inv-loop w placed items kept made k₀ k = (k ≤ linesMost) × Passed (lineTest (itemsIn items placed) (historyIn kept made)) lineSize linesMost w k
+Inv-loop w placed items kept made given k₀ k = (k ≤ linesMost) × Passed (lineTest (itemsIn items placed) (historyIn kept made)) lineSize linesMost w k
 
 abbrev μ-loop : tie.MeasureT-loop
-μ-loop w placed items kept made k₀ k = linesMost - k
+μ-loop w placed items kept made given k₀ k = linesMost - k
+
+-- the state of the loop, and what the function was given
+abbrev entry : tie.At-loop Inv-loop μ-loop → tie.Start Inv-loop μ-loop
+entry h = h .before .before .before .before .before
 
 -- what a turn asks
-asked : (c : tie.After-line-shaped Inv-loop μ-loop) → let h = c .before .before .before in let A = h .before .before .before .before .args in c .line-shaped .result ≡ lineTest (itemsIn (A .items) (A .placed .now)) (historyIn (A .kept .now) (A .made)) (h .loop .k) (part (A .w .now) (h .loop .k * lineSize) lineSize)
+asked : (c : tie.After-line-shaped Inv-loop μ-loop) → let h = c .before .before .before in let A = entry h .args in c .line-shaped .result ≡ lineTest (itemsIn (A .items) (A .placed .now)) (historyIn (A .kept .now) (A .made)) (h .loop .k) (part (A .w .now) (h .loop .k * lineSize) lineSize)
 asked c =
     let h = c .before .before .before in
-    let A = h .before .before .before .before .args in
-    c .line-shaped .ensures ∙ ap (lineTest (itemsIn (A .items) (A .placed .now)) (historyIn (A .kept .now) (A .made)) (h .loop .k)) (c .before .chunk .ensures)
+    let s = entry h in
+    let A = s .args in
+    let xs = itemsIn (A .items) (A .placed .now) in
+    let bits = placed-lines (A .items) (s .pre .few-items) (A .placed .now) (h .before .lines .result) (h .before .lines .ensures) in
+    c .line-shaped .ensures xs bits ∙ ap (lineTest xs (historyIn (A .kept .now) (A .made)) (h .loop .k)) (c .before .chunk .ensures)
+
+lines-requires : tie.Need-lines-requires Inv-loop μ-loop
+lines-requires c κs = search needs
 
 loop-holds : tie.Need-loop-holds Inv-loop μ-loop
 loop-holds c = (omega arith, refl)
@@ -37,16 +47,16 @@ chunk-requires c κs = search needs
 line-shaped-requires : tie.Need-line-shaped-requires Inv-loop μ-loop
 line-shaped-requires c κs =
     let turn = c .before in
-    let s = turn .before .before .before .before .before in
+    let s = entry (turn .before) in
     let w = s .args .w .now in
     let at = turn .before .loop .k * lineSize in
     let size : length (part w at lineSize) ≡ lineSize = part-length w at lineSize (omega (arith, turn .loop-test .taken, s .pre .sized)) in
-    record { sized = ap length (c .chunk .ensures) ∙ size; few = turn .loop-test .taken; few-items = s .pre .few-items; history = s .pre .history }
+    record { sized = ap length (c .chunk .ensures) ∙ size; few = turn .loop-test .taken; history = s .pre .history }
 
 returns : tie.Need-returns Inv-loop μ-loop
 returns c =
     let turn = c .before .before .before in
-    let A = turn .before .before .before .before .before .args in
+    let A = entry (turn .before) .args in
     let l = turn .before .loop in
     walk-false (lineTest (itemsIn (A .items) (A .placed .now)) (historyIn (A .kept .now) (A .made))) lineSize (linesMost) (A .w .now) (l .k) (l .inv .1) (turn .loop-test .taken) (c .before .line-shaped .result) (asked (c .before)) (not-true _ (c .if1 .taken))
 
@@ -59,13 +69,13 @@ loop-less c = search needs
 loop-again : tie.Need-loop-again Inv-loop μ-loop
 loop-again c =
     let turn = c .before .before .before in
-    let A = turn .before .before .before .before .before .args in
+    let A = entry (turn .before) .args in
     let l = turn .before .loop in
     (omega arith, walk-next (lineTest (itemsIn (A .items) (A .placed .now)) (historyIn (A .kept .now) (A .made))) lineSize (linesMost) (A .w .now) (l .k) (l .inv .1) (turn .loop-test .taken) (c .before .line-shaped .result) (asked (c .before)) (not-false _ (c .if1 .left)))
 
 returns-2 : tie.Need-returns-2 Inv-loop μ-loop
 returns-2 c =
-    let A = c .before .before .before .before .before .args in
+    let A = entry (c .before) .args in
     let l = c .before .loop in
     walk-done (lineTest (itemsIn (A .items) (A .placed .now)) (historyIn (A .kept .now) (A .made))) lineSize (linesMost) (A .w .now) (l .k) (l .inv .1) (c .loop-test .left)
 
@@ -75,6 +85,7 @@ lines-shaped-spec =
     (tie.spec
     Inv-loop
     μ-loop
+    lines-requires
     loop-holds
     chunk-requires
     line-shaped-requires

@@ -4,11 +4,11 @@ use Prim.Native.Nat.{ℕ, _≤_, _-_}
 use native.Mathlib.Omega.{arith}
 use lib.ListN.{length}
 use Rattle.network_layout.specs.Layout.{sitesSize}
-use Rattle.network_set_up.specs.SetUp.{Started}
-use Rattle.network_set_up.proofs.StartWords.{none-started}
+use Rattle.network_new.specs.New.{Started}
+use Rattle.network_new.proofs.StartWords.{none-started}
 use borrow.Author.Needs.{needs}
-use Rattle.network_set_up.proofs.start_sites.Statement.{statement}
-use Rattle.network_set_up.proofs.start_sites.Tie as tie
+use Rattle.network_new.proofs.start_sites.Statement.{statement}
+use Rattle.network_new.proofs.start_sites.Tie as tie
 
 abbrev Inv-loop : tie.InvT-loop
 Inv-loop w₀ n i₀ w i = (i ≤ n) × (length w ≡ sitesSize) × Started w i

@@ -2,10 +2,10 @@
 use mathlib.Core.Path.{ap}
 use Prim.Native.Nat.{ℕ, _*_}
 use Rattle.site.specs.InWords.{siteSize}
-use Rattle.network_set_up.proofs.StartWords.{one-started}
+use Rattle.network_new.proofs.StartWords.{one-started}
 use borrow.Author.Needs.{needs}
-use Rattle.network_set_up.proofs.start_one.Statement.{statement}
-use Rattle.network_set_up.proofs.start_one.Tie as tie
+use Rattle.network_new.proofs.start_one.Statement.{statement}
+use Rattle.network_new.proofs.start_one.Tie as tie
 
 array-write-words : tie.Need-array-write-words
 array-write-words c = search needs

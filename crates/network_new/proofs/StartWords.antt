@@ -16,7 +16,7 @@ use Rattle.timestamp_words.specs.InWords.{stampIn}
 use Rattle.site.specs.Site.{Site}
 use Rattle.site.specs.InWords.{siteIn, siteRange, siteSize}
 use Rattle.protocol.specs.Steps.{startSite, startSites}
-use Rattle.network_set_up.specs.SetUp.{Started, StartingNext}
+use Rattle.network_new.specs.New.{Started, StartingNext}
 
 abbrev startWords : ℕ → List ℕ
 startWords i = set (set (replicate siteSize 0) 1 1) 2 i

@@ -1,0 +1,3 @@
+pub mod ClearWords
+pub mod NewWords
+pub mod StartWords

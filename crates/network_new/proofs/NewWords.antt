@@ -1,0 +1,132 @@
+-- The words of a new network: the counts, the items, the sites at their start and the lines empty, over whatever words there were.
+use mathlib.Core.Path.{_≡_, refl, sym, ap, subst, _∙_}
+use mathlib.Core.Bool.{true}
+use mathlib.Core.List.{List, [], map}
+use Prim.Native.Nat.{ℕ, _+_, _≤_, _<_}
+use native.Mathlib.Omega.{arith}
+use lib.ListN.{length, getD, set, length-set}
+use lib.Seq.{getD-set-same, getD-set-other}
+use Rattle.words.specs.Words.{part, put, chunks, laid}
+use Rattle.lists.specs.Lists.{every}
+use Rattle.words.proofs.Parts.{part-length, put-length, put-here, put-below, put-getD-below}
+use Rattle.words.proofs.Walks.{laid-in}
+use Rattle.placement.specs.InWords.{itemsIn}
+use Rattle.records.specs.InWords.{recordIn, recordRange, recordSize}
+use Rattle.protocol.specs.Network.{linesMost}
+use Rattle.network_layout.specs.Layout.{itemsAt, itemsSize, sitesAt, sitesSize, linesAt, linesSize, historyAt, historySize, stateSize}
+use Rattle.network_layout.proofs.Assembled.{partsOf, networkOf, network-of, Range, range-whole}
+use Rattle.network_new.specs.New.{Begun, Started, Cleared, LayingOut}
+
+no-records : (w : List ℕ) → (map recordIn (chunks recordSize 0 w) ≡ []) × (every recordRange (chunks recordSize 0 w) ≡ true)
+unfolding chunks
+no-records w = (refl, refl)
+
+module _ (w placed : List ℕ) (sites items : ℕ) (asked : LayingOut w placed sites items) where
+  -- the counts; with the items' words behind them
+  abbrev heads : List ℕ
+  heads = set (set (set w 0 sites) 1 items) 2 0
+
+  abbrev itemed : List ℕ
+  itemed = put heads itemsAt itemsSize placed
+
+  heads-size : length heads ≡ stateSize
+  heads-size = length-set (set (set w 0 sites) 1 items) 2 0 ∙ length-set (set w 0 sites) 1 items ∙ length-set w 0 sites ∙ asked .sized
+
+  items-inside : itemsAt + itemsSize ≤ length heads
+  items-inside = omega (arith, heads-size)
+
+  itemed-size : length itemed ≡ stateSize
+  itemed-size = put-length heads itemsAt itemsSize placed items-inside (asked .placed-sized) ∙ heads-size
+
+  sites-inside : sitesAt + sitesSize ≤ length itemed
+  sites-inside = omega (arith, itemed-size)
+
+  -- the sites' words behind those, and the lines'
+  module _ (housed lined : List ℕ) (housed-sized : length housed ≡ sitesSize) (lined-sized : length lined ≡ linesSize) where
+    abbrev sited : List ℕ
+    sited = put itemed sitesAt sitesSize housed
+
+    abbrev all : List ℕ
+    all = put sited linesAt linesSize lined
+
+    sited-size : length sited ≡ stateSize
+    sited-size = put-length itemed sitesAt sitesSize housed sites-inside housed-sized ∙ itemed-size
+
+    lines-inside : linesAt + linesSize ≤ length sited
+    lines-inside = omega (arith, sited-size)
+
+    count-kept : (i : ℕ) → i < itemsAt → getD all i 0 ≡ getD heads i 0
+    count-kept i h =
+        put-getD-below sited linesAt linesSize lined lines-inside lined-sized i (omega arith)
+        ∙ put-getD-below itemed sitesAt sitesSize housed sites-inside housed-sized i (omega arith)
+        ∙ put-getD-below heads itemsAt itemsSize placed items-inside (asked .placed-sized) i h
+
+    all-parts : partsOf all ≡ record { sites = sites; items = items; made = 0; placed = placed; housed = housed; lined = lined; kept = part all historyAt historySize }
+    unfolding partsOf
+    all-parts =
+        let one = set w 0 sites in
+        let two = set one 1 items in
+        let one-size : length one ≡ length w = length-set w 0 sites in
+        let two-size : length two ≡ length w = length-set one 1 items ∙ one-size in
+        λ j.
+        record {
+          sites = (count-kept 0 (omega arith) ∙ getD-set-other two 2 0 0 0 (λ z. omega arith) ∙ getD-set-other one 1 0 items 0 (λ z. omega arith) ∙ getD-set-same w 0 sites 0 (omega (arith, asked .sized))) j;
+          items = (count-kept 1 (omega arith) ∙ getD-set-other two 2 1 0 0 (λ z. omega arith) ∙ getD-set-same one 1 items 0 (omega (arith, one-size, asked .sized))) j;
+          made = (count-kept 2 (omega arith) ∙ getD-set-same two 2 0 0 (omega (arith, two-size, asked .sized))) j;
+          placed =
+              (put-below sited linesAt linesSize lined lines-inside lined-sized itemsAt itemsSize (omega arith)
+              ∙ put-below itemed sitesAt sitesSize housed sites-inside housed-sized itemsAt itemsSize (omega arith)
+              ∙ put-here heads itemsAt itemsSize placed items-inside (asked .placed-sized))
+              j;
+          housed = (put-below sited linesAt linesSize lined lines-inside lined-sized sitesAt sitesSize (omega arith) ∙ put-here itemed sitesAt sitesSize housed sites-inside housed-sized) j;
+          lined = put-here sited linesAt linesSize lined lines-inside lined-sized j;
+          kept = part all historyAt historySize;
+        }
+
+    begun : Started housed sites → Cleared lined linesMost → Begun all sites (itemsIn items placed)
+    unfolding networkOf
+    begun s e =
+        record {
+          meant =
+              network-of all
+              ∙ ap networkOf all-parts
+              ∙ (λ j. record { sites = s .are j; items = itemsIn items placed; lines = e .are j; history = no-records (part all historyAt historySize) .0 j });
+          ranged =
+              range-whole all
+              (subst Range (sym all-parts)
+              (record {
+                some-sites = asked .some-sites;
+                few-sites = asked .few-sites;
+                some-items = asked .some-items;
+                few-items = asked .few-items;
+                few-records = omega arith;
+                site-ranges = s .ranged;
+                line-ranges = e .ranged;
+                record-ranges = no-records (part all historyAt historySize) .1;
+              }));
+        }
+
+  -- as the code lays them: the counts and the items' words, l; the sites' words, s; the lines' words, e
+  module _ (l : List ℕ) (l-long : length l ≡ length heads) where
+    pub laid-size : length l ≡ stateSize
+    laid-size = l-long ∙ heads-size
+
+    module _ (s : List ℕ) (s-long : length s ≡ length (part l sitesAt sitesSize)) where
+      started-size : length s ≡ sitesSize
+      started-size = s-long ∙ part-length l sitesAt sitesSize (omega (arith, laid-size))
+
+      pub sited-long : length (put l sitesAt sitesSize s) ≡ stateSize
+      sited-long = put-length l sitesAt sitesSize s (omega (arith, laid-size)) started-size ∙ laid-size
+
+      module _ (e : List ℕ) (e-long : length e ≡ length (part (put l sitesAt sitesSize s) linesAt linesSize)) where
+        cleared-size : length e ≡ linesSize
+        cleared-size = e-long ∙ part-length (put l sitesAt sitesSize s) linesAt linesSize (omega (arith, sited-long))
+
+        pub out-size : length (put (put l sitesAt sitesSize s) linesAt linesSize e) ≡ length w
+        out-size = put-length (put l sitesAt sitesSize s) linesAt linesSize e (omega (arith, sited-long)) cleared-size ∙ sited-long ∙ sym (asked .sized)
+
+        pub out-begun : l ≡ laid heads itemsAt placed → Started s sites → Cleared e linesMost → Begun (put (put l sitesAt sitesSize s) linesAt linesSize e) sites (itemsIn items placed)
+        out-begun laid-items started cleared =
+            let laid-words : l ≡ itemed
+            = laid-items ∙ laid-in heads itemsAt placed (omega (arith, items-inside, asked .placed-sized)) ∙ ap (λ (k : ℕ). put heads itemsAt k placed) (asked .placed-sized) in
+            subst (λ (x : List ℕ). Begun (put (put x sitesAt sitesSize s) linesAt linesSize e) sites (itemsIn items placed)) (sym laid-words) (begun s e started-size cleared-size started cleared)
