@@ -1,38 +1,23 @@
 -- The structs that C lends, as words: what each call writes to them, all of it on each call, zeros where it is refused.
 use mathlib.Core.Path.{_≡_}
 use mathlib.Core.Bool.{cond}
-use mathlib.Core.List.{List, [], _∷_, _++_, map}
-use Prim.Native.Nat.{ℕ, _+_, _-_, min}
-use lib.IntN.{ℤ, pos, negsuc}
+use mathlib.Core.List.{List, [], _∷_, _++_}
+use Prim.Native.Nat.{ℕ, _+_, _-_}
 use lib.ListN.{length, getD, drop}
 use lib.Dec.{eqb}
-use mir.Val.{toZ, ofZ}
-use mir.Syntax.{w32}
 use Rattle.limits.specs.Limits.{opsMost, itemsMost}
 use Rattle.words.specs.Words.{part}
-use Rattle.timestamp_order.specs.declared.Order.{Order}
-use Rattle.timestamp_order.specs.declared.Order.the-variants.{Earlier, Equal, Later}
-use Rattle.timestamp_words.specs.InWords.{stampSize, stampWords}
-use Rattle.site_operations.specs.Operations.{noOp}
-use Rattle.site_operations.specs.InWords.{opsIn, opsSize}
-use Rattle.records.specs.Records.{Record}
+use Rattle.timestamp_words.specs.InWords.{stampWords}
 use Rattle.protocol.specs.Calls.{Call, Outcome, perform}
-use Rattle.network_layout.specs.declared.Operation.{Operation}
 use Rattle.network_layout.specs.InWords.{meaning}
-use Rattle.network_readers.specs.Readers.{padded, tableAnswer, heldAnswer, arrivedAnswer}
+use Rattle.network_readers.specs.Readers.{tableAnswer, heldAnswer, arrivedAnswer}
 use Rattle.script_notation.specs.Fields.{position}
 use Rattle.console_notation.specs.Lines.{newline, used}
 use Rattle.console_lines.specs.Promises.{Walked}
+use Rattle.c_answers.specs.Answers.{listed, valueWords}
 use Rattle.history_file.specs.File.{trailerSize}
 use Rattle.history_file.specs.Reading.{fileNumber, historyRead}
 use Rattle.history_file.specs.Promises.{partAnswered}
-
--- ---- lists in places: how many, and 0 past them
-abbrev pub listed : ℕ → List ℕ → List ℕ
-listed places xs = length xs ∷ padded places 0 xs
-
-abbrev pub valueWords : List ℤ → List ℕ
-valueWords vs = map (ofZ w32) vs
 
 -- ---- the steps
 abbrev pub committedWords : Outcome → List ℕ
@@ -51,22 +36,12 @@ pub record Answered (call : Call) (answerWords : Outcome → List ℕ) (entry ex
   pub after-is : meaning exit ≡ perform (meaning entry) call .after
   pub kept : (number ≡ 0 → ⊥) → exit ≡ entry
 
--- an operation of a commit in three words: a kind above 255 counts as 255, which is unknown as well
-abbrev pub operationOf : List ℕ → Operation
-operationOf w = record { kind = min (getD w 0 0) 255; item = getD w 1 0; value = toZ w32 (getD w 2 0) }
-
 -- ---- the readers
 abbrev pub tableWords : ℕ → List ℕ → List ℕ
 tableWords site w = listed itemsMost (valueWords (tableAnswer site w))
 
 abbrev pub lineWords : ℕ → ℕ → List ℕ → List ℕ
 lineWords parent child w = heldAnswer parent child w ∷ (arrivedAnswer parent child w ∷ [])
-
--- ---- the order of two timestamps
-abbrev pub orderNumber : Order → ℤ
-orderNumber Earlier = negsuc 0
-orderNumber Equal = pos 0
-orderNumber Later = pos 1
 
 -- ---- the history file
 -- where its part starts in the buffer: before the trailer, as far as it is long
@@ -83,14 +58,6 @@ pub record FileRead (b : List ℕ) (number : ℕ) (answer : List ℕ) : Type 0 w
   pub number-is : number ≡ fileNumber b
   pub answer-is : answer ≡ fileWords b
   pub part-is : part b (getD answer 0 0) (getD answer 1 0) ≡ partAnswered b
-
--- a record's words: its site, how many operations it has, its timestamp, and eight places of operations
-pub record RecordLaid (r : Record) (answer : List ℕ) : Type 0 where
-  pub sized : length answer ≡ 2 + stampSize + opsSize
-  pub site-is : getD answer 0 0 ≡ r .site
-  pub count-is : getD answer 1 0 ≡ length (r .ops)
-  pub stamp-is : part answer 2 stampSize ≡ stampWords (r .stamp)
-  pub ops-are : opsIn opsMost (drop (2 + stampSize) answer) ≡ padded opsMost noOp (r .ops)
 
 -- ---- many lines
 -- how far they came: the bytes that are answered, up to the start of a line that does not end in them or finds no room, and the bytes of the answers

@@ -1,7 +1,4 @@
 // The engine for C and what calls C: each call under its name in the header, its answer laid into an array that the caller lends.
-mod laying; // laying.rt: answers laid into words
-mod operations; // operations.rt: a commit's operations, three words each
-
 use network::WORDS;
 use script::ANSWER;
 ghost use mathlib.Core.Path.{_≡_};
@@ -19,7 +16,10 @@ ghost use Rattle.network_readers.specs.Readers.{stampAnswer};
 ghost use Rattle.history_file.specs.Promises.{exportOf, stepNumbered, stepOf};
 ghost use Rattle.script_notation.specs.Parse.{parse};
 ghost use Rattle.script_notation.specs.Answers.{Replied};
-ghost use Rattle.gevrolen_c.specs.Answers.{committedWords, dummiedWords, scheduledWords, Answered, operationOf, tableWords, lineWords, orderNumber, FileRead, RecordLaid, LinesRun};
+ghost use Rattle.c_answers.specs.Answers.{orderNumber};
+ghost use Rattle.c_files.specs.Laid.{RecordLaid};
+ghost use Rattle.c_operations.specs.Operations.{operationOf};
+ghost use Rattle.gevrolen_c.specs.Answers.{committedWords, dummiedWords, scheduledWords, Answered, tableWords, lineWords, FileRead, LinesRun};
 
 // The words of the header's structs.
 const STAMP: usize = timestamp_words::WORDS;
@@ -55,9 +55,9 @@ pub extern "C" fn gevrolen_commit(
 ) -> u32
     ensures { λ r. ⌜ Answered (operationsCall site (map operationOf (now (operations .entry)))) committedWords (now (state .entry)) (now (state .exit)) r (now (answer .exit)) ⌝ }
 {
-    let gathered = operations::gather(operations);
+    let gathered = c_operations::gather(operations);
     let given = network_operations::commit_gathered(state, site, gathered);
-    laying::put_committed(answer, given)
+    c_answers::put_committed(answer, given)
 }
 
 #[no_mangle]
@@ -72,7 +72,7 @@ pub extern "C" fn gevrolen_commit_lists(
     ensures { λ r. ⌜ Answered (commit site (now (kinds .entry)) (now (items .entry)) (now (values .entry))) committedWords (now (state .entry)) (now (state .exit)) r (now (answer .exit)) ⌝ }
 {
     let given = network::commit(state, site, kinds, items, values);
-    laying::put_committed(answer, given)
+    c_answers::put_committed(answer, given)
 }
 
 #[no_mangle]
@@ -84,7 +84,7 @@ pub extern "C" fn gevrolen_dummy(
     ensures { λ r. ⌜ Answered (dummy site) dummiedWords (now (state .entry)) (now (state .exit)) r (now (answer .exit)) ⌝ }
 {
     let given = network::dummy(state, site);
-    laying::put_stamp(answer, given.stamp);
+    c_answers::put_stamp(answer, given.stamp);
     given.number
 }
 
@@ -110,9 +110,7 @@ pub extern "C" fn gevrolen_schedule(
 ) -> u32
     ensures { λ r. ⌜ Answered (schedule site) scheduledWords (now (state .entry)) (now (state .exit)) r (now (answer .exit)) ⌝ }
 {
-    let given = network::schedule(state, site);
-    laying::put_scheduled(answer, given.parent, given.stamp);
-    given.number
+    c_answers::put_scheduled(answer, network::schedule(state, site))
 }
 
 // ---- calls that only look
@@ -124,14 +122,14 @@ pub extern "C" fn gevrolen_waiting(
 ) -> u32
     ensures { λ r. ⌜ Reported site (now (state .entry)) r (getD (now (answer .exit)) 0 0) (drop 1 (now (answer .exit))) ⌝ }
 {
-    laying::put_report(answer, network::waiting(state, site))
+    c_answers::put_report(answer, network::waiting(state, site))
 }
 
 #[no_mangle]
 pub extern "C" fn gevrolen_table(state: &[u32; WORDS], site: u32, answer: &mut [u32; LISTED]) -> u32
     ensures { λ r. ⌜ Performed (ask (tableOf site)) (now (state .entry)) (now (state .entry)) r 0 noStamp [] × (now (answer .exit) ≡ tableWords site (now (state .entry))) ⌝ }
 {
-    laying::put_table(answer, network::table(state, site))
+    c_answers::put_table(answer, network::table(state, site))
 }
 
 #[no_mangle]
@@ -139,7 +137,7 @@ pub extern "C" fn gevrolen_stamp(state: &[u32; WORDS], site: u32, answer: &mut [
     ensures { λ r. ⌜ Performed (ask (stampOf site)) (now (state .entry)) (now (state .entry)) r 0 noStamp [] × (now (answer .exit) ≡ stampWords (stampAnswer site (now (state .entry)))) ⌝ }
 {
     let given = network::stamp(state, site);
-    laying::put_stamp(answer, given.stamp);
+    c_answers::put_stamp(answer, given.stamp);
     given.number
 }
 
@@ -152,7 +150,7 @@ pub extern "C" fn gevrolen_line(
 ) -> u32
     ensures { λ r. ⌜ Performed (ask (lineOf parent child)) (now (state .entry)) (now (state .entry)) r 0 noStamp [] × (now (answer .exit) ≡ lineWords parent child (now (state .entry))) ⌝ }
 {
-    laying::put_line(answer, network::line(state, parent, child))
+    c_answers::put_line(answer, network::line(state, parent, child))
 }
 
 // -1, 0 or 1, where the first timestamp is earlier, the same or later.
@@ -162,7 +160,7 @@ pub extern "C" fn gevrolen_compare(first: &[u32; STAMP], second: &[u32; STAMP]) 
 {
     let a = timestamp_words::from_words(first);
     let b = timestamp_words::from_words(second);
-    laying::order_number(timestamp_comparison::compare(a, b))
+    c_answers::order_number(timestamp_comparison::compare(a, b))
 }
 
 // ---- the history file
@@ -184,8 +182,8 @@ pub extern "C" fn gevrolen_read(buffer: &[u8], answer: &mut [usize; 5]) -> u32
     ensures { λ r. ⌜ FileRead (now (buffer .entry)) r (now (answer .exit)) ⌝ }
 {
     let given = history::check(buffer);
-    let size = laying::part_size(buffer);
-    let start = laying::part_start(given.number, buffer.len(), size);
+    let size = c_files::part_size(buffer);
+    let start = c_files::part_start(given.number, buffer.len(), size);
     *answer = [
         start,
         size,
@@ -201,7 +199,7 @@ pub extern "C" fn gevrolen_record(buffer: &[u8], number: usize, answer: &mut [u3
     ensures { λ r. ⌜ (r ≡ stepNumbered (now (buffer .entry)) number .number) × RecordLaid (stepNumbered (now (buffer .entry)) number .found) (now (answer .exit)) ⌝ }
 {
     let given = history::record(buffer, number);
-    laying::put_record(answer, given);
+    c_files::put_record(answer, given);
     given.number
 }
 
@@ -217,7 +215,7 @@ pub extern "C" fn gevrolen_record_from(
     ensures { λ r. ⌜ (r ≡ stepOf (now (part .entry)) place sites items .number) × RecordLaid (stepOf (now (part .entry)) place sites items .found) (now (answer .exit)) × (now (next .exit) ≡ stepOf (now (part .entry)) place sites items .next) ⌝ }
 {
     let given = history::record_from(part, place, sites, items);
-    laying::put_record(answer, given);
+    c_files::put_record(answer, given);
     *next = given.next;
     given.number
 }

@@ -1,7 +1,7 @@
 -- `gevrolen_commit` gathers the operations, and lays what their commit answers.
 use mathlib.Core.List.{map}
 use Rattle.network_operations.proofs.GatherLaws.{gathered-few}
-use Rattle.gevrolen_c.specs.Answers.{operationOf}
+use Rattle.c_operations.specs.Operations.{operationOf}
 use Rattle.gevrolen_c.proofs.AnswerLaws.{committed-call}
 use borrow.Author.Needs.{needs}
 use Rattle.gevrolen_c.proofs.gevrolen_commit.Statement.{statement}

@@ -5,7 +5,7 @@ use mir.ValLaws.{toZ-ofZ}
 use Rattle.timestamp_order.specs.declared.Order.{Order}
 use Rattle.timestamp_order.specs.Timestamp.{Stamp}
 use Rattle.timestamp_order.specs.Order.{order}
-use Rattle.gevrolen_c.specs.Answers.{orderNumber}
+use Rattle.c_answers.specs.Answers.{orderNumber}
 use borrow.Author.Needs.{needs}
 use Rattle.gevrolen_c.proofs.gevrolen_compare.Statement.{statement}
 use Rattle.gevrolen_c.proofs.gevrolen_compare.Tie as tie

@@ -1,5 +1,5 @@
 -- `gevrolen_schedule` lays the parent and the timestamp that the schedule answers.
-use Rattle.gevrolen_c.proofs.AnswerLaws.{scheduled-answer}
+use Rattle.gevrolen_c.proofs.AnswerLaws.{scheduled-call}
 use borrow.Author.Needs.{needs}
 use Rattle.gevrolen_c.proofs.gevrolen_schedule.Statement.{statement}
 use Rattle.gevrolen_c.proofs.gevrolen_schedule.Tie as tie
@@ -11,7 +11,9 @@ put-scheduled-requires : tie.Need-put-scheduled-requires
 put-scheduled-requires c κs = search needs
 
 returns : tie.Need-returns
-returns c = scheduled-answer _ _ _ _ _ _ _ (c .before .before .schedule .ensures .performed) _ (c .put-scheduled .ensures)
+returns c =
+    let said = c .put-scheduled .ensures in
+    scheduled-call _ _ _ _ _ _ _ (c .before .schedule .ensures .performed) _ _ (said .0) (said .1)
 
 pub gevrolen-schedule-spec : {M : Type 1} → statement M
 gevrolen-schedule-spec = tie.close (tie.spec schedule-requires put-scheduled-requires returns)

@@ -5,8 +5,8 @@ use Prim.Native.Nat.{_-_}
 use lib.IntN.{ℤ}
 use Rattle.limits.specs.Limits.{itemsMost}
 use Rattle.network_readers.specs.Readers.{tableAnswer}
-use Rattle.gevrolen_c.specs.Answers.{valueWords}
-use Rattle.gevrolen_c.proofs.AnswerLaws.{listed-words}
+use Rattle.c_answers.specs.Answers.{valueWords}
+use Rattle.c_answers.proofs.Words.{listed-words}
 use borrow.Author.Needs.{needs}
 use Rattle.gevrolen_c.proofs.gevrolen_table.Statement.{statement}
 use Rattle.gevrolen_c.proofs.gevrolen_table.Tie as tie

@@ -1,0 +1,23 @@
+-- Lists, values and the order as words.
+use mathlib.Core.List.{List, _∷_, map}
+use Prim.Native.Nat.{ℕ}
+use lib.IntN.{ℤ, pos, negsuc}
+use lib.ListN.{length}
+use mir.Val.{ofZ}
+use mir.Syntax.{w32}
+use Rattle.timestamp_order.specs.declared.Order.{Order}
+use Rattle.timestamp_order.specs.declared.Order.the-variants.{Earlier, Equal, Later}
+use Rattle.network_readers.specs.Readers.{padded}
+
+-- how many there are, and a place for each; 0 in the places past them
+abbrev pub listed : ℕ → List ℕ → List ℕ
+listed places xs = length xs ∷ padded places 0 xs
+
+abbrev pub valueWords : List ℤ → List ℕ
+valueWords vs = map (ofZ w32) vs
+
+-- the order of two timestamps
+abbrev pub orderNumber : Order → ℤ
+orderNumber Earlier = negsuc 0
+orderNumber Equal = pos 0
+orderNumber Later = pos 1

@@ -1,0 +1,121 @@
+// The network's answers laid into words, as C lends them: one function for each struct of the header.
+use network_layout::Committed;
+use network_layout::Lined;
+use network_layout::Report;
+use network_layout::Scheduled;
+use network_layout::Tabled;
+use timestamp::Timestamp;
+use timestamp_order::Order;
+ghost use mathlib.Core.Path.{_≡_};
+ghost use mathlib.Core.List.{[], _∷_, _++_};
+ghost use Prim.Native.Nat.{_+_, _<_};
+ghost use lib.ListN.{length, take};
+ghost use Rattle.limits.specs.Limits.{opsMost, itemsMost};
+ghost use Rattle.timestamp.specs.Value.{stampOf};
+ghost use Rattle.timestamp_words.specs.InWords.{stampSize, stampWords};
+ghost use Rattle.c_answers.specs.Answers.{listed, valueWords, orderNumber};
+ghost use Rattle.c_answers.specs.Asked.{ForList, ForLine, ForTable, ForCommitted};
+
+// Where a committed answer has how many values.
+const VALUES: usize = timestamp_words::WORDS;
+
+// A small number as a word.
+pub fn few(n: usize) -> u32
+    requires { ⌜ n < 4294967296 ⌝ }
+    ensures { λ r. ⌜ r ≡ n ⌝ }
+{
+    n as u32
+}
+
+pub fn put_stamp(w: &mut [u32], stamp: Timestamp)
+    requires { ⌜ length (now w) ≡ stampSize ⌝ }
+    ensures { λ r. ⌜ now (w .exit) ≡ stampWords (stampOf stamp) ⌝ }
+{
+    timestamp_words::write_to(stamp, w);
+}
+
+// How many values there are, and the values.
+pub fn put_list(w: &mut [u32], count: usize, values: &[i32])
+    requires { ⌜ ForList (now w) count (length (now values)) ⌝ }
+    ensures { λ r. ⌜ now (w .exit) ≡ count ∷ valueWords (now (values .entry)) ⌝ }
+{
+    put_values(&mut w[1..], values);
+    words::store(w, 0, few(count));
+}
+
+fn put_values(w: &mut [u32], values: &[i32])
+    requires { ⌜ length (now w) ≡ length (now values) ⌝ }
+    ensures { λ r. ⌜ now (w .exit) ≡ valueWords (now (values .entry)) ⌝ }
+{
+    let n = values.len();
+    let mut i = 0usize;
+    while i < n {
+        w[i] = words::bits(values[i]);
+        i += 1;
+    }
+}
+
+// A site's table. It answers the reader's number.
+pub fn put_table(w: &mut [u32], given: Tabled) -> u32
+    requires { ⌜ ForTable (now w) given ⌝ }
+    ensures { λ r. ⌜ (r ≡ given .number) × (now (w .exit) ≡ given .count ∷ valueWords (given .values)) ⌝ }
+{
+    let values = given.values;
+    put_list(w, given.count, &values);
+    given.number
+}
+
+// A waiting report's items. It answers the report's number.
+pub fn put_report(w: &mut [u32], given: Report) -> u32
+    requires { ⌜ ForList (now w) (given .count) itemsMost ⌝ }
+    ensures { λ r. ⌜ (r ≡ given .number) × (now (w .exit) ≡ given .count ∷ given .items) ⌝ }
+{
+    let items = given.items;
+    words::copy(&mut w[1..], &items);
+    words::store(w, 0, few(given.count));
+    given.number
+}
+
+// What a line holds and what has arrived. It answers the reader's number.
+pub fn put_line(w: &mut [u32], given: Lined) -> u32
+    requires { ⌜ ForLine (now w) given ⌝ }
+    ensures { λ r. ⌜ (r ≡ given .number) × (now (w .exit) ≡ given .held ∷ (given .arrived ∷ [])) ⌝ }
+{
+    words::store(w, 0, few(given.held));
+    words::store(w, 1, few(given.arrived));
+    given.number
+}
+
+// A commit's timestamp and values. It answers the commit's number.
+pub fn put_committed(w: &mut [u32], given: Committed) -> u32
+    requires { ⌜ ForCommitted (now w) given ⌝ }
+    ensures { λ r. ⌜ (r ≡ given .number) × (now (w .exit) ≡ stampWords (stampOf (given .stamp)) ++ listed opsMost (valueWords (take (given .count) (given .values)))) ⌝ }
+{
+    let stamp = given.stamp;
+    let t = timestamp_words::to_words(stamp);
+    let values = given.values;
+    put_list(&mut w[VALUES..], given.count, &values);
+    words::lay(w, 0, &t);
+    given.number
+}
+
+// A schedule's parent and timestamp. It answers the schedule's number.
+pub fn put_scheduled(w: &mut [u32], given: Scheduled) -> u32
+    requires { ⌜ length (now w) ≡ 1 + stampSize ⌝ }
+    ensures { λ r. ⌜ (r ≡ given .number) × (now (w .exit) ≡ given .parent ∷ stampWords (stampOf (given .stamp))) ⌝ }
+{
+    put_stamp(&mut w[1..], given.stamp);
+    words::store(w, 0, given.parent);
+    given.number
+}
+
+// -1, 0 or 1.
+pub fn order_number(found: Order) -> i32
+    ensures { λ r. ⌜ r ≡ orderNumber found ⌝ }
+{
+    match found {
+        Order::Earlier => -1,
+        Order::Equal => 0,
+        Order::Later => 1,
+    }
+}
