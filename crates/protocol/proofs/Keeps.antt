@@ -219,6 +219,11 @@ records-fit items b (o ∷ os) e =
     ap₂ _&&_ (recorded-fits items b o ∙ q .0) (records-fit items b os (q .1))
 
 -- ---- commit
+-- no site but its own moves
+pub commit-sites : (n : Network) (i : ℕ) (os : List Op) → commitNetwork n i os .sites ≡ set (n .sites) i (committed os (siteAt n i))
+unfolding commitNetwork
+commit-sites n i os = refl
+
 pub keeps-commit : (n : Network) (i : ℕ) (os : List Op) → wellShaped n ≡ true → CommitAllowed n i os → wellShaped (commitNetwork n i os) ≡ true
 unfolding commitNetwork
 keeps-commit n i os e allowed =

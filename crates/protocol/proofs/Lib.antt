@@ -1,4 +1,3 @@
-pub mod Examples
 pub mod Times
 pub mod Places
 pub mod Allowed
@@ -21,3 +20,4 @@ pub mod SetUp
 pub mod Follows
 pub mod Theorem
 pub mod Beside
+pub mod Examples
