@@ -1,22 +1,24 @@
 -- The messages that a line's words hold: how many there are, one of them, and what each step does at its edge.
-use mathlib.Core.Path.{_≡_, sym, ap, subst, _∙_}
-use mathlib.Core.Bool.{false}
+use mathlib.Core.Path.{_≡_, sym, ap, subst, _∙_, ap₂}
+use mathlib.Core.Bool.{false, true}
 use mathlib.Core.List.{List, []}
 use Prim.Native.Nat.{ℕ, _+_, _-_, _*_, _≤_, _<_, min}
 use native.Mathlib.Omega.{arith}
 use lib.ListN.{length, getD, length-map, length-take, List·getD-map, List·getD-eq-default}
 use lib.Seq.{getD-take}
 use lib.Dec.{leb}
-use borrow.Author.Tests.{lt-ltb, le-ltb, le-leb, lt-leb}
+use borrow.Author.Tests.{lt-ltb, le-ltb, le-leb, lt-leb, leb-true}
+use Rattle.lists.proofs.Every.{and-true}
+use Rattle.lists.specs.Lists.{every}
 use Rattle.words.specs.Words.{part, chunks}
-use Rattle.words.proofs.Parts.{part-part, part-getD}
+use Rattle.words.proofs.Parts.{part-part, part-getD, part-length}
 use Rattle.words.proofs.Chunks.{chunks-length, chunks-at}
 use Rattle.messages.specs.declared.Message.{Message as MessageValue}
 use Rattle.messages.specs.Messages.{Message, commit, nameOf}
 use Rattle.lines.specs.Lines.{Line, sent, delivered, taken, sentOrSame, deliveredOrSame, takenOrSame}
 use Rattle.limits.specs.Limits.{heldMost, recordsMost}
-use Rattle.messages.specs.InWords.{messageSize, messageIn, PlainMessage}
-use Rattle.lines.specs.InWords.{boxesAt, boxesSize, lineSize, boxesIn, lineIn, lineCounted, First}
+use Rattle.messages.specs.InWords.{messageSize, messageIn, PlainMessage, messageRange}
+use Rattle.lines.specs.InWords.{boxesAt, boxesSize, lineSize, boxesIn, lineIn, lineCounted, First, lineFrom, lineRange}
 use Rattle.messages.proofs.Messages.{name-in}
 
 -- ---- how many there are
@@ -42,6 +44,22 @@ module _ (w : List ℕ) (n : ℕ) (is : n ≡ getD w 0 0) where
   pub counted-by : n ≤ heldMost → (a : ℕ) → a ≡ getD w 1 0 → leb a n ≡ lineCounted w
   unfolding lineCounted
   counted-by h a at = sym (rw (← is, ← at, le-leb n heldMost h))
+
+-- ---- the line that words stand for, by its count and its messages
+pub part-size : (w : List ℕ) (size : length w ≡ lineSize) → length (part w boxesAt boxesSize) ≡ boxesSize
+part-size w size = part-length w boxesAt boxesSize (omega arith)
+
+pub same-line : (w v : List ℕ) (a : ℕ) (bs : List (List ℕ)) → getD v 1 0 ≡ a → boxesIn v ≡ bs → lineIn v ≡ lineFrom a bs
+unfolding lineIn
+same-line w v a bs p q = ap₂ lineFrom p q
+
+pub in-range : (v : List ℕ) (bs : List (List ℕ)) → getD v 0 0 ≤ heldMost → boxesIn v ≡ bs → every messageRange bs ≡ true → lineRange v ≡ true
+unfolding lineRange
+in-range v bs h e r = rw (le-leb (getD v 0 0) heldMost h, e) r
+
+pub range-few : (w : List ℕ) → lineRange w ≡ true → (getD w 0 0 ≤ heldMost) × (every messageRange (boxesIn w) ≡ true)
+unfolding lineRange
+range-few w r = let q = and-true (leb (getD w 0 0) heldMost) (every messageRange (boxesIn w)) r in (leb-true (getD w 0 0) heldMost (q .0), q .1)
 
 -- ---- each step, inside and at its edge
 module _ (m : Message) (l : Line) where

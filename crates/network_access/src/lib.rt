@@ -77,7 +77,7 @@ pub fn line_send(state: &mut [u32], k: usize, m: Message)
 {
     let a = LINES + k * LINE;
     let e = a + LINE;
-    line_steps::send(&mut state[a..e], m);
+    line_sending::send(&mut state[a..e], m);
 }
 
 pub fn line_deliver(state: &mut [u32], k: usize)
@@ -86,7 +86,7 @@ pub fn line_deliver(state: &mut [u32], k: usize)
 {
     let a = LINES + k * LINE;
     let e = a + LINE;
-    line_steps::deliver(&mut state[a..e]);
+    line_receiving::deliver(&mut state[a..e]);
 }
 
 pub fn line_take(state: &mut [u32], k: usize)
@@ -95,7 +95,7 @@ pub fn line_take(state: &mut [u32], k: usize)
 {
     let a = LINES + k * LINE;
     let e = a + LINE;
-    line_steps::take(&mut state[a..e]);
+    line_receiving::take(&mut state[a..e]);
 }
 
 // ---- sites

@@ -7,10 +7,10 @@ use Rattle.words.specs.Words.{Stepped}
 use Rattle.words.proofs.Steps.{not-stepped}
 use Rattle.lines.specs.Lines.{deliveredOrSame}
 use Rattle.lines.specs.InWords.{lineSize, lineIn, lineRange}
-use Rattle.line_steps.proofs.Boxes.{delivered-step, none-step}
+use Rattle.line_receiving.proofs.Boxes.{delivered-step, none-step}
 use borrow.Author.Needs.{needs}
-use Rattle.line_steps.proofs.deliver.Statement.{statement}
-use Rattle.line_steps.proofs.deliver.Tie as tie
+use Rattle.line_receiving.proofs.deliver.Statement.{statement}
+use Rattle.line_receiving.proofs.deliver.Tie as tie
 
 word-requires : tie.Need-word-requires
 word-requires c κs = search needs

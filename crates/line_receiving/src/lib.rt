@@ -1,34 +1,14 @@
-// What happens to a line of messages, in words of a lent slice: one sent at its end, delivered in order, taken off at its front.
-use limits::MESSAGES;
+// Messages of a line that arrive in order and are taken off at its front, in words of a lent slice.
 use lines::ARRIVED;
 use lines::BOXES;
 use lines::HELD;
 use lines::WORDS;
 use messages::MESSAGE;
-use messages::Message;
 ghost use mathlib.Core.Path.{_≡_};
 ghost use Prim.Native.Nat.{_-_};
 ghost use Rattle.words.specs.Words.{Stepped};
-ghost use Rattle.messages.specs.InWords.{messageOf};
-ghost use Rattle.lines.specs.Lines.{sentOrSame, deliveredOrSame, takenOrSame};
+ghost use Rattle.lines.specs.Lines.{deliveredOrSame, takenOrSame};
 ghost use Rattle.lines.specs.InWords.{lineIn, lineRange, lineSize};
-
-// A message sent, where the line holds less than 16.
-pub fn send(l: &mut [u32], m: Message)
-    ensures { λ r. ⌜ Stepped lineSize lineIn lineRange (sentOrSame (messageOf m)) (now (l .entry)) (now (l .exit)) ⌝ }
-{
-    if l.len() != WORDS {
-        return;
-    }
-    let n = lines::held_word(l);
-    if MESSAGES <= n {
-        return;
-    }
-    let a = BOXES + words::wide(n) * MESSAGE;
-    let e = a + MESSAGE;
-    messages::put_message(&mut l[a..e], m);
-    words::store(l, HELD, n + 1);
-}
 
 // The oldest message on the way arrives, where there is one.
 pub fn deliver(l: &mut [u32])

@@ -4,10 +4,10 @@ use Rattle.words.proofs.Steps.{not-stepped}
 use Rattle.lines.specs.Lines.{sentOrSame}
 use Rattle.lines.specs.InWords.{lineSize, lineIn, lineRange}
 use Rattle.messages.specs.InWords.{messageOf}
-use Rattle.line_steps.proofs.Boxes.{sent-by, full-step}
+use Rattle.line_sending.proofs.Boxes.{sent-by, full-step}
 use borrow.Author.Needs.{needs}
-use Rattle.line_steps.proofs.send.Statement.{statement}
-use Rattle.line_steps.proofs.send.Tie as tie
+use Rattle.line_sending.proofs.send.Statement.{statement}
+use Rattle.line_sending.proofs.send.Tie as tie
 
 returns : tie.Need-returns
 returns c = not-stepped lineSize lineIn lineRange (sentOrSame (messageOf (c .before .before .args .m))) (c .before .before .args .l .now) (c .if1 .taken)

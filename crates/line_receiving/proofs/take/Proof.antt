@@ -2,10 +2,10 @@
 use Rattle.words.proofs.Steps.{not-stepped}
 use Rattle.lines.specs.Lines.{takenOrSame}
 use Rattle.lines.specs.InWords.{lineSize, lineIn, lineRange}
-use Rattle.line_steps.proofs.Boxes.{taken-by, empty-step}
+use Rattle.line_receiving.proofs.Boxes.{taken-by, empty-step}
 use borrow.Author.Needs.{needs}
-use Rattle.line_steps.proofs.take.Statement.{statement}
-use Rattle.line_steps.proofs.take.Tie as tie
+use Rattle.line_receiving.proofs.take.Statement.{statement}
+use Rattle.line_receiving.proofs.take.Tie as tie
 
 returns : tie.Need-returns
 returns c = not-stepped lineSize lineIn lineRange takenOrSame (c .before .before .args .l .now) (c .if1 .taken)
