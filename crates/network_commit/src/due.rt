@@ -4,9 +4,9 @@ ghost use mathlib.Core.List.{map};
 ghost use lib.ListN.{length};
 ghost use Rattle.site_operations.specs.InWords.{opAt, opsIn};
 ghost use Rattle.limits.specs.Limits.{sitesMost};
-ghost use Rattle.placement.specs.Masks.{maskOf};
+ghost use Rattle.placement.specs.Masks.{maskOf, Names};
 ghost use Rattle.lists.specs.Numbers.{firstNumber};
-ghost use Rattle.protocol.specs.Steps.{opNumber, due as dueOf};
+ghost use Rattle.protocol.specs.Steps.{opNumber, wantedAt, due as dueOf};
 ghost use Rattle.network_layout.specs.Layout.{stateSize};
 ghost use Rattle.network_layout.specs.InWords.{networkIn};
 
@@ -32,29 +32,23 @@ pub fn due_mask(state: &[u32], ops: &[u32], n: usize) -> u32
     ensures { λ r. ⌜ r ≡ maskOf (dueOf (networkIn (now (state .entry)) .items) (opsIn n (now (ops .entry)))) sitesMost ⌝ }
 {
     let mut m = 0;
-    let mut c = 0;
-    while c < limits::SITES {
-        if due(state, ops, n, c) {
-            m += 1u32 << c;
-        }
-        c += 1;
-    }
-    m
-}
-
-// Whether site c has a copy of an item that one of the n operations writes.
-fn due(state: &[u32], ops: &[u32], n: usize, c: u32) -> bool
-    requires { ⌜ length (now state) ≡ stateSize ⌝ }
-    ensures { λ r. ⌜ r ≡ dueOf (networkIn (now (state .entry)) .items) (opsIn n (now (ops .entry))) c ⌝ }
-{
     let mut k = 0;
     while k < n {
-        if network_placement::is_wanted(state, ops, k, c) {
-            return true;
-        }
+        m = m | due_by(state, ops, k);
         k += 1;
     }
-    false
+    placement::below(m, limits::SITES)
+}
+
+// The sites that operation k makes due: those of the copies of the item that it writes.
+fn due_by(state: &[u32], ops: &[u32], k: usize) -> u32
+    requires { ⌜ length (now state) ≡ stateSize ⌝ }
+    ensures { λ r. ⌜ Names sitesMost r (λ c. wantedAt (networkIn (now (state .entry)) .items) c (opAt (now (ops .entry)) k)) ⌝ }
+{
+    if site_operations::kind(ops, k) != site_operations::WRITE {
+        return 0;
+    }
+    network_placement::copy_mask(state, site_operations::item(ops, k))
 }
 
 // The number for which operation k is refused at a site, or 0.

@@ -5,11 +5,11 @@ use network_layout::SITE_COUNT;
 use network_layout::SITES;
 ghost use mathlib.Core.Path.{_≡_};
 ghost use mathlib.Core.Bool.{not};
-ghost use lib.ListN.{length};
+ghost use lib.ListN.{length, getD};
 ghost use Rattle.limits.specs.Limits.{sitesMost};
 ghost use Rattle.words.specs.Words.{part};
 ghost use Rattle.placement.specs.Masks.{maskOf};
-ghost use Rattle.placement.specs.Placement.{isLine, hasParents, owns, copies};
+ghost use Rattle.placement.specs.Placement.{noItem, isLine, hasParents, owns, copies};
 ghost use Rattle.site_operations.specs.InWords.{opAt};
 ghost use Rattle.protocol.specs.Steps.{noSuchSite, wantedAt};
 ghost use Rattle.network_layout.specs.Layout.{stateSize, siteCount, itemCount, itemsAt, itemsSize};
@@ -84,15 +84,23 @@ pub fn is_owned(state: &[u32], item: u32, i: u32) -> bool
     placement::primary(placed(state), words::wide(item)) == i
 }
 
-// Whether an item has a copy at site i; one that is not there has none.
+// The copy mask of an item; one that is not there has no copies.
+pub fn copy_mask(state: &[u32], item: u32) -> u32
+    requires { ⌜ length (now state) ≡ stateSize ⌝ }
+    ensures { λ r. ⌜ r ≡ getD (networkIn (now (state .entry)) .items) item noItem .mask ⌝ }
+{
+    if item_count(state) <= item {
+        return 0;
+    }
+    placement::mask(placed(state), words::wide(item))
+}
+
+// Whether an item has a copy at site i.
 pub fn is_copied(state: &[u32], item: u32, i: u32) -> bool
     requires { ⌜ length (now state) ≡ stateSize ⌝ }
     ensures { λ r. ⌜ r ≡ copies (networkIn (now (state .entry)) .items) i item ⌝ }
 {
-    if item_count(state) <= item {
-        return placement::bit(0, i);
-    }
-    placement::bit(placement::mask(placed(state), words::wide(item)), i)
+    placement::bit(copy_mask(state, item), i)
 }
 
 // Whether operation i writes an item that has a copy at site j.

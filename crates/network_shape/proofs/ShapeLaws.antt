@@ -291,18 +291,18 @@ module _ (w : List ℕ) where
       pub few-counts : Counted w
       few-counts = all-counted size (sym fit-is ∙ all)
 
-      module _ (items : ℕ) (items-are : items ≡ itemCount w) (number : ℕ) (number-is : number ≡ itemsNumber (siteCount w) (itemsIn (min items itemsMost) (part w itemsAt itemsSize))) where
-        by-number : groupShaped w ≡ (eqb number 0 && everyFrom stampShaped 0 (siteWords w))
+      module _ (items : ℕ) (items-are : items ≡ itemCount w) (fits : Bool) (fits-is : fits ≡ eqb (itemsNumber (siteCount w) (itemsIn (min items itemsMost) (part w itemsAt itemsSize))) 0) where
+        by-placement : groupShaped w ≡ (fits && everyFrom stampShaped 0 (siteWords w))
         unfolding groupShaped
-        by-number =
+        by-placement =
             let m : itemCount w ≡ min items itemsMost = omega (arith, few-counts .few-items) in
-            rw (sym fit-is ∙ all, ap (λ (k : ℕ). itemsNumber (siteCount w) (itemsIn k (part w itemsAt itemsSize))) m ∙ sym number-is)
+            rw (sym fit-is ∙ all, ap (λ (k : ℕ). eqb (itemsNumber (siteCount w) (itemsIn k (part w itemsAt itemsSize))) 0) m ∙ sym fits-is)
 
-        pub group-refused : (number ≡ 0 → ⊥) → false ≡ groupShaped w
-        group-refused h = sym (by-number ∙ rw (ne-eqb number 0 h))
+        pub group-refused : fits ≡ false → false ≡ groupShaped w
+        group-refused f = sym (by-placement ∙ ap (λ (b : Bool). b && everyFrom stampShaped 0 (siteWords w)) f)
 
-        pub group-by-sites : number ≡ 0 → everyFrom stampShaped 0 (siteWords w) ≡ groupShaped w
-        group-by-sites z = sym (by-number ∙ rw (eq-eqb number 0 z))
+        pub group-by-sites : fits ≡ true → everyFrom stampShaped 0 (siteWords w) ≡ groupShaped w
+        group-by-sites t = sym (by-placement ∙ ap (λ (b : Bool). b && everyFrom stampShaped 0 (siteWords w)) t)
 
   -- ---- the history and the lines, as they are asked for
   pub history-asked : (made : ℕ) → made ≡ recordCount w → every (recordTest (siteCount w) (itemCount w)) (chunks recordSize made (part w historyAt historySize)) ≡ historyShaped w

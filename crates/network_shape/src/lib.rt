@@ -74,7 +74,7 @@ fn group_fits(state: &[u32]) -> bool
     if !counts_fit(sites, items, state[RECORD_COUNT]) {
         return false;
     }
-    if placement::number(sites, &state[ITEMS..SITES], words::wide(items)) != 0 {
+    if !placement::fits(sites, &state[ITEMS..SITES], words::wide(items)) {
         return false;
     }
     sites_shaped(&state[SITES..LINES], sites)

@@ -1,4 +1,4 @@
--- Masks built by `|`: the bits of two masks together, a mask by its bits, and a walk over the items that gathers the sites that each names.
+-- Masks built by `|`: the bits of two masks together, a mask by its bits, and a walk over a list that gathers what each element names.
 use mathlib.Core.Path.{_≡_, refl, sym, ap, _∙_}
 use mathlib.Core.Bool.{Bool, true, false, cond, _||_, or-false}
 use mathlib.Core.List.{List}
@@ -74,34 +74,42 @@ unfolding maskOf
 mask-same f g zero h = refl
 mask-same f g (suc n) h = rw (h n (omega arith), mask-same f g n (λ k b. h k (omega arith)))
 
--- ---- a walk over the items: m has the bits of those before item k
+-- ---- a walk over a list: m has the bits of the elements before k
 or-assoc : (a b c : Bool) → (a || (b || c)) ≡ ((a || b) || c)
 or-assoc true b c = refl
 or-assoc false b c = refl
 
--- a number below `most` passes a test of some item exactly where m names it or it passes that of an item from k on
-abbrev pub Gathered : ℕ → (ℕ → Item → Bool) → ℕ → List ℕ → ℕ → ℕ → Type 0
-Gathered most test n w m k = (c : ℕ) → c < most → any (test c) (itemsIn n w) ≡ (bit m c || any (test c) (drop k (itemsIn n w)))
+-- a number below `most` passes a test of some element exactly where m names it or it passes that of an element from k on
+abbrev pub Gathered : {A : Type 0} → ℕ → (ℕ → A → Bool) → List A → ℕ → ℕ → Type 0
+Gathered most test xs m k = (c : ℕ) → c < most → any (test c) xs ≡ (bit m c || any (test c) (drop k xs))
 
-module _ (most : ℕ) (test : ℕ → Item → Bool) (n : ℕ) (w : List ℕ) where
-  pub gather-none : Gathered most test n w 0 0
-  gather-none c h = sym (ap (λ (b : Bool). b || any (test c) (itemsIn n w)) (bit-none c))
+module _ {A : Type 0} (most : ℕ) (test : ℕ → A → Bool) (xs : List A) where
+  pub gather-none : Gathered most test xs 0 0
+  gather-none c h = sym (ap (λ (b : Bool). b || any (test c) xs) (bit-none c))
 
-  module _ (m k : ℕ) (before : Gathered most test n w m k) where
-    pub gather-next : k < n → (r : ℕ) → Names most r (λ c. test c (itemAt w k)) → Gathered most test n w (bitOr m r) (k + 1)
-    gather-next few r names c h =
-        let xs = itemsIn n w in
+  module _ (m k : ℕ) (before : Gathered most test xs m k) where
+    pub gather-next : (d : A) → k < length xs → (r : ℕ) → Names most r (λ c. test c (getD xs k d)) → Gathered most test xs (bitOr m r) (k + 1)
+    gather-next d there r names c h =
         let next = any (test c) (drop (k + 1) xs) in
-        let there : k < length xs = omega (arith, items-length n w) in
-        let here : any (test c) (drop k xs) ≡ (test c (itemAt w k) || next) = rw (add-one, drop-cons xs k noItem there, items-at n w k few) in
+        let here : any (test c) (drop k xs) ≡ (test c (getD xs k d) || next) = rw (add-one, drop-cons xs k d there) in
         before c h
         ∙ ap (λ (b : Bool). bit m c || b) (here ∙ ap (λ (b : Bool). b || next) (sym (names c h)))
         ∙ or-assoc (bit m c) (bit r c) next
         ∙ ap (λ (b : Bool). b || next) (sym (bit-or m r c))
 
-    pub gather-done : n ≤ k → Names most m (λ c. any (test c) (itemsIn n w))
-    gather-done all c h =
-        sym (before c h ∙ ap (λ (xs : List Item). bit m c || any (test c) xs) (drop-of-length-le (itemsIn n w) {i = k} (omega (arith, items-length n w))) ∙ or-false (bit m c))
+    pub gather-done : length xs ≤ k → Names most m (λ c. any (test c) xs)
+    gather-done all c h = sym (before c h ∙ ap (λ (ys : List A). bit m c || any (test c) ys) (drop-of-length-le xs {i = k} all) ∙ or-false (bit m c))
 
-    pub gather-mask : n ≤ k → m % 2 ^ most ≡ maskOf (λ c. any (test c) (itemsIn n w)) most
-    gather-mask all = mask-of-bits m most ∙ mask-same (bit m) (λ c. any (test c) (itemsIn n w)) most (gather-done all)
+    pub gather-mask : length xs ≤ k → m % 2 ^ most ≡ maskOf (λ c. any (test c) xs) most
+    gather-mask all = mask-of-bits m most ∙ mask-same (bit m) (λ c. any (test c) xs) most (gather-done all)
+
+-- the same over items in words
+module _ (most : ℕ) (test : ℕ → Item → Bool) (n : ℕ) (w : List ℕ) (m k : ℕ) (before : Gathered most test (itemsIn n w) m k) where
+  pub items-next : k < n → (r : ℕ) → Names most r (λ c. test c (itemAt w k)) → Gathered most test (itemsIn n w) (bitOr m r) (k + 1)
+  items-next few r names = gather-next most test (itemsIn n w) m k before noItem (omega (arith, items-length n w)) r (λ c h. names c h ∙ ap (test c) (sym (items-at n w k few)))
+
+  pub items-done : n ≤ k → Names most m (λ c. any (test c) (itemsIn n w))
+  items-done all = gather-done most test (itemsIn n w) m k before (omega (arith, items-length n w))
+
+  pub items-mask : n ≤ k → m % 2 ^ most ≡ maskOf (λ c. any (test c) (itemsIn n w)) most
+  items-mask all = gather-mask most test (itemsIn n w) m k before (omega (arith, items-length n w))

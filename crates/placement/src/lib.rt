@@ -3,10 +3,12 @@ mod masks; // masks.rt: masks of sites, tested and built by shifts
 
 use limits::ITEMS_WIDE;
 use limits::SITES;
+pub use masks::below;
 pub use masks::bit;
 ghost use mathlib.Core.Path.{_≡_};
 ghost use Prim.Native.Nat.{min, _*_, _/_, _%_, _<_};
 ghost use lib.ListN.{getD};
+ghost use lib.Dec.{eqb};
 ghost use Rattle.placement.specs.Masks.{maskOf, Names};
 ghost use Rattle.placement.specs.Placement.{itemNumber, itemsNumber, givesLine, isLine, LineBits, hasParents};
 ghost use Rattle.placement.specs.InWords.{itemSize, itemWords, itemAt, itemsIn};
@@ -52,6 +54,34 @@ fn item_number(sites: u32, primary: u32, mask: u32) -> u32
         return 5;
     }
     0
+}
+
+// Whether set-up refuses none of the items. More than 64 items count as 64.
+pub fn fits(sites: u32, w: &[u32], items: usize) -> bool
+    ensures { λ r. ⌜ r ≡ eqb (itemsNumber sites (itemsIn (min items itemsMost) (now (w .entry)))) 0 ⌝ }
+{
+    let n = few(items);
+    let mut k = 0;
+    while k < n {
+        if !item_fits(sites, primary(w, k), mask(w, k)) {
+            return false;
+        }
+        k += 1;
+    }
+    true
+}
+
+// Whether set-up takes an item: its primary is a site, and its copies are at sites above that.
+fn item_fits(sites: u32, primary: u32, mask: u32) -> bool
+    ensures { λ r. ⌜ r ≡ eqb (itemNumber sites (record { primary = primary; mask = mask })) 0 ⌝ }
+{
+    if sites <= primary {
+        return false;
+    }
+    if masks::above(mask, sites) != 0 {
+        return false;
+    }
+    masks::below(mask, primary + 1) == 0
 }
 
 // The primary site of item k.

@@ -25,29 +25,29 @@ returns c =
     let s = c .before .before .before .before .before .before in
     group-uncounted (s .args .state .now) (s .pre) (fit .result) (fit .ensures) (not-true _ (c .if1 .taken))
 
-sub-number : tie.Need-sub-number
-sub-number c = search needs
+sub-fits : tie.Need-sub-fits
+sub-fits c = search needs
 
-part-number-start : tie.Need-part-number-start
-part-number-start c = search needs
+part-fits-start : tie.Need-part-fits-start
+part-fits-start c = search needs
 
-part-number-end : tie.Need-part-number-end
-part-number-end c = search needs
+part-fits-end : tie.Need-part-fits-end
+part-fits-end c = search needs
 
 wide-requires : tie.Need-wide-requires
 wide-requires c κs = search needs
 
-number-requires : tie.Need-number-requires
-number-requires c κs = search needs
+fits-requires : tie.Need-fits-requires
+fits-requires c κs = search needs
 
 returns-2 : tie.Need-returns-2
 returns-2 c =
-    let number = c .before .number in
+    let placed = c .before .fits2 in
     let asked = c .before .before .wide in
     let tested = c .before .before .before .before in
     let fit = tested .before .counts-fit in
     let s = tested .before .before .before .before .before .before in
-    group-refused (s .args .state .now) (s .pre) (fit .result) (fit .ensures) (not-false _ (tested .if1 .left)) (asked .result) (asked .ensures) (number .result) (number .ensures) (c .if2 .taken)
+    group-refused (s .args .state .now) (s .pre) (fit .result) (fit .ensures) (not-false _ (tested .if1 .left)) (asked .result) (asked .ensures) (placed .result) (placed .ensures) (not-true _ (c .if2 .taken))
 
 sub-sites-shaped : tie.Need-sub-sites-shaped
 sub-sites-shaped c = search needs
@@ -68,14 +68,14 @@ sites-shaped-requires c κs =
 
 returns-3 : tie.Need-returns-3
 returns-3 c =
-    let numbered = c .before .before in
-    let number = numbered .before .number in
-    let asked = numbered .before .before .wide in
-    let tested = numbered .before .before .before .before in
+    let fitted = c .before .before in
+    let placed = fitted .before .fits2 in
+    let asked = fitted .before .before .wide in
+    let tested = fitted .before .before .before .before in
     let fit = tested .before .counts-fit in
     let s = tested .before .before .before .before .before .before in
     c .sites-shaped .ensures
-    ∙ group-by-sites (s .args .state .now) (s .pre) (fit .result) (fit .ensures) (not-false _ (tested .if1 .left)) (asked .result) (asked .ensures) (number .result) (number .ensures) (numbered .if2 .left)
+    ∙ group-by-sites (s .args .state .now) (s .pre) (fit .result) (fit .ensures) (not-false _ (tested .if1 .left)) (asked .result) (asked .ensures) (placed .result) (placed .ensures) (not-false _ (fitted .if2 .left))
 
 pub group-fits-spec : {M : Type 1} → statement M
 group-fits-spec =
@@ -86,11 +86,11 @@ group-fits-spec =
     shared-slice-read-counts-fit
     counts-fit-requires
     returns
-    sub-number
-    part-number-start
-    part-number-end
+    sub-fits
+    part-fits-start
+    part-fits-end
     wide-requires
-    number-requires
+    fits-requires
     returns-2
     sub-sites-shaped
     part-sites-shaped-start

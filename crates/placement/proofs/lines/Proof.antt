@@ -4,8 +4,9 @@ use mathlib.Core.Bool.{Bool}
 use Prim.Native.Nat.{ℕ, _-_, _*_, _/_, _%_, min}
 use native.Mathlib.Omega.{arith}
 use Rattle.placement.specs.Placement.{Item, givesLine, isLine}
+use Rattle.placement.specs.InWords.{itemsIn}
 use Rattle.limits.specs.Limits.{itemsMost, sitesMost}
-use Rattle.placement.proofs.Gathered.{Gathered, gather-none, gather-next, gather-done}
+use Rattle.placement.proofs.Gathered.{Gathered, gather-none, items-next, items-done}
 use borrow.Author.Needs.{needs}
 use Rattle.placement.proofs.lines.Statement.{statement}
 use Rattle.placement.proofs.lines.Tie as tie
@@ -18,7 +19,7 @@ abbrev given : ℕ → Item → Bool
 given k = givesLine (k / sitesMost) (k % sitesMost)
 
 abbrev Inv-loop : tie.InvT-loop
-Inv-loop w items n m₀ k₀ m k = Gathered most given (min items itemsMost) w m k
+Inv-loop w items n m₀ k₀ m k = Gathered most given (itemsIn (min items itemsMost) w) m k
 
 abbrev μ-loop : tie.MeasureT-loop
 μ-loop w items n m₀ k₀ m k = n - k
@@ -29,7 +30,7 @@ few-requires c κs = search needs
 loop-holds : tie.Need-loop-holds Inv-loop μ-loop
 loop-holds c =
     let A = c .before .before .args in
-    gather-none most given (min (A .items) itemsMost) (A .w .now)
+    gather-none most given (itemsIn (min (A .items) itemsMost) (A .w .now))
 
 primary-requires : tie.Need-primary-requires Inv-loop μ-loop
 primary-requires c κs = search needs
@@ -51,7 +52,7 @@ loop-again c =
     let masked = c .before in
     let h = masked .before .before .before in
     let A = h .before .before .before .args in
-    gather-next most given (min (A .items) itemsMost) (A .w .now) (h .loop .m) (h .loop .k) (h .loop .inv) (omega (arith, h .before .few .ensures)) (c .lines-by .result)
+    items-next most given (min (A .items) itemsMost) (A .w .now) (h .loop .m) (h .loop .k) (h .loop .inv) (omega (arith, h .before .few .ensures)) (c .lines-by .result)
     (λ j few. c .lines-by .ensures j few ∙ ap₂ (λ (p m : ℕ). given j (record { primary = p; mask = m })) (masked .before .primary .ensures) (masked .mask .ensures))
 
 returns : tie.Need-returns Inv-loop μ-loop
@@ -59,7 +60,7 @@ unfolding isLine
 returns c =
     let h = c .before in
     let A = h .before .before .before .args in
-    gather-done most given (min (A .items) itemsMost) (A .w .now) (h .loop .m) (h .loop .k) (h .loop .inv) (omega (arith, h .before .few .ensures))
+    items-done most given (min (A .items) itemsMost) (A .w .now) (h .loop .m) (h .loop .k) (h .loop .inv) (omega (arith, h .before .few .ensures))
 
 pub lines-spec : {M : Type 1} → statement M
 lines-spec =

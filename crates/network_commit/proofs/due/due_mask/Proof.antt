@@ -1,61 +1,61 @@
--- `due_mask` goes from site to site: the mask names those below c that are due.
-use mathlib.Core.Path.{_≡_, refl, sym, ap, _∙_}
-use mathlib.Core.Logic.{⊎-elim}
-use Prim.Native.Nat.{_≤_, _-_}
+-- `due_mask` gathers what each operation makes due: m has the bits of the operations before k.
+use mathlib.Core.Path.{_≡_, ap, sym, _∙_}
+use mathlib.Core.Bool.{Bool}
+use mathlib.Core.List.{List, []}
+use Prim.Native.Nat.{ℕ, _-_}
 use native.Mathlib.Omega.{arith}
-use Rattle.site_operations.specs.InWords.{opsIn}
-use Rattle.placement.specs.Masks.{maskOf}
 use Rattle.limits.specs.Limits.{sitesMost}
-use Rattle.placement.proofs.Shifts.{mask-fits, mask-with, mask-without}
-use Rattle.protocol.specs.Steps.{due}
+use Rattle.site_operations.specs.Operations.{Op}
+use Rattle.site_operations.specs.InWords.{opIn, opsIn}
+use Rattle.site_operations.proofs.Laws.{ops-length, ops-at}
+use Rattle.placement.proofs.Gathered.{Gathered, gather-none, gather-next, gather-mask}
+use Rattle.protocol.specs.Steps.{wantedAt}
 use Rattle.network_layout.specs.InWords.{networkIn}
 use borrow.Author.Needs.{needs}
 use Rattle.network_commit.proofs.due.due_mask.Statement.{statement}
 use Rattle.network_commit.proofs.due.due_mask.Tie as tie
 
+-- the sites that an operation makes due
+abbrev wanted : List ℕ → ℕ → Op → Bool
+wanted w = λ c. wantedAt (networkIn w .items) c
+
 abbrev Inv-loop : tie.InvT-loop
-Inv-loop state ops n m₀ c₀ m c = (c ≤ sitesMost) × (m ≡ maskOf (due (networkIn state .items) (opsIn n ops)) c)
+Inv-loop state ops n m₀ k₀ m k = Gathered sitesMost (wanted state) (opsIn n ops) m k
 
 abbrev μ-loop : tie.MeasureT-loop
-μ-loop state ops n m₀ c₀ m c = sitesMost - c
+μ-loop state ops n m₀ k₀ m k = n - k
 
 loop-holds : tie.Need-loop-holds Inv-loop μ-loop
-unfolding maskOf
-loop-holds c = (omega arith, refl)
+loop-holds c =
+    let A = c .before .before .args in
+    gather-none sitesMost (wanted (A .state .now)) (opsIn (A .n) (A .ops .now))
 
-due-requires : tie.Need-due-requires Inv-loop μ-loop
-due-requires c κs = c .before .before .before .before .pre
+due-by-requires : tie.Need-due-by-requires Inv-loop μ-loop
+due-by-requires c κs = search needs
 
-shl-m : tie.Need-shl-m Inv-loop μ-loop
-shl-m c = search needs
-
-add-m : tie.Need-add-m Inv-loop μ-loop
-add-m c =
-    let A = c .before .before .before .before .before .before .args in
-    record { fits = mask-fits (due (networkIn (A .state .now) .items) (opsIn (A .n) (A .ops .now))) (c .before .before .before .loop .c) (c .before .before .before .loop .m) (omega arith) (c .before .before .before .loop .inv .1) }
-
-add-c : tie.Need-add-c Inv-loop μ-loop
-add-c c = search needs
+add-k : tie.Need-add-k Inv-loop μ-loop
+add-k c = search needs
 
 loop-less : tie.Need-loop-less Inv-loop μ-loop
 loop-less c = search needs
 
 loop-again : tie.Need-loop-again Inv-loop μ-loop
 loop-again c =
-    let A = c .before .before .before .before .before .before .args in
-    let f = due (networkIn (A .state .now) .items) (opsIn (A .n) (A .ops .now)) in (
-      omega arith,
-      ⊎-elim
-          (λ w. w .1 ∙ mask-with f (c .before .before .before .loop .c) (c .before .before .before .loop .m) (omega arith) (c .before .before .before .loop .inv .1) (sym (c .before .due .ensures) ∙ w .0 .taken))
-          (λ w. w .1 ∙ mask-without f (c .before .before .before .loop .c) (c .before .before .before .loop .m) (omega arith) (c .before .before .before .loop .inv .1) (sym (c .before .due .ensures) ∙ w .0 .left))
-          (c .if1 .came),
-    )
+    let h = c .before .before in
+    let few = c .before .loop-test .taken in
+    let A = h .before .before .before .args in
+    gather-next sitesMost (wanted (A .state .now)) (opsIn (A .n) (A .ops .now)) (h .loop .m) (h .loop .k) (h .loop .inv) (opIn []) (omega (arith, ops-length (A .n) (A .ops .now))) (c .due-by .result)
+    (λ j g. c .due-by .ensures j g ∙ ap (wanted (A .state .now) j) (sym (ops-at (A .n) (A .ops .now) (h .loop .k) few)))
+
+below-requires : tie.Need-below-requires Inv-loop μ-loop
+below-requires c κs = search needs
 
 returns : tie.Need-returns Inv-loop μ-loop
 returns c =
-    let A = c .before .before .before .before .args in
-    let e : c .before .loop .c ≡ sitesMost = omega (arith, c .loop-test .left, c .before .loop .inv .0) in
-    c .before .loop .inv .1 ∙ ap (maskOf (due (networkIn (A .state .now) .items) (opsIn (A .n) (A .ops .now)))) e
+    let h = c .before .before in
+    let A = h .before .before .before .args in
+    c .below .ensures
+    ∙ gather-mask sitesMost (wanted (A .state .now)) (opsIn (A .n) (A .ops .now)) (h .loop .m) (h .loop .k) (h .loop .inv) (omega (arith, ops-length (A .n) (A .ops .now)))
 
 pub due-mask-spec : {M : Type 1} → statement M
 due-mask-spec =
@@ -64,10 +64,9 @@ due-mask-spec =
     Inv-loop
     μ-loop
     loop-holds
-    due-requires
-    shl-m
-    add-m
-    add-c
+    due-by-requires
+    add-k
     loop-less
     loop-again
+    below-requires
     returns)
