@@ -89,17 +89,34 @@ fn magnitude(v: i32) -> u32
     ((-1 - v) as u32) + 1
 }
 
+// How many digits a number has.
+fn size(n: u32) -> usize
+    ensures { λ r. ⌜ r ≡ length (digits n) ⌝ }
+{
+    let mut m = n;
+    let mut k = 1usize;
+    while 10 <= m {
+        m = m / 10;
+        k += 1;
+    }
+    k
+}
+
+// The digits of a number from a place on, the last one first.
 fn spell(out: &mut [u8], at: usize, n: u32) -> usize
     requires { ⌜ at + length (digits n) ≤ length (now out) ⌝ }
     ensures { λ r. ⌜ Printed (now (out .entry)) (now (out .exit)) at r (digits n) ⌝ }
 {
-    if n < 10 {
-        out[at] = 48 + (n as u8);
-        return at + 1;
+    let end = at + size(n);
+    let mut i = end - 1;
+    let mut m = n;
+    while 10 <= m {
+        out[i] = 48 + ((m % 10) as u8);
+        m = m / 10;
+        i -= 1;
     }
-    let end = spell(out, at, n / 10);
-    out[end] = 48 + ((n % 10) as u8);
-    end + 1
+    out[i] = 48 + (m as u8);
+    end
 }
 
 // k bytes are left of some from a place on.

@@ -108,9 +108,6 @@ module _ (w b : List ℕ) where
         written-is : put b 0 (m - 0) ys ≡ ys ++ drop m b
         written-is = ap (λ (k : ℕ). put b 0 k ys) whole
 
-        pub written-length : length (put b 0 (m - 0) ys) ≡ length b
-        written-length = ap (λ (k : ℕ). length (put b 0 k ys)) whole ∙ put-length b 0 m ys (omega arith) (ap length yi ∙ sym ms)
-
         pub export-done : (zs : List ℕ) → zs ≡ trailer (length (own .records)) (m + trailerSize) (own .sites) (own .items)
             → exportOf (meaning w) b ≡ record { number = 0; size = m + trailerSize; buffer = put (put b 0 (m - 0) ys) m (m + trailerSize - m) zs }
         unfolding exportOf meaning fileOf

@@ -7,7 +7,7 @@ use native.Mathlib.Omega.{arith}
 use lib.ListN.{length, getD, drop, length-map, length-drop, List·getD-map, drop-of-length-le}
 use lib.Seq.{take-all}
 use lib.Dec.{leb}
-use borrow.Author.Tests.{lt-ltb, le-ltb, le-leb, lt-leb}
+use borrow.Author.Tests.{le-leb, lt-leb}
 use Rattle.words.specs.Words.{part, chunks}
 use Rattle.lists.specs.Lists.{every}
 use Rattle.words.proofs.Parts.{part-getD, part-part}
@@ -15,9 +15,8 @@ use Rattle.words.proofs.Chunks.{chunks-length, chunks-at}
 use Rattle.lists.proofs.Every.{every-false, every-next, every-done}
 use Rattle.timestamp_order.specs.Timestamp.{Pair, noPair, lastPair}
 use Rattle.timestamp_order.proofs.Timestamp.{last-at}
-use Rattle.records.specs.Records.{opFits}
 use Rattle.history_file.specs.Bytes.{unitSize, byte, unit, numberAt, padded, allZero}
-use Rattle.history_file.specs.Reading.{pairRead, opRead, countsFit}
+use Rattle.history_file.specs.Reading.{pairRead, countsFit}
 
 -- ---- the counts of a record
 

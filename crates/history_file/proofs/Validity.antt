@@ -1,22 +1,22 @@
 -- The tests of a record's bytes, one after another, and the walk over a part's records.
 use mathlib.Core.Path.{_≡_, refl, sym, ap, ap₂, _∙_}
 use mathlib.Core.Bool.{Bool, true, false, cond, _&&_}
-use mathlib.Core.List.{List, map}
+use mathlib.Core.List.{List}
 use Prim.Native.Nat.{ℕ, zero, suc, _+_, _-_, _*_, _≤_, _<_}
 use native.Mathlib.Omega.{arith}
 use lib.ListN.{length, getD, drop, length-drop, drop-of-length-le}
 use lib.Seq.{drop-drop, drop-cons}
-use lib.Dec.{eqb, ltb, leb}
+use lib.Dec.{eqb, leb}
 use borrow.Author.Tests.{lt-ltb, le-ltb, le-leb, lt-leb, eq-eqb, ne-eqb, leb-true}
-use Rattle.words.specs.Words.{part, chunks}
-use Rattle.lists.specs.Lists.{every, isEmpty}
+use Rattle.words.specs.Words.{part}
+use Rattle.lists.specs.Lists.{isEmpty}
 use Rattle.lists.proofs.Every.{and-true}
 use Rattle.timestamp_order.specs.Timestamp.{Stamp}
 use Rattle.timestamp_order.specs.Order.{byNumber}
 use Rattle.timestamp_order.specs.Made.{madeBy, rising as risingOf}
-use Rattle.records.specs.Records.{opFits, recordFits}
-use Rattle.history_file.specs.Bytes.{unitSize, padded}
-use Rattle.history_file.specs.Reading.{opRead, tupleCount, opCount, tupleUnits, opUnits, recordRead, sizeRead, countsFit, padsZero, recordValid, recordsFill}
+use Rattle.records.specs.Records.{recordFits}
+use Rattle.history_file.specs.Bytes.{unitSize}
+use Rattle.history_file.specs.Reading.{tupleCount, opCount, recordRead, sizeRead, countsFit, padsZero, recordValid, recordsFill}
 use Rattle.history_file.proofs.Units.{rest-part, pairsOf, pairs-length, last-site}
 
 -- ---- which site made a timestamp

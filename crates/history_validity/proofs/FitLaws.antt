@@ -3,7 +3,6 @@ use mathlib.Core.Path.{_≡_, refl, sym, ap, ap₂, _∙_}
 use mathlib.Core.Bool.{Bool, true, false, _&&_}
 use mathlib.Core.List.{List, [], _∷_, map}
 use Prim.Native.Nat.{ℕ, _+_, _*_, _-_, _≤_, _<_}
-use native.Mathlib.Omega.{arith}
 use lib.ListN.{length, getD, drop}
 use lib.Dec.{eqb, ltb}
 use borrow.Author.Tests.{lt-ltb, le-ltb, le-leb, lt-leb, eq-eqb, ne-eqb}
@@ -48,6 +47,14 @@ module _ (items : ℕ) (u : List ℕ) where
 
       pub item-asked : getD u 0 0 ≤ 1 → (item : ℕ) → item ≡ getD u 1 0 → ltb item items ≡ opFit items u
       item-asked h item e = sym (rw (sym is ∙ t, le-leb (getD u 0 0) 1 h, ← e))
+
+-- ---- tuples
+module _ (site n : ℕ) (b : List ℕ) (r : Bool) (is : r ≡ every (padded 1) (chunks unitSize n b)) where
+  pub tuples-unpadded : r ≡ false → false ≡ tuplesFit site n b
+  tuples-unpadded f = sym (rw (sym is ∙ f))
+
+  pub tuples-made : r ≡ true → (m : Bool) → m ≡ madeBy byNumber site (record { epoch = 0; tuples = pairsOf b n }) → m ≡ tuplesFit site n b
+  tuples-made t m e = e ∙ sym (rw (sym is ∙ t))
 
 -- ---- a record
 module _ (sites items : ℕ) (b : List ℕ) where

@@ -2,7 +2,7 @@
 use mathlib.Core.Path.{_∙_}
 use native.Mathlib.Omega.{arith}
 use Rattle.network_layout.proofs.Performs.{records-count}
-use Rattle.history_file.proofs.Exports.{few-records, body-lent, export-short, export-done, written-length}
+use Rattle.history_file.proofs.Exports.{few-records, body-lent, export-short, export-done}
 use borrow.Author.Needs.{needs}
 use Rattle.history_export.specs.Asked.{Counted}
 use Rattle.history_export.proofs.export_on.Statement.{statement}

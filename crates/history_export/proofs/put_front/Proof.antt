@@ -1,8 +1,7 @@
 -- `put_front` writes the head, then the tuples.
-use mathlib.Core.Path.{_≡_, refl, sym, ap, _∙_}
-use mathlib.Core.List.{List, _++_}
-use Prim.Native.Nat.{ℕ, _*_}
-use native.Mathlib.Omega.{arith}
+use mathlib.Core.Path.{refl, sym, ap, _∙_}
+use mathlib.Core.List.{_++_}
+use Prim.Native.Nat.{_*_}
 use lib.ListN.{length}
 use Rattle.timestamp_order.specs.Timestamp.{Stamp}
 use Rattle.timestamp_words.specs.InWords.{stampIn}

@@ -1,9 +1,8 @@
 -- `rising` leaves at the first site that does not rise: up to i - 1 the list is passed.
 use mathlib.Core.Path.{_≡_, refl, sym, ap, _∙_}
-use Prim.Native.Nat.{ℕ, suc, _+_, _*_, _≤_, _<_, _-_}
+use Prim.Native.Nat.{ℕ, suc, _+_, _*_, _≤_, _-_}
 use native.Mathlib.Omega.{arith}
-use lib.ListN.{length, getD, drop}
-use Rattle.timestamp_order.specs.Timestamp.{noPair}
+use lib.ListN.{drop}
 use Rattle.timestamp_order.specs.Order.{byNumber}
 use Rattle.timestamp_order.specs.Made.{rising as risingOf}
 use Rattle.timestamp_order.proofs.Made.{rise-stops, rise-goes-on, rise-ends}

@@ -1,6 +1,6 @@
 -- `tuples_fit` tests the 00 bytes, then who made the timestamp.
-use mathlib.Core.Path.{sym, _∙_}
 use borrow.Author.Tests.{not-true, not-false}
+use Rattle.history_validity.proofs.FitLaws.{tuples-unpadded, tuples-made}
 use borrow.Author.Needs.{needs}
 use Rattle.history_validity.proofs.tuples_fit.Statement.{statement}
 use Rattle.history_validity.proofs.tuples_fit.Tie as tie
@@ -11,7 +11,8 @@ padded-requires c κs = search needs
 returns : tie.Need-returns
 returns c =
     let p = c .before .padded in
-    sym (rw (sym (p .ensures) ∙ not-true (p .result) (c .if1 .taken)))
+    let A = c .before .before .before .args in
+    tuples-unpadded (A .site) (A .n) (A .b .now) (p .result) (p .ensures) (not-true (p .result) (c .if1 .taken))
 
 made-by-requires : tie.Need-made-by-requires
 made-by-requires c κs = search needs
@@ -19,7 +20,8 @@ made-by-requires c κs = search needs
 returns-2 : tie.Need-returns-2
 returns-2 c =
     let p = c .before .before .padded in
-    c .made-by .ensures ∙ sym (rw (sym (p .ensures) ∙ not-false (p .result) (c .before .if1 .left)))
+    let A = c .before .before .before .before .args in
+    tuples-made (A .site) (A .n) (A .b .now) (p .result) (p .ensures) (not-false (p .result) (c .before .if1 .left)) (c .made-by .result) (c .made-by .ensures)
 
 pub tuples-fit-spec : {M : Type 1} → statement M
 tuples-fit-spec =
