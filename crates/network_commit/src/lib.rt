@@ -1,5 +1,5 @@
 // Commit: its operations on the site's table, its record in the history, a message to each child due one.
-mod due; // due.rt: what operations ask of the placement
+mod causes; // causes.rt: whether each operation may be done
 mod operations; // operations.rt: a commit's operations in words, and the values read
 
 use messages::Message;
@@ -89,7 +89,7 @@ fn commit_words(state: &mut [u32], site: u32, ops: &[u32], n: usize) -> Committe
     requires { ⌜ CommitAt (now state) site n ⌝ }
     ensures { λ r. ⌜ CommitTried (now (state .entry)) (now (state .exit)) site (opsIn n (now (ops .entry))) r ⌝ }
 {
-    let mask = due::due_mask(state, ops, n);
+    let mask = network_placement::due_mask(state, ops, n);
     let cause = commit_cause(state, site, ops, n, mask);
     if cause != 0 {
         return refused(cause);
@@ -102,7 +102,7 @@ fn commit_cause(state: &[u32], site: u32, ops: &[u32], n: usize, mask: u32) -> u
     requires { ⌜ Masked (now state) site n mask (opsIn n (now ops)) ⌝ }
     ensures { λ r. ⌜ r ≡ firstNumber (commitCauses (networkIn (now (state .entry))) site (opsIn n (now (ops .entry)))) ⌝ }
 {
-    let cause = due::ops_number(state, site, ops, n);
+    let cause = causes::ops_number(state, site, ops, n);
     if cause != 0 {
         return cause;
     }

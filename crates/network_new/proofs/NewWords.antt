@@ -107,10 +107,7 @@ module _ (w placed : List ℕ) (sites items : ℕ) (asked : LayingOut w placed s
         }
 
   -- as the code lays them: the counts and the items' words, l; the sites' words, s; the lines' words, e
-  module _ (l : List ℕ) (l-long : length l ≡ length heads) where
-    pub laid-size : length l ≡ stateSize
-    laid-size = l-long ∙ heads-size
-
+  module _ (l : List ℕ) (laid-size : length l ≡ stateSize) where
     module _ (s : List ℕ) (s-long : length s ≡ length (part l sitesAt sitesSize)) where
       started-size : length s ≡ sitesSize
       started-size = s-long ∙ part-length l sitesAt sitesSize (omega (arith, laid-size))

@@ -8,10 +8,10 @@ ghost use mathlib.Core.Bool.{not};
 ghost use lib.ListN.{length, getD};
 ghost use Rattle.limits.specs.Limits.{sitesMost};
 ghost use Rattle.words.specs.Words.{part};
-ghost use Rattle.placement.specs.Masks.{maskOf};
+ghost use Rattle.placement.specs.Masks.{maskOf, Names};
 ghost use Rattle.placement.specs.Placement.{noItem, isLine, hasParents, owns, copies};
-ghost use Rattle.site_operations.specs.InWords.{opAt};
-ghost use Rattle.protocol.specs.Steps.{noSuchSite, wantedAt};
+ghost use Rattle.site_operations.specs.InWords.{opAt, opsIn};
+ghost use Rattle.protocol.specs.Steps.{noSuchSite, wantedAt, due as dueOf};
 ghost use Rattle.network_layout.specs.Layout.{stateSize, siteCount, itemCount, itemsAt, itemsSize};
 ghost use Rattle.network_layout.specs.InWords.{networkIn};
 ghost use Rattle.network_layout.specs.At.{AtState, HasItem};
@@ -52,28 +52,28 @@ pub fn is_line(state: &[u32], p: u32, c: u32) -> bool
     requires { ⌜ AtState (now state) ⌝ }
     ensures { λ r. ⌜ r ≡ isLine (networkIn (now (state .entry)) .items) p c ⌝ }
 {
-    placement::is_line(placed(state), words::wide(item_count(state)), p, c)
+    placement_lines::is_line(placed(state), words::wide(item_count(state)), p, c)
 }
 
 pub fn has_parents(state: &[u32], c: u32) -> bool
     requires { ⌜ AtState (now state) ⌝ }
     ensures { λ r. ⌜ r ≡ hasParents (networkIn (now (state .entry)) .items) c ⌝ }
 {
-    placement::has_parents(placed(state), words::wide(item_count(state)), c)
+    placement_lines::has_parents(placed(state), words::wide(item_count(state)), c)
 }
 
 pub fn children(state: &[u32], p: u32) -> u32
     requires { ⌜ AtState (now state) ⌝ }
     ensures { λ r. ⌜ r ≡ maskOf (isLine (networkIn (now (state .entry)) .items) p) sitesMost ⌝ }
 {
-    placement::children(placed(state), words::wide(item_count(state)), p)
+    placement_lines::children(placed(state), words::wide(item_count(state)), p)
 }
 
 pub fn parents(state: &[u32], c: u32) -> u32
     requires { ⌜ AtState (now state) ⌝ }
     ensures { λ r. ⌜ r ≡ maskOf (λ p. isLine (networkIn (now (state .entry)) .items) p c) sitesMost ⌝ }
 {
-    placement::parents(placed(state), words::wide(item_count(state)), c)
+    placement_lines::parents(placed(state), words::wide(item_count(state)), c)
 }
 
 // Whether an item has its primary at site i.
@@ -112,4 +112,29 @@ pub fn is_wanted(state: &[u32], ops: &[u32], i: usize, j: u32) -> bool
         return false;
     }
     is_copied(state, site_operations::item(ops, i), j)
+}
+
+// The mask of the sites that have a copy of an item that one of the n operations writes.
+pub fn due_mask(state: &[u32], ops: &[u32], n: usize) -> u32
+    requires { ⌜ length (now state) ≡ stateSize ⌝ }
+    ensures { λ r. ⌜ r ≡ maskOf (dueOf (networkIn (now (state .entry)) .items) (opsIn n (now (ops .entry)))) sitesMost ⌝ }
+{
+    let mut m = 0;
+    let mut k = 0;
+    while k < n {
+        m = m | due_by(state, ops, k);
+        k += 1;
+    }
+    placement::below(m, limits::SITES)
+}
+
+// The sites that operation k makes due: those of the copies of the item that it writes.
+fn due_by(state: &[u32], ops: &[u32], k: usize) -> u32
+    requires { ⌜ length (now state) ≡ stateSize ⌝ }
+    ensures { λ r. ⌜ Names sitesMost r (λ c. wantedAt (networkIn (now (state .entry)) .items) c (opAt (now (ops .entry)) k)) ⌝ }
+{
+    if site_operations::kind(ops, k) != site_operations::WRITE {
+        return 0;
+    }
+    copy_mask(state, site_operations::item(ops, k))
 }

@@ -163,7 +163,7 @@ fn lines_shaped(w: &[u32], placed: &[u32], items: usize, kept: &[u32], made: u32
     requires { ⌜ LinesAsked (now w) items (now kept) made ⌝ }
     ensures { λ r. ⌜ r ≡ everyFrom (lineTest (itemsIn items (now (placed .entry))) (historyIn (now (kept .entry)) made)) 0 (chunks lineSize linesMost (now (w .entry))) ⌝ }
 {
-    let given = placement::lines(placed, items);
+    let given = placement_lines::lines(placed, items);
     let mut k = 0;
     while k < LINES_MOST {
         if !line_shaped(chunk(w, k, LINE), k, given, kept, made) {

@@ -1,9 +1,7 @@
 // Masks of sites, tested and built by shifts: bit k, of weight 2 to the power k, names site k.
 ghost use mathlib.Core.Path.{_≡_};
 ghost use Prim.Native.Nat.{_/_, _%_, _^_};
-ghost use lib.Dec.{eqb};
-ghost use Rattle.limits.specs.Limits.{sitesMost};
-ghost use Rattle.placement.specs.Masks.{bit as bitOf, Names};
+ghost use Rattle.placement.specs.Masks.{bit as bitOf};
 
 // Whether the mask names site k.
 pub fn bit(mask: u32, k: u32) -> bool
@@ -30,14 +28,4 @@ pub fn below(mask: u32, k: u32) -> u32
         return mask;
     }
     mask % (1u32 << k)
-}
-
-// The mask that of the sites that there can be names site k alone.
-pub fn one(k: u32) -> u32
-    ensures { λ r. ⌜ Names sitesMost r (λ j. eqb k j) ⌝ }
-{
-    if 31 < k {
-        return 0;
-    }
-    1u32 << k
 }

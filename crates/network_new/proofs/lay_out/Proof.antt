@@ -1,6 +1,9 @@
 -- `lay_out` lays the counts, the items, the sites and the counts of the lines.
+use mathlib.Core.Path.{_≡_, _∙_}
 use native.Mathlib.Omega.{arith}
-use Rattle.network_new.proofs.NewWords.{laid-size, sited-long, out-size, out-begun}
+use lib.ListN.{length, length-set}
+use Rattle.network_layout.specs.Layout.{stateSize}
+use Rattle.network_new.proofs.NewWords.{sited-long, out-size, out-begun}
 use borrow.Author.Needs.{needs}
 use Rattle.network_new.proofs.lay_out.Statement.{statement}
 use Rattle.network_new.proofs.lay_out.Tie as tie
@@ -10,6 +13,10 @@ entry c = c .before .before .before .before
 
 abbrev laid-at : tie.After-start-sites → tie.After-lay
 laid-at c = c .before .before .before .before
+
+-- the words keep their number, whatever the counts
+laid-size : (c : tie.After-lay) → length (c .lay .last .0) ≡ stateSize
+laid-size c = c .lay .kept .0 ∙ simp length-set (entry c .pre .sized)
 
 slice-write-state : tie.Need-slice-write-state
 slice-write-state c = search needs
@@ -31,10 +38,7 @@ part-start-sites-start c = search needs
 
 part-start-sites-end : tie.Need-part-start-sites-end
 part-start-sites-end c =
-    let laid = c .before .before in
-    let start = entry laid in
-    let A = start .args in
-    omega (arith, laid-size (A .state .now) (A .placed .now) (A .sites) (A .items) (start .pre) (laid .lay .last .0) (laid .lay .kept .0))
+    omega (arith, laid-size (c .before .before))
 
 start-sites-requires : tie.Need-start-sites-requires
 start-sites-requires c κs = search needs
@@ -51,7 +55,7 @@ part-clear-lines-end c =
     let laid = laid-at sited in
     let start = entry laid in
     let A = start .args in
-    omega (arith, sited-long (A .state .now) (A .placed .now) (A .sites) (A .items) (start .pre) (laid .lay .last .0) (laid .lay .kept .0) (sited .start-sites .last .0) (sited .start-sites .kept .0))
+    omega (arith, sited-long (A .state .now) (A .placed .now) (A .sites) (A .items) (start .pre) (laid .lay .last .0) (laid-size laid) (sited .start-sites .last .0) (sited .start-sites .kept .0))
 
 clear-lines-requires : tie.Need-clear-lines-requires
 clear-lines-requires c κs = search needs
@@ -63,7 +67,7 @@ same-length c =
     let laid = laid-at sited in
     let start = entry laid in
     let A = start .args in
-    out-size (A .state .now) (A .placed .now) (A .sites) (A .items) (start .pre) (laid .lay .last .0) (laid .lay .kept .0) (sited .start-sites .last .0) (sited .start-sites .kept .0) (done .clear-lines .last .0) (done .clear-lines .kept .0)
+    out-size (A .state .now) (A .placed .now) (A .sites) (A .items) (start .pre) (laid .lay .last .0) (laid-size laid) (sited .start-sites .last .0) (sited .start-sites .kept .0) (done .clear-lines .last .0) (done .clear-lines .kept .0)
 
 returns : tie.Need-returns
 returns c =
@@ -72,7 +76,7 @@ returns c =
     let laid = laid-at sited in
     let start = entry laid in
     let A = start .args in
-    out-begun (A .state .now) (A .placed .now) (A .sites) (A .items) (start .pre) (laid .lay .last .0) (laid .lay .kept .0) (sited .start-sites .last .0) (sited .start-sites .kept .0) (done .clear-lines .last .0) (done .clear-lines .kept .0) (laid .lay .ensures) (sited .start-sites .ensures) (done .clear-lines .ensures)
+    out-begun (A .state .now) (A .placed .now) (A .sites) (A .items) (start .pre) (laid .lay .last .0) (laid-size laid) (sited .start-sites .last .0) (sited .start-sites .kept .0) (done .clear-lines .last .0) (done .clear-lines .kept .0) (laid .lay .ensures) (sited .start-sites .ensures) (done .clear-lines .ensures)
 
 pub lay-out-spec : {M : Type 1} → statement M
 lay-out-spec =
