@@ -1,12 +1,8 @@
 // Cases as lines of standard input, on one state and one history file: a line for each call, and its answer printed as a line.
-mod calls;
-mod files;
-mod lists;
-
+use cases_lists::ROOM;
 use libc::STDIN_FILENO;
 use libc::STDOUT_FILENO;
-use lists::ROOM;
-use network::WORDS;
+use network_layout::WORDS;
 ghost use Prim.Native.Nat.{_≤_};
 ghost use lib.ListN.{length};
 
@@ -35,10 +31,10 @@ fn answer(line: &[u8], state: &mut [u32; WORDS], file: &mut [u8; ROOM], size: us
     requires { ⌜ size ≤ 65536 ⌝ }
     ensures { λ r. ⌜ r ≤ 65536 ⌝ }
 {
-    match lists::letter(line) {
-        61 => files::append(line, file, 0),
-        43 => files::append(line, file, size),
-        120 => files::export(line, state, file),
+    match cases_lists::letter(line) {
+        61 => cases_files::append(line, file, 0),
+        43 => cases_files::append(line, file, size),
+        120 => cases_files::export(line, state, file),
         _ => {
             shown(line, state, file, size);
             size
@@ -51,13 +47,13 @@ fn shown(line: &[u8], state: &mut [u32; WORDS], file: &[u8], size: usize)
     requires { ⌜ size ≤ length (now file) ⌝ }
 {
     let part = &file[0..size];
-    match lists::letter(line) {
-        98 => files::bytes(part),
-        104 => files::read(part),
-        97 => files::sums(part),
-        102 => files::check(part),
-        114 => files::record(line, part),
-        64 => files::record_from(line, part),
-        _ => calls::call(line, state),
+    match cases_lists::letter(line) {
+        98 => cases_files::bytes(part),
+        104 => cases_files::read(part),
+        97 => cases_files::sums(part),
+        102 => cases_files::check(part),
+        114 => cases_files::record(line, part),
+        64 => cases_files::record_from(line, part),
+        _ => cases_calls::call(line, state),
     }
 }

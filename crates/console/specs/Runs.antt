@@ -6,7 +6,7 @@ use Prim.Native.Nat.{ℕ, _≤_}
 use lib.ListN.{length}
 use Rattle.network_layout.specs.InWords.{shaped, meaning}
 use Rattle.console_notation.specs.Lines.{cut, ending, afterLines, told, lineMost}
-use Rattle.console_blocks.specs.Promises.{heldOf}
+use Rattle.console_held.specs.Held.{heldOf}
 use Rattle.console.specs.declared.Run.{Run}
 
 -- the words mean the network after the lines of some bytes

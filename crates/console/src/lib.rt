@@ -1,17 +1,17 @@
 // Scripts from a file descriptor, their answers to another: a block is read, its lines are answered, and the answers are written before the next is read.
-pub use console_blocks::Held;
 pub use console_blocks::Progress;
 pub use console_blocks::feed;
 pub use console_blocks::finish;
-pub use console_blocks::nothing;
-use network::WORDS;
+pub use console_held::Held;
+pub use console_held::nothing;
+use network_layout::WORDS;
 ghost use mathlib.Core.Path.{_≡_};
 ghost use mathlib.Core.List.{[]};
 ghost use Prim.Native.Nat.{_≤_};
 ghost use lib.ListN.{length};
 ghost use Rattle.network_layout.specs.InWords.{shaped};
 ghost use Rattle.console_notation.specs.Lines.{lineMost};
-ghost use Rattle.console_blocks.specs.Promises.{heldOf};
+ghost use Rattle.console_held.specs.Held.{heldOf};
 ghost use Rattle.console.specs.Runs.{Ran, Began, Went, Passed, Closed, Replying};
 
 // What is held of a line where the run goes on, whether the words are then those of a network, whether it goes on, and whether everything was read and
@@ -50,7 +50,7 @@ fn begun(state: &[u32; WORDS]) -> Run
 {
     Run {
         held: nothing(),
-        formed: network::well_shaped(state),
+        formed: network_state::well_shaped(state),
         more: true,
         well: true,
     }

@@ -6,18 +6,9 @@ use lib.ListN.{length, take, drop}
 use Rattle.network_layout.specs.InWords.{shaped, meaning}
 use Rattle.console_notation.specs.Lines.{told, used}
 use Rattle.console_lines.specs.Promises.{Effect}
-use Rattle.console_blocks.specs.declared.Held.{Held}
+use Rattle.console_held.specs.Held.{Holding}
 use Rattle.console_blocks.specs.declared.Progress.{Progress}
 use Rattle.console_blocks.specs.declared.Advance.{Advance}
-
--- the bytes that are held: the first `count` of 513, all of them where `count` is more
-abbrev pub heldOf : Held → List ℕ
-heldOf h = take (h .count) (h .bytes)
-
--- what is held is held whole
-pub record Holding (line : List ℕ) (h : Held) : Type 0 where
-  pub held-is : heldOf h ≡ line
-  pub count-is : h .count ≡ length line
 
 -- of a block the bytes that there is room to answer are used, and what is held is of the line that has not ended
 pub record Fed (block line entry exit out₀ out : List ℕ) (at : ℕ) (r : Progress) : Type 0 where

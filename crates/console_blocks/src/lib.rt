@@ -1,22 +1,15 @@
 // A script's bytes, block by block: the lines that end are answered, and what is left of a block is held for the next one.
+use console_held::Held;
 use network_layout::WORDS;
 use script_notation::Reply;
 ghost use mathlib.Core.Path.{_≡_};
-ghost use mathlib.Core.List.{[], _∷_, _++_};
-ghost use Prim.Native.Nat.{min};
-ghost use lib.ListN.{take};
-ghost use Rattle.decimal.specs.Decimal.{Printed};
+ghost use mathlib.Core.List.{[], _∷_};
 ghost use Rattle.network_layout.specs.InWords.{shaped, meaning};
-ghost use Rattle.console_notation.specs.Lines.{newline, clipped, ending, told};
+ghost use Rattle.console_notation.specs.Lines.{newline, ending, told};
 ghost use Rattle.console_lines.specs.Promises.{Collected};
-ghost use Rattle.console_blocks.specs.Asked.{HeldWithRoom, RoomFor};
-ghost use Rattle.console_blocks.specs.Promises.{heldOf, Holding, Fed, Begun, Advanced};
-
-// The first bytes of a line that has not ended, `count` of them: all 513 where `count` is more. That a line is too long is told by 513.
-pub struct Held {
-    pub bytes: [u8; 513],
-    pub count: usize,
-}
+ghost use Rattle.console_blocks.specs.Asked.{HeldWithRoom};
+ghost use Rattle.console_held.specs.Held.{heldOf};
+ghost use Rattle.console_blocks.specs.Promises.{Fed, Begun, Advanced};
 
 // How far a block has come: how many of its bytes are used, what is held of the line that has not ended, and where the answers end.
 pub struct Progress {
@@ -33,16 +26,6 @@ pub struct Advance {
     pub formed: bool,
 }
 
-// Nothing is held before the first block.
-pub fn nothing() -> Held
-    ensures { λ r. ⌜ Holding [] r ⌝ }
-{
-    Held {
-        bytes: [0u8; 513],
-        count: 0,
-    }
-}
-
 // The bytes of a block behind what is held: the lines that end are answered, from place `at` of the buffer on. It stops before a newline where fewer than
 // 294 bytes are left for the answer, so at the first one where the buffer is too small or the place is behind its end. The state is tested once.
 pub fn feed(
@@ -54,7 +37,7 @@ pub fn feed(
 ) -> Progress
     ensures { λ r. ⌜ Fed (now (block .entry)) (heldOf held) (now (state .entry)) (now (state .exit)) (now (out .entry)) (now (out .exit)) at r ⌝ }
 {
-    let formed = network::well_shaped(state);
+    let formed = network_state::well_shaped(state);
     let to = feed_on(block, held, state, formed, out, at);
     let line = to.held;
     Progress {
@@ -71,7 +54,7 @@ pub fn finish(held: Held, state: &mut [u32; WORDS], out: &mut [u8], at: usize) -
     if held.count == 0 {
         return Progress {
             used: 0,
-            held: nothing(),
+            held: console_held::nothing(),
             filled: at,
         };
     }
@@ -101,7 +84,7 @@ pub fn feed_on(
     let end = used + rest.end;
     Advance {
         used: end,
-        held: hold(nothing(), &block[from..end]),
+        held: console_held::hold(console_held::nothing(), &block[from..end]),
         filled: rest.filled,
         formed: rest.formed,
     }
@@ -120,7 +103,7 @@ fn begin(
     ensures { λ r. ⌜ Begun (now (block .entry)) (heldOf held) (now (state .entry)) (now (state .exit)) (now (out .entry)) (now (out .exit)) at r ⌝ }
 {
     let end = script_parsing::find(block, 0, 10);
-    let line = hold(held, &block[..end]);
+    let line = console_held::hold(held, &block[..end]);
     if !console_lines::goes_on(end, block.len(), at, out.len()) {
         return Advance {
             used: end,
@@ -132,7 +115,7 @@ fn begin(
     let reply = answer(line, state, formed, out, at);
     Advance {
         used: end + 1,
-        held: nothing(),
+        held: console_held::nothing(),
         filled: reply.end,
         formed: reply.formed,
     }
@@ -146,34 +129,4 @@ fn answer(held: Held, state: &mut [u32; WORDS], formed: bool, out: &mut [u8], at
     let bytes = held.bytes;
     let count = held.count;
     console_lines::collect(&bytes[..count], state, formed, out, at)
-}
-
-// Bytes behind those that are held, as many as are still held.
-fn hold(held: Held, from: &[u8]) -> Held
-    ensures { λ r. ⌜ Holding (clipped (heldOf held ++ now (from .entry))) r ⌝ }
-{
-    let at = least(held.count, 513);
-    let n = least(513 - at, from.len());
-    let mut bytes = held.bytes;
-    let count = append(from, n, &mut bytes, at);
-    Held { bytes, count }
-}
-
-// Bytes from a place of the buffer on. It answers where they end.
-fn append(from: &[u8], n: usize, out: &mut [u8], at: usize) -> usize
-    requires { ⌜ RoomFor (now from) n (now out) at ⌝ }
-    ensures { λ r. ⌜ Printed (now (out .entry)) (now (out .exit)) at r (take n (now (from .entry))) ⌝ }
-{
-    let end = at + n;
-    bytes::copy(&from[..n], &mut out[at..end]);
-    end
-}
-
-fn least(m: usize, n: usize) -> usize
-    ensures { λ r. ⌜ r ≡ min m n ⌝ }
-{
-    if m < n {
-        return m;
-    }
-    n
 }

@@ -1,2 +1,1 @@
-pub mod RecordWords
 pub mod Refusals

@@ -1,11 +1,9 @@
 // 100,000 mixed steps on an almost empty network and as many on a full one; or, by a letter on standard input, one kind of call again and again on a
 // full network or its history file. What they answer is summed.
-mod steps; // steps.rt: the networks and rounds of steps
-
 use history::Found;
 use libc::STDIN_FILENO;
 use libc::STDOUT_FILENO;
-use network::WORDS;
+use network_layout::WORDS;
 
 // The length of the file of a full history whose timestamps have one tuple.
 const FILE: usize = 20496;
@@ -15,8 +13,8 @@ fn main() {
     let mut letter = [0u8; 1];
     libc::read(STDIN_FILENO, &mut letter);
     if letter[0] == 0 {
-        show(steps::almost_empty(&mut state));
-        show(steps::full(&mut state));
+        show(network_rounds::almost_empty(&mut state));
+        show(network_rounds::full(&mut state));
         return;
     }
     calls(letter[0], &mut state);
@@ -29,7 +27,7 @@ fn show(sum: u64) {
 
 fn calls(letter: u8, state: &mut [u32; WORDS]) {
     let mut file = [0u8; FILE];
-    steps::fill(state);
+    network_rounds::fill(state);
     history::export(state, &mut file);
     show(repeated(letter, state, &mut file));
 }
@@ -59,8 +57,8 @@ fn times(letter: u8) -> u32 {
 
 fn once(letter: u8, state: &mut [u32; WORDS], file: &mut [u8; FILE]) -> u64 {
     match letter {
-        101 => steps::almost_empty(state),
-        102 => steps::full(state),
+        101 => network_rounds::almost_empty(state),
+        102 => network_rounds::full(state),
         104 => network::well_shaped(state) as u64,
         119 => waiting(state),
         120 => history::export(state, file).length as u64,

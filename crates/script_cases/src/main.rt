@@ -1,7 +1,7 @@
 // Scripts of the folder data, each on a state of its own: every refusal that a script can reach, every kind of malformed line, lines of 512 and 513 bytes and a
 // last line without its newline; a long random script; and one without a line.
 use libc::STDOUT_FILENO;
-use network::WORDS;
+use network_layout::WORDS;
 
 fn main() {
     play(b"cases");

@@ -6,7 +6,7 @@ use lib.ListN.{length, length-map}
 use lib.Seq.{length-take-le}
 use Rattle.decimal.proofs.Printing.{front-fits}
 use Rattle.network_layout.specs.InWords.{shaped}
-use Rattle.console_blocks.specs.Promises.{heldOf}
+use Rattle.console_held.specs.Held.{heldOf}
 use Rattle.console.proofs.Runs.{Reached, reached-none, reached-next, reached-end, reached-all, part-some}
 use borrow.Author.Needs.{needs}
 use Rattle.console.proofs.reply.Statement.{statement}

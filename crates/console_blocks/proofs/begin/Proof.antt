@@ -10,7 +10,7 @@ use borrow.Author.Tests.{leb-true, not-true, not-false}
 use Rattle.lists.proofs.Every.{and-true}
 use Rattle.script_notation.proofs.Places.{place-within}
 use Rattle.console_notation.specs.Lines.{newline, clipMost, lineMost}
-use Rattle.console_blocks.specs.Promises.{heldOf}
+use Rattle.console_held.specs.Held.{heldOf}
 use Rattle.console_blocks.proofs.Steps.{begun-held, begun-answered}
 use borrow.Author.Needs.{needs}
 use Rattle.console_blocks.proofs.begin.Statement.{statement}

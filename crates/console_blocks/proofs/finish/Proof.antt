@@ -5,7 +5,8 @@ use Prim.Native.Nat.{ℕ, _<_}
 use native.Mathlib.Omega.{arith}
 use lib.ListN.{length, take, length-map, length-take}
 use Rattle.console_notation.specs.Lines.{clipMost, ending}
-use Rattle.console_blocks.specs.Promises.{heldOf, Fed}
+use Rattle.console_held.specs.Held.{heldOf}
+use Rattle.console_blocks.specs.Promises.{Fed}
 use Rattle.console_blocks.proofs.Steps.{fed-nothing, ending-held}
 use borrow.Author.Needs.{needs}
 use Rattle.console_blocks.proofs.finish.Statement.{statement}
