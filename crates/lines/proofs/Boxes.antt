@@ -1,13 +1,13 @@
 -- The messages that a line's words hold: how many there are, one of them, and what each step does at its edge.
-use mathlib.Core.Path.{_≡_, sym, ap, subst, _∙_, ap₂}
-use mathlib.Core.Bool.{false, true}
+use mathlib.Core.Path.{_≡_, refl, sym, ap, subst, _∙_, ap₂}
+use mathlib.Core.Bool.{Bool, false, true}
 use mathlib.Core.List.{List, []}
 use Prim.Native.Nat.{ℕ, _+_, _-_, _*_, _≤_, _<_, min}
 use native.Mathlib.Omega.{arith}
 use lib.ListN.{length, getD, length-map, length-take, List·getD-map, List·getD-eq-default}
 use lib.Seq.{getD-take}
-use lib.Dec.{leb}
-use borrow.Author.Tests.{lt-ltb, le-ltb, le-leb, lt-leb, leb-true}
+use lib.Dec.{eqb, leb}
+use borrow.Author.Tests.{lt-ltb, le-ltb, le-leb, lt-leb, leb-true, eq-eqb, ne-eqb, eqb-true, eqb-false}
 use Rattle.lists.proofs.Every.{and-true}
 use Rattle.lists.specs.Lists.{every}
 use Rattle.words.specs.Words.{part, chunks}
@@ -36,6 +36,13 @@ module _ (w : List ℕ) (n : ℕ) (is : n ≡ getD w 0 0) where
 
   pub held-many : heldMost ≤ n → heldMost ≡ min (getD w 0 0) heldMost
   held-many h = omega arith
+
+  pub held-none : eqb n 0 ≡ eqb (length (lineIn w .messages)) 0
+  held-none = go (eqb n 0) refl
+    where
+      go : (b : Bool) → eqb n 0 ≡ b → eqb n 0 ≡ eqb (length (lineIn w .messages)) 0
+      go true e = e ∙ sym (eq-eqb (length (lineIn w .messages)) 0 (omega (arith, messages-length w, eqb-true n 0 e)))
+      go false e = e ∙ sym (ne-eqb (length (lineIn w .messages)) 0 (λ z. eqb-false n 0 e (omega (arith, messages-length w))))
 
   pub counted-many : heldMost < n → false ≡ lineCounted w
   unfolding lineCounted

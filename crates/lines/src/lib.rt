@@ -6,6 +6,7 @@ use messages::Message;
 ghost use mathlib.Core.Path.{_≡_};
 ghost use Prim.Native.Nat.{min, _≤_};
 ghost use lib.ListN.{length, getD};
+ghost use lib.Dec.{eqb};
 ghost use Rattle.limits.specs.Limits.{heldMost};
 ghost use Rattle.messages.specs.Messages.{commit, nameOf};
 ghost use Rattle.lines.specs.InWords.{lineIn, lineCounted, First};
@@ -26,6 +27,13 @@ pub fn held(l: &[u32]) -> usize
     ensures { λ r. ⌜ (r ≡ length (lineIn (now (l .entry)) .messages)) × (r ≤ heldMost) ⌝ }
 {
     words::wide(held_word(l))
+}
+
+// Whether the line holds nothing: of most lines that is all that is asked.
+pub fn is_empty(l: &[u32]) -> bool
+    ensures { λ r. ⌜ r ≡ eqb (length (lineIn (now (l .entry)) .messages)) 0 ⌝ }
+{
+    words::word(l, HELD) == 0
 }
 
 // How many messages have arrived.

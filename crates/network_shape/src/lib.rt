@@ -179,10 +179,10 @@ fn line_shaped(l: &[u32], k: usize, given: u64, kept: &[u32], made: u32) -> bool
     requires { ⌜ LineAsked (now l) k (now kept) made ⌝ }
     ensures { λ r. ⌜ LineTested given (historyIn (now (kept .entry)) made) k (now (l .entry)) r ⌝ }
 {
-    let n = lines::held(l);
-    if n == 0 {
+    if lines::is_empty(l) {
         return lines::arrived(l) == 0;
     }
+    let n = lines::held(l);
     held_shaped(l, n, k, given, kept, made)
 }
 
