@@ -8,8 +8,8 @@ use native.Mathlib.Numerals.{add-one}
 use native.Mathlib.Nat.{not-suc-le-zero}
 use lib.ListN.{length, getD, take, drop, drop-of-length-le, length-map, List·getD-map}
 use lib.Seq.{drop-cons}
-use lib.Dec.{leb, eqb}
-use borrow.Author.Tests.{lt-ltb, le-ltb, le-leb, lt-leb, leb-true, leb-false, eq-eqb, ne-eqb}
+use lib.Dec.{leb, eqb, ltb}
+use borrow.Author.Tests.{lt-ltb, le-ltb, le-leb, lt-leb, leb-true, leb-false, ltb-true, ltb-false, eq-eqb, ne-eqb, eqb-true}
 use Rattle.words.specs.Words.{part, chunks}
 use Rattle.lists.specs.Lists.{every, everyFrom, isEmpty}
 use Rattle.words.proofs.Chunks.{chunks-length, chunks-at}
@@ -24,16 +24,16 @@ use Rattle.site.proofs.Laws.{stamp-law}
 use Rattle.placement.specs.Placement.{Item, itemsNumber, isLine, LineBits}
 use Rattle.placement.specs.InWords.{itemSize, itemIn, itemsIn}
 use Rattle.limits.specs.Limits.{itemsMost, sitesMost, heldMost, recordsMost}
-use Rattle.lines.specs.InWords.{boxesAt, boxesSize, boxesIn, lineIn, lineRange, lineCounted}
+use Rattle.lines.specs.InWords.{boxesAt, boxesSize, boxesIn, lineIn, lineSize, lineRange, lineCounted}
 use Rattle.messages.specs.InWords.{messageIn, messageRange, messageSize}
 use Rattle.lines.proofs.Boxes.{messages-length}
 use Rattle.records.specs.Records.{Record, recordFits}
 use Rattle.records.specs.InWords.{recordIn, recordRange, recordSize}
 use Rattle.network_layout.specs.Layout.{siteCount, itemCount, recordCount, itemsAt, itemsSize, sitesAt, sitesSize, historyAt, historySize, stateSize}
-use Rattle.protocol.specs.Network.{noRecord, placeOf, messageFits, lineFits, wellShaped}
+use Rattle.protocol.specs.Network.{linesMost, noRecord, placeOf, messageFits, lineFits, wellShaped}
 use Rattle.network_layout.specs.InWords.{siteWords, lineWords, recordWords, networkIn, inRange, shaped}
 use Rattle.network_layout.proofs.Assembled.{no-record}
-use Rattle.network_shape.specs.Tested.{countsFit, recordTest, commitTest, messageTest, lineTest, placedIn, historyIn, groupShaped, historyShaped, linesShaped, Counted}
+use Rattle.network_shape.specs.Tested.{countsFit, recordTest, commitTest, messageTest, lineTest, placedIn, historyIn, groupShaped, historyShaped, linesShaped, Counted, idle, Skipped}
 
 -- ---- a test of each element
 pub every-from : {A : Type 0} (p : A → Bool) (i : ℕ) (l : List A) → everyFrom (λ _ x. p x) i l ≡ every p l
@@ -196,6 +196,36 @@ module _ (xs : List Item) (h : List Record) (k : ℕ) (l : List ℕ) where
       go : (b : Bool) → lineCounted l ≡ b → eqb arrived 0 ≡ lineTest xs h k l
       go true t = eq-eqb arrived 0 (omega (arith, none, held-few t .1)) ∙ line-none t n is z
       go false f = ne-eqb arrived 0 (λ y. false≢true (sym f ∙ none-counted none (omega arith))) ∙ line-uncounted f
+
+-- idle lines are passed over
+pub skip-none : (w : List ℕ) (k : ℕ) → k ≤ linesMost → Skipped w k k
+skip-none w k h = record { from = omega arith; few = h; between = λ i a b. absurd (omega (arith, a, b)) }
+
+pub skip-one : (w : List ℕ) (k i : ℕ) → Skipped w k i → i < linesMost → idle (part w (i * lineSize) lineSize) ≡ true → Skipped w k (i + 1)
+skip-one w k i s h e = record { from = omega (arith, s .from); few = omega arith; between = λ j a b. go j a b (ltb j i) refl }
+  where
+    go : (j : ℕ) → k ≤ j → j < i + 1 → (t : Bool) → ltb j i ≡ t → idle (part w (j * lineSize) lineSize) ≡ true
+    go j a b true f = s .between j a (ltb-true j i f)
+    go j a b false f =
+        let here : i ≡ j = omega (arith, b, ltb-false j i f) in
+        subst (λ (n : ℕ). idle (part w (n * lineSize) lineSize) ≡ true) here e
+
+module _ (xs : List Item) (h : List Record) (w : List ℕ) where
+  idle-fits : (k : ℕ) (l : List ℕ) → idle l ≡ true → true ≡ lineTest xs h k l
+  idle-fits k l e =
+      let q = and-true (eqb (length (lineIn l .messages)) 0) (eqb (lineIn l .arrived) 0) e in
+      line-empty xs h k l 0 (sym (eqb-true (length (lineIn l .messages)) 0 (q .0))) refl 0 (sym (eqb-true (lineIn l .arrived) 0 (q .1)))
+
+  pub skip : (k r : ℕ) → Skipped w k r → Passed (lineTest xs h) lineSize linesMost w k → Passed (lineTest xs h) lineSize linesMost w r
+  skip k r s p = go (r - k) k (omega (arith, s .from)) (omega arith) p
+    where
+      go : (d i : ℕ) → i + d ≡ r → k ≤ i → Passed (lineTest xs h) lineSize linesMost w i → Passed (lineTest xs h) lineSize linesMost w r
+      go zero i e f p =
+          let here : i ≡ r = omega (arith, e) in
+          subst (Passed (lineTest xs h) lineSize linesMost w) here p
+      go (suc d) i e f p =
+          let fits = idle-fits i (part w (i * lineSize) lineSize) (s .between i f (omega (arith, e))) in
+          go d (i + 1) (omega (arith, e)) (omega (arith, f)) (walk-next (lineTest xs h) lineSize linesMost w i p (omega (arith, e, s .few)) true fits refl)
 
 -- ---- the whole
 -- ranges first, as the definition has them; thing by thing, as the code tests them

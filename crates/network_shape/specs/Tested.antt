@@ -1,6 +1,6 @@
 -- What the test for shape asks, thing by thing: of its words that they are in range, and of what they mean that it fits.
 use mathlib.Core.Path.{_≡_}
-use mathlib.Core.Bool.{Bool, _&&_}
+use mathlib.Core.Bool.{Bool, true, _&&_}
 use mathlib.Core.List.{List, map}
 use Prim.Native.Nat.{ℕ, _*_, _≤_, _<_}
 use lib.ListN.{length, getD}
@@ -36,6 +36,16 @@ messageTest h p x = messageRange x && messageFits byNumber h p (messageIn x)
 
 abbrev pub lineTest : List Item → List Record → ℕ → List ℕ → Bool
 lineTest xs h k x = lineRange x && lineFits xs h k (lineIn x)
+
+-- a line that holds nothing, and says that nothing has arrived: most lines are idle
+abbrev pub idle : List ℕ → Bool
+idle x = eqb (length (lineIn x .messages)) 0 && eqb (lineIn x .arrived) 0
+
+-- of the lines from number k on, those before number r are idle
+pub record Skipped (w : List ℕ) (k r : ℕ) : Type 0 where
+  pub from : k ≤ r
+  pub few : r ≤ linesMost
+  pub between : (i : ℕ) → k ≤ i → i < r → idle (part w (i * lineSize) lineSize) ≡ true
 
 -- the test of a line by the bits of all lines: that of every placement that gives these
 abbrev pub LineTested : ℕ → List Record → ℕ → List ℕ → Bool → Type 0

@@ -35,7 +35,7 @@ ghost use Rattle.protocol.specs.Network.{linesMost};
 ghost use Rattle.protocol.specs.Steps.{noSuchSite};
 ghost use Rattle.network_layout.specs.Layout.{stateSize};
 ghost use Rattle.network_layout.specs.InWords.{shaped as shapedWords, numberIn};
-ghost use Rattle.network_shape.specs.Tested.{countsFit, historyIn, recordTest, commitTest, messageTest, lineTest, groupShaped, historyShaped, linesShaped, Counted, Places, MessageAsked, MessagesAsked, LineAsked, HeldAsked, LinesAsked, MadeAsked, LineTested};
+ghost use Rattle.network_shape.specs.Tested.{countsFit, historyIn, recordTest, commitTest, messageTest, lineTest, groupShaped, historyShaped, linesShaped, Counted, Places, MessageAsked, MessagesAsked, LineAsked, HeldAsked, LinesAsked, MadeAsked, LineTested, idle, Skipped};
 
 // 6 where the words are not those of a network, 7 where it has no such site, else 0.
 pub fn site_number(state: &[u32], site: u32) -> u32
@@ -164,17 +164,42 @@ fn lines_shaped(w: &[u32], placed: &[u32], items: usize, kept: &[u32], made: u32
     ensures { λ r. ⌜ r ≡ everyFrom (lineTest (itemsIn items (now (placed .entry))) (historyIn (now (kept .entry)) made)) 0 (chunks lineSize linesMost (now (w .entry))) ⌝ }
 {
     let given = placement_lines::lines(placed, items);
-    let mut k = 0;
+    let mut k = next_used(w, 0);
     while k < LINES_MOST {
         if !line_shaped(chunk(w, k, LINE), k, given, kept, made) {
             return false;
         }
-        k += 1;
+        k = next_used(w, k + 1);
     }
     true
 }
 
-// Whether line k fits, by the bits of all lines: at once where it holds nothing.
+// The first line from number k on that is not idle; 64 where there is none.
+fn next_used(w: &[u32], k: usize) -> usize
+    requires { ⌜ Places (now w) lineSize linesMost k ⌝ }
+    ensures { λ r. ⌜ Skipped (now (w .entry)) k r ⌝ }
+{
+    let mut i = k;
+    while i < LINES_MOST {
+        if !is_idle(chunk(w, i, LINE)) {
+            return i;
+        }
+        i += 1;
+    }
+    i
+}
+
+// Whether a line holds nothing, and says that nothing has arrived.
+fn is_idle(l: &[u32]) -> bool
+    ensures { λ r. ⌜ r ≡ idle (now (l .entry)) ⌝ }
+{
+    if lines::is_empty(l) {
+        return lines::arrived(l) == 0;
+    }
+    false
+}
+
+// Whether line k fits, by the bits of all lines; one that holds nothing, where nothing has arrived.
 fn line_shaped(l: &[u32], k: usize, given: u64, kept: &[u32], made: u32) -> bool
     requires { ⌜ LineAsked (now l) k (now kept) made ⌝ }
     ensures { λ r. ⌜ LineTested given (historyIn (now (kept .entry)) made) k (now (l .entry)) r ⌝ }

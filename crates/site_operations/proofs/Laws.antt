@@ -1,17 +1,17 @@
 -- Laws of operations in words, and of the table that they write.
 use mathlib.Core.Path.{_≡_, refl, sym, ap, ap₂, _∙_}
-use mathlib.Core.List.{List, [], _∷_, _++_, map, map-append, append-nil}
+use mathlib.Core.List.{List, [], _∷_, _++_, map, map-append}
 use Prim.Native.Nat.{ℕ, suc, _+_, _*_, _-_, _≤_, _<_}
 use native.Mathlib.Omega.{arith}
 use native.Mathlib.Numerals.{add-one}
 use lib.IntN.{ℤ, pos}
-use lib.ListN.{length, getD, set, take, drop, replicate, length-map, length-append, length-drop, drop-of-length-le, List·getD-map, List·getD-eq-default}
-use lib.Seq.{drop-cons, drop-at, take-all, length-take-le}
+use lib.ListN.{length, getD, set, drop, replicate, length-map, drop-of-length-le, List·getD-map, List·getD-eq-default}
+use lib.Seq.{drop-cons}
 use mathlib.Core.Bool.{Bool, true, false, cond}
 use borrow.Author.Tests.{eq-eqb, ne-eqb}
 use mir.Val.{toZ}
 use mir.Syntax.{w32}
-use Rattle.words.specs.Words.{part, put, chunks, laid, overlaid}
+use Rattle.words.specs.Words.{part, put, chunks, laid}
 use Rattle.words.proofs.Parts.{part-getD, put-here, put-past, put-length}
 use Rattle.words.proofs.Chunks.{chunks-length, chunks-at, chunks-last, chunks-below}
 use Rattle.words.proofs.Walks.{laid-in}
@@ -97,23 +97,6 @@ next-laid i os out out′ o l h p =
     record {
       ops-are = p .laid h ∙ ap (λ (x : List Op). x ++ (o ∷ [])) (l .ops-are);
       filled = filled-more 0 opsSize (i * opSize) ((i + 1) * opSize) out out′ (l .filled) (omega arith) (omega arith) (p .size) (p .behind h);
-    }
-
--- the first n operations of a record's words, laid over zeros
-pub front-laid : (n : ℕ) (x : List ℕ) → length x ≡ opsSize → n ≤ opsMost → OpsLaid n (opsIn n x) (overlaid (replicate opsSize 0) (take (n * opSize) x))
-front-laid n x size few =
-    let at = n * opSize in
-    let zeros : List ℕ = replicate opsSize 0 in
-    let front : length (take at x) ≡ at = length-take-le at x (omega arith) in
-    let rest : length (drop at zeros) ≡ opsSize - at = length-drop at zeros in
-    let out : overlaid zeros (take at x) ≡ take at x ++ drop at zeros = ap₂ (λ (a b : List ℕ). a ++ b) (take-all opsSize (take at x) (omega arith)) (ap (λ (k : ℕ). drop k zeros) front) in
-    let none : drop (opsSize - at) (drop at x) ≡ [] = drop-of-length-le (drop at x) {i = opsSize - at} (omega (arith, length-drop at x)) in
-    let is-put : overlaid zeros (take at x) ≡ put x at (opsSize - at) (drop at zeros) = out ∙ sym (ap (λ (l : List ℕ). take at x ++ (drop at zeros ++ l)) none ∙ ap (λ (l : List ℕ). take at x ++ l) (append-nil (drop at zeros))) in
-    record {
-      ops-are = ap (opsIn n) is-put ∙ ap (map opIn) (chunks-below opSize n x at (opsSize - at) (drop at zeros) (omega arith) (omega arith) rest);
-      filled = filled-more 0 opsSize 0 at zeros (overlaid zeros (take at x)) (none-laid .filled) (omega arith) (omega arith)
-          (ap length out ∙ length-append (take at x) (drop at zeros) ∙ omega (arith, front, rest))
-          (ap (drop at) out ∙ drop-at (take at x) (drop at zeros) at front);
     }
 
 -- ---- all operations

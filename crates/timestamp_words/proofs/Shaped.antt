@@ -16,11 +16,11 @@ use Rattle.timestamp_order.specs.Made.{rising, madeBy}
 use Rattle.timestamp_order.proofs.Timestamp.{last-at}
 
 -- ---- the tuples that words hold
-pairs-length : (w : List ℕ) (at n : ℕ) → length (pairsAt w at n) ≡ n
+pub pairs-length : (w : List ℕ) (at n : ℕ) → length (pairsAt w at n) ≡ n
 pairs-length w at zero = refl
 pairs-length w at (suc n) = ap suc (pairs-length w (at + pairSize) n)
 
-pairs-at : (w : List ℕ) (at n i : ℕ) → i < n → getD (pairsAt w at n) i noPair ≡ pairAt w (at + i * pairSize)
+pub pairs-at : (w : List ℕ) (at n i : ℕ) → i < n → getD (pairsAt w at n) i noPair ≡ pairAt w (at + i * pairSize)
 pairs-at w at zero i h = absurd (not-suc-le-zero h)
 pairs-at w at (suc n) zero h = let e : at ≡ at + 0 * pairSize = omega arith in ap (pairAt w) e
 pairs-at w at (suc n) (suc i) h = let e : at + pairSize + i * pairSize ≡ at + suc i * pairSize = omega arith in pairs-at w (at + pairSize) n i (omega arith) ∙ ap (pairAt w) e

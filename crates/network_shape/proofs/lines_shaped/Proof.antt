@@ -1,6 +1,6 @@
 -- `lines_shaped` leaves at the first line that does not fit.
 use mathlib.Core.Path.{_≡_, refl, ap, _∙_}
-use Prim.Native.Nat.{_*_, _≤_, _-_}
+use Prim.Native.Nat.{_+_, _*_, _≤_, _-_}
 use native.Mathlib.Omega.{arith}
 use borrow.Author.Needs.{needs}
 use borrow.Author.Tests.{not-true, not-false}
@@ -11,7 +11,7 @@ use Rattle.placement.specs.InWords.{itemsIn}
 use Rattle.lines.specs.InWords.{lineSize}
 use Rattle.protocol.specs.Network.{linesMost}
 use Rattle.network_shape.specs.Tested.{historyIn, lineTest}
-use Rattle.network_shape.proofs.ShapeLaws.{placed-lines, Passed, walk-false, walk-next, walk-done}
+use Rattle.network_shape.proofs.ShapeLaws.{placed-lines, Passed, walk-false, walk-next, walk-done, skip}
 use Rattle.network_shape.proofs.lines_shaped.Statement.{statement}
 use Rattle.network_shape.proofs.lines_shaped.Tie as tie
 
@@ -23,7 +23,7 @@ abbrev μ-loop : tie.MeasureT-loop
 
 -- the state of the loop, and what the function was given
 abbrev entry : tie.At-loop Inv-loop μ-loop → tie.Start Inv-loop μ-loop
-entry h = h .before .before .before .before .before
+entry h = h .before .before .before .before .before .before
 
 -- what a turn asks
 asked : (c : tie.After-line-shaped Inv-loop μ-loop) → let h = c .before .before .before in let A = entry h .args in c .line-shaped .result ≡ lineTest (itemsIn (A .items) (A .placed .now)) (historyIn (A .kept .now) (A .made)) (h .loop .k) (part (A .w .now) (h .loop .k * lineSize) lineSize)
@@ -32,14 +32,21 @@ asked c =
     let s = entry h in
     let A = s .args in
     let xs = itemsIn (A .items) (A .placed .now) in
-    let bits = placed-lines (A .items) (s .pre .few-items) (A .placed .now) (h .before .lines .result) (h .before .lines .ensures) in
+    let bits = placed-lines (A .items) (s .pre .few-items) (A .placed .now) (h .before .before .lines .result) (h .before .before .lines .ensures) in
     c .line-shaped .ensures xs bits ∙ ap (lineTest xs (historyIn (A .kept .now) (A .made)) (h .loop .k)) (c .before .chunk .ensures)
 
 lines-requires : tie.Need-lines-requires Inv-loop μ-loop
 lines-requires c κs = search needs
 
+next-used-requires : tie.Need-next-used-requires Inv-loop μ-loop
+next-used-requires c κs = record { sized = c .before .before .before .before .pre .sized; few = omega arith }
+
 loop-holds : tie.Need-loop-holds Inv-loop μ-loop
-loop-holds c = (omega arith, refl)
+loop-holds c =
+    let s = c .before .before .before .before .before in
+    let A = s .args in
+    let first = c .next-used .ensures in
+    (first .few, skip (itemsIn (A .items) (A .placed .now)) (historyIn (A .kept .now) (A .made)) (A .w .now) 0 (c .next-used .result) first refl)
 
 chunk-requires : tie.Need-chunk-requires Inv-loop μ-loop
 chunk-requires c κs = search needs
@@ -60,18 +67,32 @@ returns c =
     let l = turn .before .loop in
     walk-false (lineTest (itemsIn (A .items) (A .placed .now)) (historyIn (A .kept .now) (A .made))) lineSize (linesMost) (A .w .now) (l .k) (l .inv .1) (turn .loop-test .taken) (c .before .line-shaped .result) (asked (c .before)) (not-true _ (c .if1 .taken))
 
-add-k : tie.Need-add-k Inv-loop μ-loop
-add-k c = search needs
+add-next-used : tie.Need-add-next-used Inv-loop μ-loop
+add-next-used c = search needs
+
+next-used-requires-2 : tie.Need-next-used-requires-2 Inv-loop μ-loop
+next-used-requires-2 c κs =
+    let turn = c .before .before .before in
+    record { sized = entry (turn .before) .pre .sized; few = omega (arith, turn .loop-test .taken) }
 
 loop-less : tie.Need-loop-less Inv-loop μ-loop
-loop-less c = search needs
+loop-less c =
+    let turn = c .before .before .before .before in
+    omega (arith, turn .loop-test .taken, c .next-used2 .ensures .from)
 
 loop-again : tie.Need-loop-again Inv-loop μ-loop
 loop-again c =
-    let turn = c .before .before .before in
+    let asks = c .before in
+    let turn = asks .before .before .before in
     let A = entry (turn .before) .args in
     let l = turn .before .loop in
-    (omega arith, walk-next (lineTest (itemsIn (A .items) (A .placed .now)) (historyIn (A .kept .now) (A .made))) lineSize (linesMost) (A .w .now) (l .k) (l .inv .1) (turn .loop-test .taken) (c .before .line-shaped .result) (asked (c .before)) (not-false _ (c .if1 .left)))
+    let xs = itemsIn (A .items) (A .placed .now) in
+    let h = historyIn (A .kept .now) (A .made) in
+    let next = c .next-used2 .ensures in (
+      next .few,
+      skip xs h (A .w .now) (l .k + 1) (c .next-used2 .result) next
+          (walk-next (lineTest xs h) lineSize (linesMost) (A .w .now) (l .k) (l .inv .1) (turn .loop-test .taken) (asks .before .line-shaped .result) (asked (asks .before)) (not-false _ (asks .if1 .left))),
+    )
 
 returns-2 : tie.Need-returns-2 Inv-loop μ-loop
 returns-2 c =
@@ -86,11 +107,13 @@ lines-shaped-spec =
     Inv-loop
     μ-loop
     lines-requires
+    next-used-requires
     loop-holds
     chunk-requires
     line-shaped-requires
     returns
-    add-k
+    add-next-used
+    next-used-requires-2
     loop-less
     loop-again
     returns-2)
