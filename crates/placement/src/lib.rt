@@ -73,7 +73,7 @@ pub fn fits(sites: u32, w: &[u32], items: usize) -> bool
 fn item_fits(sites: u32, primary: u32, mask: u32) -> bool
     ensures { λ r. ⌜ r ≡ eqb (itemNumber sites (record { primary = primary; mask = mask })) 0 ⌝ }
 {
-    if sites <= primary {
+    if primary >= sites {
         return false;
     }
     if masks::above(mask, sites) != 0 {
