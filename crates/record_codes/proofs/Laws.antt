@@ -1,28 +1,25 @@
 -- Laws of codes and values: the operations read from them, the words that packing leaves, and the test of the codes.
-use mathlib.Core.Path.{_≡_, refl, sym, ap, ap₂, subst, _∙_}
+use mathlib.Core.Path.{_≡_, refl, sym, ap, ap₂, _∙_}
 use mathlib.Core.Bool.{Bool, true, false, _&&_}
-use mathlib.Core.List.{List, [], _∷_, _++_, map}
-use Prim.Native.Nat.{ℕ, zero, suc, _+_, _*_, _-_, _/_, _%_, _^_, _≤_, _<_, min}
+use mathlib.Core.List.{List, [], _∷_}
+use Prim.Native.Nat.{ℕ, zero, suc, _+_, _*_, _-_, _/_, _%_, _^_, _≤_, _<_}
 use native.Mathlib.Omega.{arith}
-use native.Mathlib.Numerals.{add-one}
-use lib.ListN.{length, getD, set, take, drop, length-set, length-drop, length-map, drop-of-length-le, List·getD-map}
-use lib.Seq.{getD-set-same, getD-set-other, getD-take, getD-drop, take-all, take-suc, take-length, length-take-le, ext-getD}
+use lib.ListN.{length, getD, set, take, drop, length-set}
+use lib.Seq.{getD-set-same, getD-set-other, getD-drop}
 use lib.Bits.{bitAnd}
-use lib.Dec.{ltb, leb, eqb}
+use lib.Dec.{ltb, eqb}
 use mir.Val.{toZ}
 use mir.Syntax.{w32}
-use borrow.Author.Tests.{lt-ltb, le-ltb, ltb-true, ltb-false, le-leb, lt-leb, leb-true, eq-eqb, ne-eqb, eqb-true, eqb-false}
+use borrow.Author.Tests.{lt-ltb, le-ltb, ltb-true, ltb-false, eq-eqb, ne-eqb, eqb-true, eqb-false}
 use Rattle.lists.specs.Lists.{every}
-use Rattle.lists.proofs.Every.{and-true, every-all}
+use Rattle.lists.proofs.Every.{and-true}
 use Rattle.lanes.specs.Lanes.{bytes, each}
 use Rattle.lanes.proofs.Laws.{bytes-length, bytes-take, bytes-of-two, below-128, below-least, raised-fits, each-times}
-use Rattle.words.specs.Words.{part, put, overlaid}
-use Rattle.words.proofs.Parts.{part-length, part-getD, put-length, put-here, put-below, put-getD-below}
-use Rattle.words.proofs.Walks.{overlaid-same}
-use Rattle.site_operations.specs.Operations.{Op, noOp, writesItem}
-use Rattle.site_operations.specs.InWords.{opIn, opAt, opsIn, opsSize, OpsLaid, Put}
-use Rattle.site_operations.proofs.Laws.{ops-at, ops-length, next-laid}
-use Rattle.limits.specs.Limits.{itemsMost, opsMost}
+use Rattle.words.specs.Words.{part}
+use Rattle.words.proofs.Parts.{part-getD}
+use Rattle.site_operations.specs.Operations.{noOp, writesItem}
+use Rattle.site_operations.specs.InWords.{opAt}
+use Rattle.limits.specs.Limits.{opsMost}
 use Rattle.record_codes.specs.Codes.{valuesAt, packedSize, codesMost, opOfCode, opsOf, joined, codeNumber, codesIn, placesIn, codeOf, Packed}
 
 -- ---- read
