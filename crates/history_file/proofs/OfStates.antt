@@ -22,8 +22,9 @@ use Rattle.timestamp_order.proofs.Made.{made-parts, made-length}
 use Rattle.site_operations.specs.Operations.{Op}
 use Rattle.limits.specs.Limits.{opsMost}
 use Rattle.placement.specs.Placement.{itemsNumber}
+use Rattle.record_codes.specs.Codes.{codesMost, valuesAt, opOfCode, opsOf, codesIn, placesIn}
 use Rattle.records.specs.Records.{opFits, recordFits}
-use Rattle.records.specs.InWords.{recordIn, recordRange, recordSize, codesMost, valuesAt, opOfCode, opsOf, codesIn, placesIn, countIn}
+use Rattle.records.specs.InWords.{recordIn, recordRange, recordSize, countIn}
 use Rattle.records.proofs.Laws.{count-law}
 use Rattle.network_layout.specs.Layout.{historyAt, historySize}
 use Rattle.protocol.specs.Network.{placeOf, lineFits, wellShaped}

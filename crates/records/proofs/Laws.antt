@@ -2,20 +2,19 @@
 use mathlib.Core.Path.{_≡_, refl, sym, ap, ap₂, subst, _∙_}
 use mathlib.Core.Bool.{Bool, true, false, _&&_}
 use mathlib.Core.List.{List, [], _∷_, _++_, map}
-use Prim.Native.Nat.{ℕ, zero, suc, _+_, _*_, _-_, _/_, _%_, _^_, _≤_, _<_, min}
+use Prim.Native.Nat.{ℕ, zero, suc, _+_, _*_, _-_, _/_, _%_, _≤_, _<_, min}
 use native.Mathlib.Omega.{arith}
 use native.Mathlib.Numerals.{add-one}
 use lib.ListN.{length, getD, set, take, drop, length-set, length-drop, length-map, drop-of-length-le, List·getD-map}
-use lib.Seq.{getD-set-same, getD-set-other, getD-take, getD-drop, take-all, take-suc, take-length, length-take-le, ext-getD}
-use lib.Bits.{bitAnd}
+use lib.Seq.{getD-set-same, getD-set-other, getD-take, take-all, take-suc, take-length, length-take-le, ext-getD}
 use lib.Dec.{ltb, leb, eqb}
 use mir.Val.{toZ}
 use mir.Syntax.{w32}
-use borrow.Author.Tests.{lt-ltb, le-ltb, ltb-true, ltb-false, le-leb, lt-leb, leb-true, eq-eqb, ne-eqb, eqb-true, eqb-false}
+use borrow.Author.Tests.{lt-ltb, le-ltb, ltb-true, ltb-false, le-leb, lt-leb, leb-true, eq-eqb, ne-eqb}
 use Rattle.lists.specs.Lists.{every}
 use Rattle.lists.proofs.Every.{and-true, every-all}
-use Rattle.lanes.specs.Lanes.{bytes, each}
-use Rattle.lanes.proofs.Laws.{bytes-length, bytes-take, bytes-of-two, below-128, below-least, raised-fits, each-times}
+use Rattle.lanes.specs.Lanes.{bytes}
+use Rattle.lanes.proofs.Laws.{bytes-length}
 use Rattle.words.specs.Words.{part, put, overlaid}
 use Rattle.words.proofs.Parts.{part-length, part-getD, put-length, put-here, put-below, put-getD-below}
 use Rattle.words.proofs.Walks.{overlaid-same}
@@ -24,12 +23,14 @@ use Rattle.timestamp_order.specs.Order.{byNumber}
 use Rattle.timestamp_words.specs.InWords.{stampIn, stampSize, stampRange, stampWords, stampShaped}
 use Rattle.timestamp_order.specs.Made.{madeBy}
 use Rattle.timestamp_words.proofs.Words.{stamp-front, words-back, words-length}
-use Rattle.site_operations.specs.Operations.{Op, noOp, writesItem}
+use Rattle.site_operations.specs.Operations.{Op, noOp}
 use Rattle.site_operations.specs.InWords.{opIn, opAt, opsIn, opsSize, OpsLaid, Put}
 use Rattle.site_operations.proofs.Laws.{ops-at, ops-length, next-laid}
 use Rattle.limits.specs.Limits.{itemsMost, opsMost}
 use Rattle.records.specs.Records.{opFits, recordFits}
-use Rattle.records.specs.InWords.{stampAt, codesAt, valuesAt, recordSize, packedSize, codesMost, opOfCode, opsOf, joined, codeNumber, codesIn, placesIn, countIn, coded, codeOf, recordIn, recordRange, Packed, Written}
+use Rattle.record_codes.specs.Codes.{stampAt, codesAt, valuesAt, packedSize, codesMost, opOfCode, opsOf, joined, codeNumber, codesIn, placesIn, coded, codeOf, Packed}
+use Rattle.record_codes.proofs.Laws.{places-length, place-at}
+use Rattle.records.specs.InWords.{recordSize, countIn, recordIn, recordRange, Written}
 
 -- ---- read
 module _ (w : List ℕ) where
@@ -41,47 +42,14 @@ module _ (w : List ℕ) where
   unfolding recordIn
   stamp-long = ap stampIn (take-all (length w - 2) (drop 2 w) (omega (arith, length-drop 2 w))) ∙ sym (stamp-front (drop 2 w))
 
--- the operations of codes and values, one by one
-pub ops-of-length : (cs vs : List ℕ) → length (opsOf cs vs) ≡ length cs
-ops-of-length [] vs = refl
-ops-of-length (c ∷ cs) vs = ap suc (ops-of-length cs (drop 1 vs))
-
-ops-of-at : (cs vs : List ℕ) (i : ℕ) → i < length cs → getD (opsOf cs vs) i noOp ≡ opOfCode (getD cs i 0) (getD vs i 0)
-ops-of-at [] vs i h = absurd (omega arith)
-ops-of-at (c ∷ cs) vs zero h = refl
-ops-of-at (c ∷ cs) vs (suc i) h =
-    let next : 1 + i ≡ suc i = omega arith in
-    ops-of-at cs (drop 1 vs) i (omega arith) ∙ ap (opOfCode (getD cs i 0)) (getD-drop 1 vs i 0 ∙ ap (λ (k : ℕ). getD vs k 0) next)
-
 module _ (w : List ℕ) where
-  pub places-length : length (placesIn w) ≡ opsMost
-  places-length = ops-of-length (codesIn w) (part w valuesAt opsMost) ∙ bytes-length opsMost (codeNumber w)
-
   pub count-law : length (recordIn w .ops) ≡ min (getD w 1 0) opsMost
   unfolding recordIn
-  count-law = length-take-le (countIn w) (placesIn w) (omega (arith, places-length))
-
-  pub place-at : (i : ℕ) → i < opsMost → getD (placesIn w) i noOp ≡ opOfCode (getD (codesIn w) i 0) (getD w (valuesAt + i) 0)
-  place-at i h =
-      ops-of-at (codesIn w) (part w valuesAt opsMost) i (omega (arith, bytes-length opsMost (codeNumber w)))
-      ∙ ap (opOfCode (getD (codesIn w) i 0)) (part-getD w valuesAt opsMost i h)
+  count-law = length-take-le (countIn w) (placesIn w) (omega (arith, places-length w))
 
   pub op-at : (i : ℕ) → i < length (recordIn w .ops) → getD (recordIn w .ops) i noOp ≡ getD (placesIn w) i noOp
   unfolding recordIn
   op-at i h = getD-take (countIn w) (placesIn w) i noOp (omega (arith, count-law))
-
-  module _ (i : ℕ) (h : i < opsMost) (c : ℕ) (is : c ≡ getD (codesIn w) i 0) where
-    pub unpacked : (v : ℕ) → v ≡ getD w (valuesAt + i) 0 → opOfCode c v ≡ getD (placesIn w) i noOp
-    unpacked v e = ap₂ opOfCode is e ∙ sym (place-at i h)
-
-    coded-write : (item : ℕ) → writesItem item (getD (placesIn w) i noOp) ≡ (eqb (c % 2) 1 && eqb (c / 2) item)
-    coded-write item = ap (writesItem item) (sym (unpacked (getD w (valuesAt + i) 0) refl))
-
-    pub writes-not : (item : ℕ) → (c % 2 ≡ 1 → ⊥) → false ≡ writesItem item (getD (placesIn w) i noOp)
-    writes-not item z = sym (coded-write item ∙ ap (λ (b : Bool). b && eqb (c / 2) item) (ne-eqb (c % 2) 1 z))
-
-    pub writes-if : (item : ℕ) → c % 2 ≡ 1 → eqb (c / 2) item ≡ writesItem item (getD (placesIn w) i noOp)
-    writes-if item e = sym (coded-write item ∙ ap (λ (b : Bool). b && eqb (c / 2) item) (eq-eqb (c % 2) 1 e))
 
   -- the operations laid so far, and one more
   pub laid-next : (i : ℕ) (out out′ : List ℕ) → i < length (recordIn w .ops) → OpsLaid i (take i (recordIn w .ops)) out → Put out out′ i (getD (placesIn w) i noOp) → OpsLaid (i + 1) (take (i + 1) (recordIn w .ops)) out′
@@ -95,40 +63,6 @@ module _ (w : List ℕ) where
   laid-all i out is laid =
       let os = recordIn w .ops in
       subst (λ (xs : List Op). OpsLaid (length os) xs out) (take-length os) (subst (λ (k : ℕ). OpsLaid k (take k os) out) is laid)
-
--- ---- packed
--- the values of the first i operations
-abbrev pub Valued : List ℕ → List ℕ → ℕ → Type 0
-Valued ops w i = (j : ℕ) → j < i → toZ w32 (getD w (2 + j) 0) ≡ opAt ops j .value
-
-pub valued-next : (ops w : List ℕ) (size : length w ≡ packedSize) (i v p : ℕ) → p ≡ 2 + i → i < opsMost → Valued ops w i → toZ w32 v ≡ opAt ops i .value → Valued ops (set w p v) (i + 1)
-valued-next ops w size i v p at few before is j h = go (eqb j i) refl
-  where
-    go : (t : Bool) → eqb j i ≡ t → toZ w32 (getD (set w p v) (2 + j) 0) ≡ opAt ops j .value
-    go true e =
-        let same : j ≡ i = eqb-true j i e in
-        let here : 2 + j ≡ p = omega arith in
-        ap (toZ w32) (ap (λ (k : ℕ). getD (set w p v) k 0) here ∙ getD-set-same w p v 0 (omega arith)) ∙ is ∙ ap (λ (k : ℕ). opAt ops k .value) (sym same)
-    go false e =
-        let apart : j ≡ i → ⊥ = eqb-false j i e in
-        ap (toZ w32) (getD-set-other w p (2 + j) v 0 (λ z. apart (omega arith))) ∙ before j (omega (arith, apart))
-
-pub packed : (ops w : List ℕ) (size : length w ≡ packedSize) → Valued ops w opsMost → (low high : ℕ)
-    → low ≡ codeOf (opAt ops 0) + 256 * (codeOf (opAt ops 1) + 256 * (codeOf (opAt ops 2) + 256 * codeOf (opAt ops 3)))
-    → high ≡ codeOf (opAt ops 4) + 256 * (codeOf (opAt ops 5) + 256 * (codeOf (opAt ops 6) + 256 * codeOf (opAt ops 7)))
-    → Packed ops (set (set w 0 low) 1 high)
-packed ops w size valued low high l g =
-    let u = set w 0 low in
-    let first : getD (set u 1 high) 0 0 ≡ low = getD-set-other u 1 0 high 0 (λ z. omega arith) ∙ getD-set-same w 0 low 0 (omega arith) in
-    let second : getD (set u 1 high) 1 0 ≡ high = getD-set-same u 1 high 0 (omega (arith, length-set w 0 low)) in
-    record {
-      codes-are = λ i h.
-          ap₂ (λ (a b : ℕ). getD (bytes opsMost (joined a b)) i 0) first second
-          ∙ bytes-of-two (λ j. codeOf (opAt ops j)) (λ j. omega arith) low high l g i h;
-      values-are = λ i h.
-          ap (toZ w32) (getD-set-other u 1 (2 + i) high 0 (λ z. omega arith) ∙ getD-set-other w 0 (2 + i) low 0 (λ z. omega arith))
-          ∙ valued i h;
-    }
 
 -- ---- written: the site and the number of operations, then the timestamp, then the operations
 module _ (w : List ℕ) (size : length w ≡ recordSize) (site n : ℕ) where
@@ -257,60 +191,18 @@ fits-more items more h (o ∷ os) e =
     rw (k .0, lt-ltb (o .item) more (omega (arith, ltb-true (o .item) items (k .1)))) (fits-more items more h os (q .1))
 
 -- ---- the test of the codes
--- of codes below 128 those of the items are those that fit
-fits-by-code : (items c v : ℕ) → c < codesMost → ltb c (codesMost - (codesMost - 2 * items)) ≡ opFits items (opOfCode c v)
-fits-by-code items c v l = go (ltb (c / 2) items) refl ∙ sym (ap (λ (b : Bool). b && ltb (c / 2) items) (le-leb (c % 2) 1 (omega arith)))
+-- codes below twice the items are of operations that fit
+fits-by-code : (items c v : ℕ) → ltb c (2 * items) ≡ opFits items (opOfCode c v)
+fits-by-code items c v = go (ltb (c / 2) items) refl ∙ sym (ap (λ (b : Bool). b && ltb (c / 2) items) (le-leb (c % 2) 1 (omega arith)))
   where
-    go : (t : Bool) → ltb (c / 2) items ≡ t → ltb c (codesMost - (codesMost - 2 * items)) ≡ t
-    go true f = lt-ltb c (codesMost - (codesMost - 2 * items)) (omega (arith, ltb-true (c / 2) items f))
-    go false f = le-ltb c (codesMost - (codesMost - 2 * items)) (omega (arith, ltb-false (c / 2) items f))
+    go : (t : Bool) → ltb (c / 2) items ≡ t → ltb c (2 * items) ≡ t
+    go true f = lt-ltb c (2 * items) (omega (arith, ltb-true (c / 2) items f))
+    go false f = le-ltb c (2 * items) (omega (arith, ltb-false (c / 2) items f))
 
-all-fit-by-code : (items : ℕ) (cs vs : List ℕ) → every (λ c. ltb c codesMost) cs ≡ true → every (λ c. ltb c (codesMost - (codesMost - 2 * items))) cs ≡ every (opFits items) (opsOf cs vs)
-all-fit-by-code items [] vs e = refl
-all-fit-by-code items (c ∷ cs) vs e =
-    let q = and-true (ltb c codesMost) (every (λ c. ltb c codesMost) cs) e in
-    ap₂ (λ (s t : Bool). s && t) (fits-by-code items c (getD vs 0 0) (ltb-true c codesMost (q .0))) (all-fit-by-code items cs (drop 1 vs) (q .1))
-
--- the first operations are those of the first codes
-ops-of-take : (n : ℕ) (cs vs : List ℕ) → take n (opsOf cs vs) ≡ opsOf (take n cs) vs
-ops-of-take zero cs vs = refl
-ops-of-take (suc n) [] vs = refl
-ops-of-take (suc n) (c ∷ cs) vs = ap (λ (os : List Op). opOfCode c (getD vs 0 0) ∷ os) (ops-of-take n cs (drop 1 vs))
-
-module _ (w : List ℕ) (items n : ℕ) (few : n ≤ opsMost) where
-  abbrev inRange : Bool
-  inRange = every (λ c. ltb c codesMost) (take n (codesIn w))
-
-  abbrev fitting : Bool
-  fitting = inRange && every (opFits items) (take n (placesIn w))
-
-  codes-first : take n (codesIn w) ≡ bytes n (codeNumber w)
-  codes-first = bytes-take n opsMost (codeNumber w) few
-
-  module _ (x tops : ℕ) (xs : x ≡ codeNumber w) (ts : tops ≡ each 128 n) where
-    tested : eqb (bitAnd x tops) 0 ≡ inRange
-    tested = ap₂ (λ (a b : ℕ). eqb (bitAnd a b) 0) xs ts ∙ below-128 n (codeNumber w) ∙ ap (every (λ c. ltb c codesMost)) (sym codes-first)
-
-    pub fit-none : (bitAnd x tops ≡ 0 → ⊥) → false ≡ fitting
-    fit-none z = sym (ap (λ (b : Bool). b && every (opFits items) (take n (placesIn w))) (sym tested ∙ ne-eqb (bitAnd x tops) 0 z))
-
-    module _ (z : bitAnd x tops ≡ 0) (k : ℕ) (ks : k ≡ codesMost - 2 * items) where
-      all-below : inRange ≡ true
-      all-below = sym tested ∙ eq-eqb (bitAnd x tops) 0 z
-
-      pub fit-sum : bitAnd x (each 127 8) + k * 72340172838076673 < 2 ^ 64
-      fit-sum = omega (arith, raised-fits x k (omega arith), each-times k)
-
-      pub fit-all : eqb (bitAnd (bitAnd x (each 127 8) + k * 72340172838076673) tops) 0 ≡ fitting
-      fit-all =
-          let low : every (λ c. ltb c codesMost) (bytes n x) ≡ true = ap (λ (y : ℕ). every (λ c. ltb c codesMost) (bytes n y)) xs ∙ sym (ap (every (λ c. ltb c codesMost)) codes-first) ∙ all-below in
-          ap₂ (λ (a b : ℕ). eqb (bitAnd (bitAnd x (each 127 8) + a) b) 0) (each-times k) ts
-          ∙ below-least x k (omega arith) n few low
-          ∙ ap₂ (λ (a b : ℕ). every (λ c. ltb c (codesMost - a)) (bytes n b)) ks xs
-          ∙ ap (every (λ c. ltb c (codesMost - (codesMost - 2 * items)))) (sym codes-first)
-          ∙ all-fit-by-code items (take n (codesIn w)) (part w valuesAt opsMost) all-below
-          ∙ ap (every (opFits items)) (sym (ops-of-take n (codesIn w) (part w valuesAt opsMost)))
-          ∙ sym (ap (λ (b : Bool). b && every (opFits items) (take n (placesIn w))) all-below)
+all-fit-by-code : (items n : ℕ) (cs vs : List ℕ) → every (λ c. ltb c (2 * items)) (take n cs) ≡ every (opFits items) (take n (opsOf cs vs))
+all-fit-by-code items zero cs vs = refl
+all-fit-by-code items (suc n) [] vs = refl
+all-fit-by-code items (suc n) (c ∷ cs) vs = ap₂ (λ (s t : Bool). s && t) (fits-by-code items c (getD vs 0 0)) (all-fit-by-code items n cs (drop 1 vs))
 
 -- ---- the test for shape
 turned : (a e b c d : Bool) → ((a && e) && (b && (c && d))) ≡ (b && ((a && c) && (e && d)))
@@ -356,5 +248,7 @@ module _ (w : List ℕ) (sites items : ℕ) where
           pub shape-unmade : made ≡ false → false ≡ shape
           shape-unmade f = sym (shape-is ∙ rw (lt-ltb site sites here, sym m ∙ f))
 
-          pub shape-by-ops : made ≡ true → (k : ℕ) → k ≡ n → (fit : Bool) → fit ≡ fitting-ops k → fit ≡ shape
-          shape-by-ops t k same fit e = e ∙ ap fitting-ops same ∙ sym (shape-is ∙ rw (lt-ltb site sites here, sym m ∙ t))
+          pub shape-by-ops : made ≡ true → (k : ℕ) → k ≡ n → (fit : Bool) → fit ≡ (every (λ c. ltb c codesMost) (take k (codesIn w)) && every (λ c. ltb c (2 * items)) (take k (codesIn w))) → fit ≡ shape
+          shape-by-ops t k same fit e =
+              let by-code = all-fit-by-code items k (codesIn w) (part w valuesAt opsMost) in
+              e ∙ ap (λ (b : Bool). every (λ c. ltb c codesMost) (take k (codesIn w)) && b) by-code ∙ ap fitting-ops same ∙ sym (shape-is ∙ rw (lt-ltb site sites here, sym m ∙ t))

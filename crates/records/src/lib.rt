@@ -1,7 +1,8 @@
 // A record of the history in words of a lent slice: written, read, and tested for shape.
-mod packed; // packed.rt: its operations, as codes and values
-
 use limits::OPERATIONS_WIDE;
+use record_codes::CODES;
+use record_codes::STAMP;
+use record_codes::VALUES;
 use timestamp::Timestamp;
 ghost use mathlib.Core.Path.{_≡_};
 ghost use mathlib.Core.Bool.{_&&_};
@@ -17,16 +18,10 @@ ghost use Rattle.limits.specs.Limits.{opsMost};
 ghost use Rattle.records.specs.Records.{recordFits};
 ghost use Rattle.records.specs.InWords.{recordIn, recordRange, recordSize, Written};
 
-// Where a record has its site, the number of its operations, its timestamp, and the codes and values of its operations; and its size.
+// Where a record has its site and the number of its operations; and its size.
 const SITE: usize = 0;
 
 const COUNT: usize = SITE + 1;
-
-const STAMP: usize = COUNT + 1;
-
-const CODES: usize = STAMP + timestamp_words::WORDS;
-
-const VALUES: usize = CODES + packed::CODES;
 
 pub const WORDS: usize = VALUES + OPERATIONS_WIDE;
 
@@ -43,7 +38,7 @@ pub fn write(w: &mut [u32], site: u32, n: u32, t: Timestamp, ops: &[u32])
     w[SITE] = site;
     w[COUNT] = n;
     timestamp_words::write_to(t, &mut w[STAMP..CODES]);
-    packed::pack(&mut w[CODES..WORDS], ops);
+    record_codes::pack(&mut w[CODES..WORDS], ops);
 }
 
 // The site of a record.
@@ -82,7 +77,7 @@ pub fn operations(w: &[u32]) -> [u32; site_operations::OPERATIONS]
     let n = count(w);
     let mut i = 0;
     while i < n {
-        packed::unpack(&mut out, w, i);
+        record_codes::unpack(&mut out, w, i);
         i += 1;
     }
     out
@@ -95,7 +90,7 @@ pub fn writes(w: &[u32], item: u32) -> bool
     let n = count(w);
     let mut i = 0;
     while i < n {
-        if packed::is_write_of(w, i, item) {
+        if record_codes::is_write_of(w, i, item) {
             return true;
         }
         i += 1;
@@ -124,5 +119,5 @@ pub fn shaped(w: &[u32], sites: u32, items: u32) -> bool
     if !timestamp_words::made_by(&w[STAMP..CODES], site) {
         return false;
     }
-    packed::fit(w, words::wide(n), items)
+    record_codes::fit(w, words::wide(n), items)
 }

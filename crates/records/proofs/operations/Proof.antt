@@ -23,7 +23,7 @@ loop-holds : tie.Need-loop-holds Inv-loop μ-loop
 loop-holds c = (omega arith, none-laid)
 
 unpack-requires : tie.Need-unpack-requires Inv-loop μ-loop
-unpack-requires c κs = omega (arith, c .before .before .before .count .ensures .1)
+unpack-requires c κs = record { there = omega (arith, c .before .before .before .count .ensures .1) }
 
 add-i : tie.Need-add-i Inv-loop μ-loop
 add-i c = search needs

@@ -44,7 +44,7 @@ part-pack-start c = search needs
 part-pack-end : tie.Need-part-pack-end
 part-pack-end c =
     let A = c .before .before .before .before .before .before .before .before .args in
-    omega (arith, stamped-size (A .w .now) (c .before .before .before .before .before .if1 .left) (A .site) (A .n) (stampOf (A .t)) (c .before .before .write-to .last .1 .0) (c .before .before .write-to .ensures .0))
+    omega (arith, stamped-size (A .w .now) (c .before .before .before .before .before .if1 .left) _ _ (stampOf (A .t)) (c .before .before .write-to .last .1 .0) (c .before .before .write-to .ensures .0))
 
 pack-requires : tie.Need-pack-requires
 pack-requires c κs = search needs
@@ -52,12 +52,12 @@ pack-requires c κs = search needs
 same-length : tie.Need-same-length
 same-length c =
     let A = c .before .before .before .before .before .before .before .before .before .before .before .before .args in
-    filled-size (A .w .now) (c .before .before .before .before .before .before .before .before .before .if1 .left) (A .site) (A .n) (stampOf (A .t)) (c .before .before .before .before .before .before .write-to .last .1 .0) (c .before .before .before .before .before .before .write-to .ensures .0) (A .ops .now) (c .before .before .before .before .before .before .before .before .if2 .left) (c .before .before .pack .last .0) (c .before .before .pack .kept .0) (c .before .before .pack .ensures)
+    filled-size (A .w .now) (c .before .before .before .before .before .before .before .before .before .if1 .left) _ _ (stampOf (A .t)) (c .before .before .before .before .before .before .write-to .last .1 .0) (c .before .before .before .before .before .before .write-to .ensures .0) (A .ops .now) (c .before .before .before .before .before .before .before .before .if2 .left) (c .before .before .pack .last .0) (c .before .before .pack .kept .0) (c .before .before .pack .ensures)
 
 returns-3 : tie.Need-returns-3
 returns-3 c =
     let A = c .before .before .before .before .before .before .before .before .before .before .before .before .args in
-    written (A .w .now) (c .before .before .before .before .before .before .before .before .before .if1 .left) (A .site) (A .n) (stampOf (A .t)) (c .before .before .before .before .before .before .write-to .last .1 .0) (c .before .before .before .before .before .before .write-to .ensures .0) (A .ops .now) (c .before .before .before .before .before .before .before .before .if2 .left) (c .before .before .pack .last .0) (c .before .before .pack .kept .0) (c .before .before .pack .ensures) (c .before .before .before .before .before .before .write-to .ensures .1)
+    written (A .w .now) (c .before .before .before .before .before .before .before .before .before .if1 .left) _ _ (stampOf (A .t)) (c .before .before .before .before .before .before .write-to .last .1 .0) (c .before .before .before .before .before .before .write-to .ensures .0) (A .ops .now) (c .before .before .before .before .before .before .before .before .if2 .left) (c .before .before .pack .last .0) (c .before .before .pack .kept .0) (c .before .before .pack .ensures) (c .before .before .before .before .before .before .write-to .ensures .1)
 
 pub write-spec : {M : Type 1} → statement M
 write-spec =

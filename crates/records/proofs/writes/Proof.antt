@@ -25,7 +25,7 @@ loop-holds : tie.Need-loop-holds Inv-loop μ-loop
 loop-holds c = (omega arith, refl)
 
 is-write-of-requires : tie.Need-is-write-of-requires Inv-loop μ-loop
-is-write-of-requires c κs = omega (arith, c .before .before .count .ensures .1)
+is-write-of-requires c κs = record { there = omega (arith, c .before .before .count .ensures .1) }
 
 returns : tie.Need-returns Inv-loop μ-loop
 returns c =

@@ -5,10 +5,10 @@ use native.Mathlib.Omega.{arith}
 use lib.ListN.{length, length-set}
 use Rattle.limits.specs.Limits.{opsMost}
 use borrow.Author.Needs.{needs}
-use Rattle.records.specs.InWords.{packedSize}
-use Rattle.records.proofs.Laws.{Valued, valued-next, packed}
-use Rattle.records.proofs.packed.pack.Statement.{statement}
-use Rattle.records.proofs.packed.pack.Tie as tie
+use Rattle.record_codes.specs.Codes.{packedSize}
+use Rattle.record_codes.proofs.Laws.{Valued, valued-next, packed}
+use Rattle.record_codes.proofs.pack.Statement.{statement}
+use Rattle.record_codes.proofs.pack.Tie as tie
 
 abbrev Inv-loop : tie.InvT-loop
 Inv-loop w₀ ops i₀ w i = (i ≤ opsMost) × (length w ≡ packedSize) × Valued ops w i
@@ -17,7 +17,7 @@ abbrev μ-loop : tie.MeasureT-loop
 μ-loop w₀ ops i₀ w i = opsMost - i
 
 loop-holds : tie.Need-loop-holds Inv-loop μ-loop
-loop-holds c = (omega arith, c .before .before .pre, λ j h. absurd (omega arith))
+loop-holds c = (omega arith, c .before .before .pre .sized, λ j h. absurd (omega arith))
 
 value-requires : tie.Need-value-requires Inv-loop μ-loop
 value-requires c κs = search needs

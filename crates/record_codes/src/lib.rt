@@ -1,24 +1,27 @@
 // The operations of a record, packed: of each a code, twice its item and its kind, as a byte of two words, and the word of its value.
-use crate::CODES as FIRST;
-use crate::VALUES;
 use limits::ITEMS;
 use limits::ITEMS_WIDE;
 use limits::OPERATIONS_WIDE;
 use site_operations::WRITE;
 ghost use mathlib.Core.Path.{_≡_};
 ghost use mathlib.Core.Bool.{_&&_};
-ghost use Prim.Native.Nat.{_+_, _*_, _-_, _≤_, _<_};
-ghost use lib.ListN.{length, getD, take};
+ghost use Prim.Native.Nat.{_+_, _*_, _-_, _<_};
+ghost use lib.ListN.{getD, take};
 ghost use lib.Dec.{ltb};
 ghost use Rattle.lists.specs.Lists.{every};
 ghost use Rattle.site_operations.specs.Operations.{writesItem, noOp};
 ghost use Rattle.site_operations.specs.InWords.{opAt, Put};
-ghost use Rattle.limits.specs.Limits.{opsMost};
-ghost use Rattle.records.specs.Records.{opFits};
-ghost use Rattle.records.specs.InWords.{codeOf, codeNumber, codesIn, codesMost, placesIn, packedSize, Packed};
+ghost use Rattle.record_codes.specs.Codes.{codeOf, codeNumber, codesIn, codesMost, placesIn, AtPlace, SomeOps, PackedWords, Packed};
+
+// Where a record has its timestamp, and the codes and values of its operations.
+pub const STAMP: usize = 2;
+
+pub const CODES: usize = STAMP + timestamp_words::WORDS;
+
+pub const VALUES: usize = CODES + CODE_WORDS;
 
 // The words of codes, and how many a word holds.
-pub const CODES: usize = 2;
+const CODE_WORDS: usize = 2;
 
 const FOUR: usize = 4;
 
@@ -34,12 +37,12 @@ const TOPS: usize = 0x8080808080808080;
 // ---- written
 // The operations, three words each, packed.
 pub fn pack(w: &mut [u32], ops: &[u32])
-    requires { ⌜ length (now w) ≡ packedSize ⌝ }
+    requires { ⌜ PackedWords (now w) ⌝ }
     ensures { λ r. ⌜ Packed (now (ops .entry)) (now (w .exit)) ⌝ }
 {
     let mut i = 0;
     while i < OPERATIONS_WIDE {
-        w[CODES + i] = site_operations::value(ops, i);
+        w[CODE_WORDS + i] = site_operations::value(ops, i);
         i += 1;
     }
     w[0] = four(ops, 0);
@@ -48,7 +51,7 @@ pub fn pack(w: &mut [u32], ops: &[u32])
 
 // The codes of four operations from operation i on.
 fn four(ops: &[u32], i: usize) -> u32
-    requires { ⌜ i < opsMost ⌝ }
+    requires { ⌜ AtPlace i ⌝ }
     ensures { λ r. ⌜ r ≡ codeOf (opAt (now (ops .entry)) i) + 256 * (codeOf (opAt (now (ops .entry)) (i + 1)) + 256 * (codeOf (opAt (now (ops .entry)) (i + 2)) + 256 * codeOf (opAt (now (ops .entry)) (i + 3)))) ⌝ }
 {
     code_of(ops, i)
@@ -59,13 +62,15 @@ fn four(ops: &[u32], i: usize) -> u32
 fn code_of(ops: &[u32], i: usize) -> u32
     ensures { λ r. ⌜ (r ≡ codeOf (opAt (now (ops .entry)) i)) × (r < codesMost) ⌝ }
 {
-    2 * (site_operations::item(ops, i) % ITEMS) + site_operations::kind(ops, i) % 2
+    let item = site_operations::item(ops, i);
+    let kind = site_operations::kind(ops, i);
+    2 * (item % ITEMS) + kind % 2
 }
 
 // ---- read from the words of a record
 // Operation i, laid after the i before it.
 pub fn unpack(out: &mut [u32; site_operations::OPERATIONS], w: &[u32], i: usize)
-    requires { ⌜ i < opsMost ⌝ }
+    requires { ⌜ AtPlace i ⌝ }
     ensures { λ r. ⌜ Put (now (out .entry)) (now (out .exit)) i (getD (placesIn (now (w .entry))) i noOp) ⌝ }
 {
     let c = code(w, i);
@@ -74,7 +79,7 @@ pub fn unpack(out: &mut [u32; site_operations::OPERATIONS], w: &[u32], i: usize)
 
 // Whether operation i writes the item.
 pub fn is_write_of(w: &[u32], i: usize, item: u32) -> bool
-    requires { ⌜ i < opsMost ⌝ }
+    requires { ⌜ AtPlace i ⌝ }
     ensures { λ r. ⌜ r ≡ writesItem item (getD (placesIn (now (w .entry))) i noOp) ⌝ }
 {
     let c = code(w, i);
@@ -87,8 +92,8 @@ pub fn is_write_of(w: &[u32], i: usize, item: u32) -> bool
 // Whether the codes of the first n operations are known kinds of the items: each byte is below 128, and stays so where as much is added to all
 // as twice the items are below it.
 pub fn fit(w: &[u32], n: usize, items: u32) -> bool
-    requires { ⌜ (1 ≤ n) × (n ≤ opsMost) ⌝ }
-    ensures { λ r. ⌜ r ≡ (every (λ c. ltb c codesMost) (take n (codesIn (now (w .entry)))) && every (opFits items) (take n (placesIn (now (w .entry))))) ⌝ }
+    requires { ⌜ SomeOps n ⌝ }
+    ensures { λ r. ⌜ r ≡ (every (λ c. ltb c codesMost) (take n (codesIn (now (w .entry)))) && every (λ c. ltb c (2 * items)) (take n (codesIn (now (w .entry))))) ⌝ }
 {
     let x = codes(w);
     let tops = TOPS >> (64 - 8 * n);
@@ -110,7 +115,7 @@ fn spare(items: u32) -> usize
 
 // The code of operation i.
 fn code(w: &[u32], i: usize) -> u32
-    requires { ⌜ i < opsMost ⌝ }
+    requires { ⌜ AtPlace i ⌝ }
     ensures { λ r. ⌜ r ≡ getD (codesIn (now (w .entry))) i 0 ⌝ }
 {
     ((codes(w) >> (8 * i)) % 256) as u32
@@ -120,5 +125,5 @@ fn code(w: &[u32], i: usize) -> u32
 fn codes(w: &[u32]) -> usize
     ensures { λ r. ⌜ r ≡ codeNumber (now (w .entry)) ⌝ }
 {
-    words::wide(words::word(w, FIRST)) + words::wide(words::word(w, FIRST + 1)) * HIGHER
+    words::wide(words::word(w, CODES)) + words::wide(words::word(w, CODES + 1)) * HIGHER
 }

@@ -2,9 +2,9 @@
 use native.Mathlib.Omega.{arith}
 use borrow.Author.Needs.{needs}
 use Rattle.lanes.proofs.Laws.{tops}
-use Rattle.records.proofs.Laws.{fit-none, fit-sum, fit-all}
-use Rattle.records.proofs.packed.fit.Statement.{statement}
-use Rattle.records.proofs.packed.fit.Tie as tie
+use Rattle.record_codes.proofs.Laws.{fit-none, fit-sum, fit-all}
+use Rattle.record_codes.proofs.fit.Statement.{statement}
+use Rattle.record_codes.proofs.fit.Tie as tie
 
 codes-requires : tie.Need-codes-requires
 codes-requires c κs = search needs
@@ -22,7 +22,7 @@ returns : tie.Need-returns
 returns c =
     let s = c .before .before .before in
     let codes = c .before .codes in
-    fit-none (s .args .w .now) (s .args .items) (s .args .n) (s .pre .1) (codes .result) _ (codes .ensures) (tops (s .args .n) (s .pre .0) (s .pre .1)) (c .if1 .taken)
+    fit-none (s .args .w .now) (s .args .items) (s .args .n) (s .pre .few) (codes .result) _ (codes .ensures) (tops (s .args .n) (s .pre .some) (s .pre .few)) (c .if1 .taken)
 
 spare-requires : tie.Need-spare-requires
 spare-requires c κs = search needs
@@ -34,13 +34,13 @@ add-result : tie.Need-add-result
 add-result c =
     let s = c .before .before .before .before in
     let codes = c .before .before .codes in
-    omega (arith, fit-sum (s .args .w .now) (s .args .items) (s .args .n) (s .pre .1) (codes .result) _ (codes .ensures) (tops (s .args .n) (s .pre .0) (s .pre .1)) (c .before .if1 .left) (c .spare .result) (c .spare .ensures))
+    omega (arith, fit-sum (s .args .w .now) (s .args .items) (s .args .n) (s .pre .few) (codes .result) _ (codes .ensures) (tops (s .args .n) (s .pre .some) (s .pre .few)) (c .before .if1 .left) (c .spare .result) (c .spare .ensures))
 
 returns-2 : tie.Need-returns-2
 returns-2 c =
     let s = c .before .before .before .before in
     let codes = c .before .before .codes in
-    fit-all (s .args .w .now) (s .args .items) (s .args .n) (s .pre .1) (codes .result) _ (codes .ensures) (tops (s .args .n) (s .pre .0) (s .pre .1)) (c .before .if1 .left) (c .spare .result) (c .spare .ensures)
+    fit-all (s .args .w .now) (s .args .items) (s .args .n) (s .pre .few) (codes .result) _ (codes .ensures) (tops (s .args .n) (s .pre .some) (s .pre .few)) (c .before .if1 .left) (c .spare .result) (c .spare .ensures)
 
 pub fit-spec : {M : Type 1} → statement M
 fit-spec =

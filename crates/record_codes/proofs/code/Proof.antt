@@ -6,8 +6,8 @@ use Rattle.lanes.specs.Lanes.{bytes}
 use Rattle.lanes.proofs.Laws.{byte-at}
 use Rattle.limits.specs.Limits.{opsMost}
 use borrow.Author.Needs.{needs}
-use Rattle.records.proofs.packed.code.Statement.{statement}
-use Rattle.records.proofs.packed.code.Tie as tie
+use Rattle.record_codes.proofs.code.Statement.{statement}
+use Rattle.record_codes.proofs.code.Tie as tie
 
 codes-requires : tie.Need-codes-requires
 codes-requires c κs = search needs
@@ -24,7 +24,7 @@ cast-result c = search needs
 returns : tie.Need-returns
 returns c =
     let A = c .before .before .args in
-    byte-at opsMost (c .codes .result) (A .i) (c .before .before .pre) ∙ ap (λ (x : ℕ). getD (bytes opsMost x) (A .i) 0) (c .codes .ensures)
+    byte-at opsMost (c .codes .result) (A .i) (c .before .before .pre .there) ∙ ap (λ (x : ℕ). getD (bytes opsMost x) (A .i) 0) (c .codes .ensures)
 
 pub code-spec : {M : Type 1} → statement M
 code-spec = tie.close (tie.spec codes-requires mul-result shr-result cast-result returns)
