@@ -143,10 +143,12 @@ fn line_at(state: &[u32], k: usize) -> Lined
     requires { ⌜ HasLine (now state) k ⌝ }
     ensures { λ r. ⌜ LineAt (networkIn (now (state .entry))) k (r .number) (r .held) (r .arrived) ⌝ }
 {
+    let held = network_access::line_held(state, k);
+    let arrived = network_access::line_arrived(state, k);
     Lined {
         number: 0,
-        held: network_access::line_held(state, k),
-        arrived: network_access::line_arrived(state, k),
+        held: held,
+        arrived: arrived,
     }
 }
 

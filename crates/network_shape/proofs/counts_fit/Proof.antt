@@ -1,8 +1,10 @@
 -- `counts_fit` leaves at the first count out of range.
-use mathlib.Core.Path.{sym}
+use mathlib.Core.Path.{_≡_, sym}
 use native.Mathlib.Omega.{arith}
+use lib.Dec.{leb}
 use borrow.Author.Tests.{le-leb, lt-leb}
-use Rattle.limits.specs.Limits.{sitesMost, itemsMost}
+use Rattle.limits.specs.Limits.{sitesMost, itemsMost, recordsMost}
+use Rattle.network_shape.specs.Tested.{countsFit}
 use Rattle.network_shape.proofs.counts_fit.Statement.{statement}
 use Rattle.network_shape.proofs.counts_fit.Tie as tie
 
@@ -27,7 +29,9 @@ returns-4 c =
 returns-5 : tie.Need-returns-5
 returns-5 c =
     let A = c .before .before .before .before .args in
-    sym (rw (le-leb 1 (A .sites) (omega arith), le-leb (A .sites) sitesMost (omega arith), le-leb 1 (A .items) (omega arith), le-leb (A .items) itemsMost (omega arith)))
+    let rest : countsFit (A .sites) (A .items) (A .made) ≡ leb (A .made) recordsMost =
+    rw (le-leb 1 (A .sites) (omega arith), le-leb (A .sites) sitesMost (omega arith), le-leb 1 (A .items) (omega arith), le-leb (A .items) itemsMost (omega arith)) in
+    sym rest
 
 pub counts-fit-spec : {M : Type 1} → statement M
 counts-fit-spec = tie.close (tie.spec returns returns-2 returns-3 returns-4 returns-5)
