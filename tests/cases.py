@@ -1,66 +1,210 @@
 #!/usr/bin/env python3
-"""Writes the script cases of crates/script_cases: refusals, malformed lines, lines at their longest; the last line lacks its newline.
+"""Plays the stored cases of tests/cases and compares what is answered with the stored answers (NAME.answers). The exit status is 1 where something differs.
 
-    cases.py > crates/script_cases/data/cases
-    model.py run < crates/script_cases/data/cases     prints what crates/script_cases/stdout has behind '# cases'
+    cases.py model          on the model
+    cases.py built          on what was built: the calls on the library, through the Python module, and the scripts on the program gevrolen
+    cases.py model NAME     prints what the model answers
+
+`script`, `long` and `empty` are scripts; so is the example of crates/gevrolen. The lines of `calls`, beside those of a script:
+
+    # ..                        a comment, answered as it is
+    w SITE                      waiting report: the number, how many items, the items in rising order
+    k PLACE WORD                a word of the state set by hand, answered as it is
+    o SITE KIND                 commit by two records: a read of item 0, and an operation of that kind on item 1 with the value -1
+    u SITE KINDS ITEMS VALUES   commit by separate lists of so many entries, writes of item 0
+    = BYTES, + BYTES            the file anew, or more of it: how many bytes it has
+    x SIZE                      export to so many bytes EE, which then are the file: the number and the length
+    b, h                        the file's bytes; the bytes of its part
+    a                           two sums over the file's bytes, as Adler's
+    f                           check of the file: number, records, sites, items, length of the part
+    r NUMBER                    a record by its number: number, how many operations, then the record with all eight places of operations
+    @ PLACE SITES ITEMS         the record at a place of the part: number, where the next starts, how many operations, the record likewise
+
+Behind a refused step stands whether every word of the state is as it was: by the specification, always.
 """
+import pathlib
+import subprocess
 import sys
+import zlib
 
-UNSET = ["c 0 r0", "d 0", "e 0 1", "l 0 1", "s 0", "c 0"]
+import files
+import layout
+import model
 
-# causes 1 to 5
-SET_UPS = [
-    "p 0 1 0 0", "p 9 1 0 0", "p 1 0", "p 1 65 0 0", "p 3 2 0 6", "p 3 2 0 6 1 4 2 0", "p 3 1 3 0", "p 3 2 0 6 3 0", "p 3 1 0 8",
-    "p 3 1 0 1", "p 3 1 0 7", "p 3 1 1 5", "p 3 1 2 1", "p 3 1 1 1", "p 4294967295 1 0 0", "p 1 4294967295 0 0",
-    "p 3 1 4294967295 0", "p 3 1 0 255", "c 0 r0", "p 3 2 0 6 1 4",
-]
+ROOT = pathlib.Path(__file__).resolve().parent.parent
+CASES = ROOT / "tests" / "cases"
+EXAMPLE = ROOT / "crates" / "gevrolen"
+SCRIPTS = ["script", "long", "empty"]
+EE = 0xEE
 
-MALFORMED = [
-    # letters
-    "", "?", " ", "p", "c", "d", "e", "l", "s", "p ", "c ", "d ", "s ", "P 3 2 0 6 1 4", "C 0 r0", "D 0", "S 0", "x 0", "pp 3", "dd",
-    "d0", "c0 r0", "q",
-    # spaces and numbers
-    " d 0", "d  0", "d 0 ", "d\t0", "d 0\t", "d 0\r", "\rd 0", "d 00", "d 01", "d +0", "d -0", "d -1", "d 0x1", "d a", "d 0 0",
-    "d 0.0", "d 4294967296", "d 10000000000", "d 99999999999999999999999999", "e 0", "e 0 1 2", "e 0  1", "e 0 4294967296", "e 0 01",
-    "e -0 1", "l 0", "l 0 1 2", "l 0 -1", "l 00 1", "s", "s 0 0", "s 00", "s a",
-    # set-up
-    "p 3", "p 03 2 0 6 1 4", "p 3 2 0", "p 3 2 0 6 1", "p 3 2 0 256 1 4", "p 3 2 0 6 1 1000", "p 3 2 0 4294967296 1 4",
-    "p 3 2 4294967296 6 1 4", "p 3 2 0 06 1 4", "p 3 2 0 6  1 4", "p 3 2 0 6 1 4 ", "p 3 2 0 -6 1 4", "p  3 2",
-    # operations
-    "c 0 x0", "c 0 r", "c 0 w", "c 0 w0", "c 0 w0=", "c 0 w=5", "c 0 r0=5", "c 0 r-1", "c 0 r00", "c 0 w00=5", "c 0 w0=05",
-    "c 0 w0=-0", "c 0 w0=+5", "c 0 w0=--5", "c 0 w0=-", "c 0 w0=2147483648", "c 0 w0=-2147483649", "c 0 w0=4294967295",
-    "c 0 w0=5=5", "c 0 w0==5", "c 0 w0 =5", "c 0 r0  r1", "c 0 r0 ", "c 0 r4294967296", "c 0 w4294967296=1", "c 0 R0", "c 0 W0=5",
-    "c 00 r0", "c x r0", "c 0r0", "c 0 0", "c  0 r0", "c 0 w0=5a", "c 0 w0=00", "c 0 r0,r1",
-]
 
-# bytes that no field has
-BYTES = [
-    b"d \x00", b"d 0\x00", b"\x00", b"d \x80", b"d \xb2", b"\xff", b"d 0\xff", b"\xe4 0", b"c 0 r\x80", b"c\x000 r0", b"d 0\x0b",
-]
+class Model:
+    """The model's answers. It keeps no words but those that were laid by hand."""
 
-WORKED = ["c 0 w0=5", "l 0 1", "s 1", "c 1 r0 w1=7", "l 1 2", "s 2", "l 0 2", "s 2", "c 2 r0 r1"]
+    def __init__(self):
+        self.engine = model.Engine()
+        self.laid = [0] * layout.WORDS
+        for name in ("script", "waiting", "commit", "commit_lists"):
+            setattr(self, name, getattr(self.engine, name))
 
-# causes 7 to 11 and 15 to 20
-STEPS = [
-    "c 3 r0", "d 3", "e 3 1", "l 3 0", "l 0 3", "s 3", "d 4294967295", "c 0", "c 0" + " r0" * 9, "c 0" + " r0" * 8, "c 0 r2",
-    "c 0 r4294967295", "c 0 r1", "c 1 w0=1", "c 2 w1=1", "c 0 r0 r2 r1", "c 0 r0 w1=1 r2", "e 1 9", "e 0 0", "e 0 7", "e 0 7",
-    "e 0 6", "e 0 4294967295", "e 0 4294967295", "d 0", "l 0 0", "l 1 0", "l 2 1", "l 1 2", "l 1 2", "s 0", "s 1", "s 2", "l 0 1",
-    "s 1", "l 0 1",
-]
+    def words(self):
+        return None
 
-VALUES = ["c 0 w0=-2147483648 r0", "c 0 r0 w0=2147483647", "c 0 r0", "c 0 w0=0 w0=-1", "c 0 r0"]
+    def poke(self, place, word):
+        if self.engine.network:
+            self.laid = layout.words(self.engine.network)
+        self.laid[place] = word
+        self.engine.take(layout.load(self.laid))
 
-# as many operations and items as a line holds; lines of 512 and 513 bytes and more
-LONGEST = [
-    "c 0" + " r0" * 169, "c 0" + " r0" * 168 + " w1=1", "c 0" + " r0" * 168 + " w1=12", "p 2 2" + " 0 0" * 126,
-    "p 2 126" + " 0 0" * 126, "d " + "0" * 510, "d " + "0" * 511, "x" * 512, "x" * 513, "x" * 5000, "d 0 " + " " * 600, "d 1",
-]
+    def export(self, size):
+        number, made = self.engine.export(size)
+        return number, len(made), made + bytes([EE]) * (size - len(made))
 
-# cause 13, then cause 12
-FULL_LINE = ["p 2 2 0 2 1 0"] + ["d 0"] * 17 + ["c 0 w0=1", "c 0 r0", "l 0 1", "s 1", "c 0 w0=1", "c 0 w0=2"]
-FULL_HISTORY = ["p 1 1 0 0"] + ["c 0 w0=%d" % i for i in range(257)] + ["c 0 r0", "d 0", "p 8 1 0 0", "d 7", "d 8"]
+    def read(self, data):
+        return files.read(data)
 
-TEXT = [line.encode() for line in UNSET + SET_UPS + MALFORMED]
-REST = [line.encode() for line in WORKED + STEPS + VALUES + LONGEST + FULL_LINE + FULL_HISTORY]
+    def record(self, data, k):
+        number, site, stamp, operations = files.record(data, k)
+        return number, len(operations), (site, stamp, eight(operations))
 
-sys.stdout.buffer.write(b"\n".join(TEXT + BYTES + REST) + b"\nc 0 w0=5 r0")
+    def record_from(self, part, place, sites, items):
+        number, found = files.by_place(part, place, sites, items)
+        (site, stamp, operations), after = found or (files.NO_RECORD, 0)
+        return number, after, len(operations), (site, stamp, eight(operations))
+
+
+def eight(operations):
+    return operations + ((0, 0, 0),) * (8 - len(operations))
+
+
+def joined(numbers):
+    return " ".join(str(n) for n in numbers)
+
+
+def record_text(first, stamp, operations):
+    texts = ["%s%d=%d" % ("rw"[kind], item, value) for kind, item, value in operations]
+    tuples = model.tuples_text(stamp[1])
+    return " ".join([str(first), str(stamp[0])] + ([tuples] if tuples else []) + texts)
+
+
+class Calls:
+    """The lines of `calls` on the model or the library, with the file of the lines before."""
+
+    def __init__(self, side):
+        self.side = side
+        self.file = b""
+
+    def answer(self, line):
+        letter, text = line[:1].decode(), line[2:].decode()
+        plain = {"#": lambda: line.decode(), "b": self.file.hex, "h": self.read, "a": self.sums, "f": self.check}
+        named = {"=": lambda: self.put(b"", text), "+": lambda: self.put(self.file, text)}
+        numbered = {"w": self.waiting, "k": self.poke, "o": self.records, "u": self.lists, "x": self.export, "r": self.record, "@": self.record_from}
+        if letter in numbered:
+            return numbered[letter](*[int(field) for field in text.split(" ")])
+        return {**plain, **named}.get(letter, lambda: self.step(lambda: self.side.script(line).decode()))()
+
+    def step(self, call):
+        before = self.side.words()
+        text = call()
+        return text if text[0] == "0" else text + (" unchanged" if self.side.words() == before else " changed")
+
+    def waiting(self, site):
+        number, items = self.side.waiting(site)
+        return joined([number, len(items)] + sorted(items))
+
+    def poke(self, place, word):
+        self.side.poke(place, word)
+        return "k %d %d" % (place, word)
+
+    def committed(self, number, stamp, values):
+        return record_text(number, stamp, [(0, i, v) for i, v in enumerate(values)])
+
+    def records(self, site, kind):
+        return self.step(lambda: self.committed(*self.side.commit(site, [(0, 0, 7), (kind, 1, -1)])))
+
+    def lists(self, site, kinds, items, values):
+        return self.step(lambda: self.committed(*self.side.commit_lists(site, [1] * kinds, [0] * items, [9] * values)))
+
+    def put(self, front, text):
+        self.file = front + bytes.fromhex(text)
+        return str(len(self.file))
+
+    def export(self, size):
+        number, length, self.file = self.side.export(size)
+        return joined([number, length])
+
+    def sums(self):
+        both = zlib.adler32(self.file)
+        return joined([both % 65536, both // 65536])
+
+    def part(self):
+        _, start, length, _, _, _ = self.side.read(self.file)
+        return self.file[start : start + length]
+
+    def check(self):
+        number, _, length, records, sites, items = self.side.read(self.file)
+        return joined([number, records, sites, items, length])
+
+    def read(self):
+        number, part = self.side.read(self.file)[0], self.part()
+        return joined([number] + ([part.hex()] if part else []))
+
+    def record(self, k):
+        number, count, found = self.side.record(self.file, k)
+        return "%d %d %s" % (number, count, record_text(*found))
+
+    def record_from(self, place, sites, items):
+        number, after, count, found = self.side.record_from(self.part(), place, sites, items)
+        return "%d %d %d %s" % (number, after, count, record_text(*found))
+
+
+def calls(side):
+    driver = Calls(side)
+    lines = (CASES / "calls").read_bytes().removesuffix(b"\n").split(b"\n")
+    return "".join(driver.answer(line) + "\n" for line in lines).encode()
+
+
+def stored():
+    """The input and the stored answers of each case that is a script, by name."""
+    found = {name: (CASES / name, CASES / (name + ".answers")) for name in SCRIPTS}
+    return {**found, "gevrolen": (EXAMPLE / "stdin", EXAMPLE / "stdout")}
+
+
+def by_model():
+    answers = {name: model.Engine().run(source.read_bytes()) for name, (source, _) in stored().items()}
+    return {**answers, "calls": calls(Model())}
+
+
+def by_build():
+    from library import Library
+
+    program = ROOT / "target" / "bin" / "gevrolen"
+    answers = {name: subprocess.run([program], input=source.read_bytes(), stdout=subprocess.PIPE, check=True).stdout for name, (source, _) in stored().items()}
+    return {**answers, "calls": calls(Library())}
+
+
+def differs(name, answers):
+    """Where the stored answers differ from these, said in a line."""
+    path = stored()[name][1] if name in stored() else CASES / (name + ".answers")
+    wanted, found = (text.decode().split("\n") for text in (path.read_bytes(), answers))
+    for n, (a, b) in enumerate(zip(wanted, found), 1):
+        if a != b:
+            return "%s: line %d is %r, and the answer %r" % (path.relative_to(ROOT), n, a, b)
+    if len(wanted) != len(found):
+        return "%s: %d lines, and %d answers" % (path.relative_to(ROOT), len(wanted) - 1, len(found) - 1)
+    return None
+
+
+def main():
+    answers = {"model": by_model, "built": by_build}[sys.argv[1]]()
+    if len(sys.argv) > 2:
+        sys.stdout.buffer.write(answers[sys.argv[2]])
+        return 0
+    said = [text for text in map(differs, answers, answers.values()) if text]
+    for text in said:
+        print(text)
+    return 1 if said else 0
+
+
+if __name__ == "__main__":
+    sys.exit(main())

@@ -4,7 +4,7 @@
     model.py run            answers the script on standard input
     model.py script SEED N  writes a random script of N lines over 8 sites and 64 items
 
-crates/script_cases/data/long is the script of seed 1 with 4000 lines.
+tests/cases/long is the script of seed 1 with 4000 lines.
 
 A timestamp is (epoch, ((site, count), ..)), a record (site, timestamp, ((kind, item, value), ..)), a message a record's number or a dummy's timestamp. An
 answer is a tuple, the number first.

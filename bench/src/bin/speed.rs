@@ -1,4 +1,4 @@
-//! The calls of the proved engine's program network_speed, and its output: 100,000 mixed steps on an almost empty network and as many on a full
+//! The calls of bench/speed.c, and its output: 100,000 mixed steps on an almost empty network and as many on a full
 //! one; or, with a letter as its argument, one kind of call again and again.
 use peer::file::{self, Record};
 use peer::network::{Network, Op, ITEMS};
@@ -79,7 +79,7 @@ fn once(letter: &str, state: &mut Network, buffer: &mut [u8]) -> u64 {
     }
 }
 
-/// How often each kind of call is made, as in network_speed.
+/// How often each kind of call is made, as in bench/speed.c.
 fn times(letter: &str) -> u32 {
     match letter {
         "e" => 20,

@@ -1,17 +1,17 @@
 -- Values in places, and words written part by part.
 use mathlib.Core.Path.{_≡_, refl, sym, ap, ap₂, _∙_}
-use mathlib.Core.List.{List, [], _∷_, _++_, append-nil, map-append}
+use mathlib.Core.List.{List, _∷_, _++_, append-nil, map-append}
 use Prim.Native.Nat.{ℕ, zero, suc, _+_, _-_, _≤_}
 use native.Mathlib.Omega.{arith}
 use lib.IntN.{ℤ, pos}
-use lib.ListN.{length, set, take, drop, replicate, length-map, length-drop, length-append, length-replicate, take-append-drop, drop-of-length-le}
+use lib.ListN.{length, take, drop, replicate, length-map, length-drop, length-append, length-replicate, take-append-drop, drop-of-length-le}
 use lib.Seq.{length-take-le, drop-at}
 use mir.Val.{ofZ}
 use mir.Syntax.{w32}
 use Rattle.words.specs.Words.{put, laid}
 use Rattle.words.proofs.Walks.{laid-in}
 use Rattle.lists.specs.Lists.{Filled}
-use Rattle.network_readers.specs.Readers.{padded}
+use Rattle.network_lookup.specs.Lookup.{padded}
 use Rattle.c_answers.specs.Answers.{listed, valueWords}
 
 -- ---- values in places
@@ -35,10 +35,6 @@ filled-words places count vs f whole =
     ap (λ (l : List ℤ). count ∷ valueWords l) all ∙ listed-words places count (take count vs) size
 
 -- ---- parts of words, the last written first
-pub first-behind : (w ys : List ℕ) (v n : ℕ) → length w ≡ suc (length ys) → length ys ≤ n → set (put w 1 n ys) 0 v ≡ v ∷ ys
-first-behind [] ys v n e h = absurd (omega arith)
-first-behind (x ∷ w) ys v n e h = ap (λ (l : List ℕ). v ∷ (ys ++ l)) (drop-of-length-le w {i = n} (omega arith)) ∙ ap (λ (l : List ℕ). v ∷ l) (append-nil ys)
-
 pub last-put : (w ys : List ℕ) (k n : ℕ) → length w ≡ k + length ys → length ys ≤ n → drop k (put w k n ys) ≡ ys
 last-put w ys k n e h =
     drop-at (take k w) (ys ++ drop n (drop k w)) k (length-take-le k w (omega arith))
@@ -54,13 +50,6 @@ front-behind w xs ys k n size e h =
     let front : length (take k w) ≡ k = length-take-le k w (omega arith) in
     let room : length xs ≤ length p = simp length-append (omega arith) in
     front-laid p xs room ∙ ap (λ (j : ℕ). xs ++ drop j p) size ∙ ap (λ (l : List ℕ). xs ++ l) (last-put w ys k n e h)
-
--- an array of two, each word written
-pub two-set : (w : List ℕ) (a b : ℕ) → length w ≡ 2 → set (set w 0 a) 1 b ≡ a ∷ (b ∷ [])
-two-set [] a b e = absurd (omega arith)
-two-set (x ∷ []) a b e = absurd (omega arith)
-two-set (x ∷ (y ∷ [])) a b e = refl
-two-set (x ∷ (y ∷ (z ∷ w))) a b e = absurd (omega arith)
 
 -- a table's values fill its places
 pub few-values : (places : ℕ) (vs all : List ℤ) → all ≡ padded places (pos 0) vs → length all ≡ places → length vs ≤ places

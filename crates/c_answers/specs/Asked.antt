@@ -7,20 +7,14 @@ use lib.ListN.{length}
 use Rattle.limits.specs.Limits.{opsMost, itemsMost}
 use Rattle.timestamp_words.specs.InWords.{stampSize}
 use Rattle.network_layout.specs.declared.Committed.{Committed}
-use Rattle.network_layout.specs.declared.Lined.{Lined}
 use Rattle.network_layout.specs.declared.Tabled.{Tabled}
-use Rattle.network_readers.specs.Readers.{padded}
+use Rattle.network_lookup.specs.Lookup.{padded}
 use Rattle.lists.specs.Lists.{Filled}
 
 -- a word for how many there are, and one for each place
 pub record ForList (w : List ℕ) (count places : ℕ) : Type 0 where
   pub sized : length w ≡ suc places
   pub few : count < 4294967296
-
-pub record ForLine (w : List ℕ) (given : Lined) : Type 0 where
-  pub sized : length w ≡ 2
-  pub held-few : given .held < 4294967296
-  pub arrived-few : given .arrived < 4294967296
 
 -- a table's values, and 0 past them
 pub record ForTable (w : List ℕ) (given : Tabled) : Type 0 where

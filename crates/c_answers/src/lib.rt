@@ -1,38 +1,23 @@
-// The network's answers laid into words, as C lends them: one function for each struct of the header.
+// The network's answers laid into words, as C lends them: one function for each struct of the header, those of a few fields from c_fields.
+pub use c_fields::few;
+pub use c_fields::put_line;
+pub use c_fields::put_scheduled;
+pub use c_fields::put_stamp;
 use network_layout::Committed;
-use network_layout::Lined;
 use network_layout::Report;
-use network_layout::Scheduled;
 use network_layout::Tabled;
-use timestamp::Timestamp;
 use timestamp_order::Order;
 ghost use mathlib.Core.Path.{_≡_};
-ghost use mathlib.Core.List.{[], _∷_, _++_};
-ghost use Prim.Native.Nat.{_+_, _<_};
+ghost use mathlib.Core.List.{_∷_, _++_};
 ghost use lib.ListN.{length, take};
 ghost use Rattle.limits.specs.Limits.{opsMost, itemsMost};
 ghost use Rattle.timestamp.specs.Value.{stampOf};
-ghost use Rattle.timestamp_words.specs.InWords.{stampSize, stampWords};
+ghost use Rattle.timestamp_words.specs.InWords.{stampWords};
 ghost use Rattle.c_answers.specs.Answers.{listed, valueWords, orderNumber};
-ghost use Rattle.c_answers.specs.Asked.{ForList, ForLine, ForTable, ForCommitted};
+ghost use Rattle.c_answers.specs.Asked.{ForList, ForTable, ForCommitted};
 
 // Where a committed answer has how many values.
 const VALUES: usize = timestamp_words::WORDS;
-
-// A small number as a word.
-pub fn few(n: usize) -> u32
-    requires { ⌜ n < 4294967296 ⌝ }
-    ensures { λ r. ⌜ r ≡ n ⌝ }
-{
-    n as u32
-}
-
-pub fn put_stamp(w: &mut [u32], stamp: Timestamp)
-    requires { ⌜ length (now w) ≡ stampSize ⌝ }
-    ensures { λ r. ⌜ now (w .exit) ≡ stampWords (stampOf stamp) ⌝ }
-{
-    timestamp_words::write_to(stamp, w);
-}
 
 // How many values there are, and the values.
 pub fn put_list(w: &mut [u32], count: usize, values: &[i32])
@@ -76,16 +61,6 @@ pub fn put_report(w: &mut [u32], given: Report) -> u32
     given.number
 }
 
-// What a line holds and what has arrived. It answers the reader's number.
-pub fn put_line(w: &mut [u32], given: Lined) -> u32
-    requires { ⌜ ForLine (now w) given ⌝ }
-    ensures { λ r. ⌜ (r ≡ given .number) × (now (w .exit) ≡ given .held ∷ (given .arrived ∷ [])) ⌝ }
-{
-    words::store(w, 0, few(given.held));
-    words::store(w, 1, few(given.arrived));
-    given.number
-}
-
 // A commit's timestamp and values. It answers the commit's number.
 pub fn put_committed(w: &mut [u32], given: Committed) -> u32
     requires { ⌜ ForCommitted (now w) given ⌝ }
@@ -96,16 +71,6 @@ pub fn put_committed(w: &mut [u32], given: Committed) -> u32
     let values = given.values;
     put_list(&mut w[VALUES..], given.count, &values);
     words::lay(w, 0, &t);
-    given.number
-}
-
-// A schedule's parent and timestamp. It answers the schedule's number.
-pub fn put_scheduled(w: &mut [u32], given: Scheduled) -> u32
-    requires { ⌜ length (now w) ≡ 1 + stampSize ⌝ }
-    ensures { λ r. ⌜ (r ≡ given .number) × (now (w .exit) ≡ given .parent ∷ stampWords (stampOf (given .stamp))) ⌝ }
-{
-    put_stamp(&mut w[1..], given.stamp);
-    words::store(w, 0, given.parent);
     given.number
 }
 

@@ -12,7 +12,7 @@ use Rattle.timestamp_words.specs.InWords.{stampWords}
 use Rattle.site_operations.specs.Operations.{Op, noOp}
 use Rattle.site_operations.specs.InWords.{opsIn, opsSize}
 use Rattle.protocol.specs.Steps.{opsOf}
-use Rattle.network_readers.specs.Readers.{padded}
+use Rattle.network_lookup.specs.Lookup.{padded}
 use Rattle.history_file.specs.Promises.{Step, Gives, placesFrom}
 use Rattle.history_file.specs.declared.Found.{Found}
 use Rattle.c_files.specs.Laid.{RecordLaid}

@@ -9,7 +9,7 @@ use Rattle.timestamp_words.specs.InWords.{stampSize, stampWords}
 use Rattle.site_operations.specs.Operations.{noOp}
 use Rattle.site_operations.specs.InWords.{opsIn, opsSize}
 use Rattle.records.specs.Records.{Record}
-use Rattle.network_readers.specs.Readers.{padded}
+use Rattle.network_lookup.specs.Lookup.{padded}
 
 -- a record's words: its site, how many operations it has, its timestamp, and eight places of operations
 pub record RecordLaid (r : Record) (answer : List ℕ) : Type 0 where

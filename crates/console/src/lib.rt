@@ -109,7 +109,7 @@ fn reply(
     let mut line = held;
     let mut known = formed;
     let mut used = 0;
-    while used < block.len() {
+    while console_cut::left(used, block) {
         let r = console_blocks::feed_on(&block[used..], line, state, known, answers, 0);
         line = r.held;
         known = r.formed;

@@ -17,20 +17,17 @@ use Rattle.script_notation.specs.declared.Reply.{Reply}
 use Rattle.script_notation.specs.Fields.{position}
 use Rattle.script_notation.specs.Answers.{answer}
 use Rattle.script_notation.proofs.Places.{place-within}
-use Rattle.console_notation.specs.Lines.{newline, clipped, ending, Told, told, lineMost, used}
-use Rattle.console_notation.proofs.Cutting.{andThen, lineTold, told-append, told-clipped, told-none, told-part, told-line, told-newline}
+use Rattle.console_notation.specs.Lines.{newline, clipped, Told, told, lineMost, used}
+use Rattle.console_notation.proofs.Cutting.{andThen, lineTold, told-append, told-clipped, told-part, told-line, told-newline}
 use Rattle.console_notation.proofs.Feeding.{used-line, used-stops, used-there}
 use Rattle.console_lines.specs.declared.Next.{Next}
 use Rattle.console_lines.specs.Promises.{Effect, Collected, Ended}
 use Rattle.console_lines.proofs.Steps.{effect-as, effect-then, nothing-left}
 use Rattle.console_held.specs.declared.Held.{Held}
 use Rattle.console_held.specs.Held.{heldOf, Holding}
+use Rattle.console_held.proofs.Holding.{holding-as}
 use Rattle.console_blocks.specs.declared.Advance.{Advance}
-use Rattle.console_blocks.specs.Promises.{Fed, Begun, Advanced}
-
--- what is held, by another name
-holding-as : {l m : List ℕ} {h : Held} → l ≡ m → Holding l h → Holding m h
-holding-as {h = h} e p = subst (λ (l : List ℕ). Holding l h) e p
+use Rattle.console_blocks.specs.Promises.{Begun, Advanced}
 
 -- ---- a block up to its first newline
 module _ {block line entry out₀ : List ℕ} {at end : ℕ} (e : end ≡ 0 + position newline block) where
@@ -105,11 +102,10 @@ module _ {block line entry out₀ : List ℕ} {at : ℕ} where
   fed-held b h = record { fed = record { used-is = b .stops h; effect = b .effect; holding = b .holding }; formed-is = b .formed-is }
 
   -- it goes on with lines of the block
-  pub fed-lines : {mid x exit y : List ℕ} {r : Advance} {n : Next} {h none : Held} → Begun block line entry mid out₀ x at r → r .held .count ≤ 0 → length x ≡ length out₀
-      → Ended (partFrom (r .used) block) mid exit x y (r .filled) n → Holding [] none
-      → Holding (clipped (heldOf none ++ take (r .used + n .end - (r .used + n .from)) (drop (r .used + n .from) block))) h
+  pub fed-lines : {mid x exit y : List ℕ} {r : Advance} {n : Next} {h : Held} → Begun block line entry mid out₀ x at r → r .held .count ≤ 0 → length x ≡ length out₀
+      → Ended (partFrom (r .used) block) mid exit x y (r .filled) n → Holding (clipped (take (r .used + n .end - (r .used + n .from)) (drop (r .used + n .from) block))) h
       → Advanced block line entry exit out₀ y at (record { used = r .used + n .end; held = h; filled = n .filled; formed = n .formed })
-  fed-lines {mid} {x} {exit} {y} {r} {n} {h} {none} b z same w′ free held =
+  fed-lines {mid} {x} {exit} {y} {r} {n} {h} b z same w′ held =
       let w = subst (λ (l : List ℕ). Ended l mid exit x y (r .filled) n) (part-from (r .used) block) w′ in
       let s = meaning entry in
       let m = meaning mid in
@@ -136,8 +132,8 @@ module _ {block line entry out₀ : List ℕ} {at : ℕ} where
       let all : Effect (andThen t (andThen v (record { bytes = []; after = meaning exit; held = clipped (take p left) }))) exit out₀ y at (n .filled)
       = record { printed = printed-as bytes-all (two .printed); after-is = refl } in
       let size : u + n .end - (u + n .from) ≡ p = omega (arith, w .end-is) in
-      let held-line : clipped (heldOf none ++ take (u + n .end - (u + n .from)) (drop (u + n .from) block)) ≡ clipped (take p left)
-      = (λ i. clipped (free .held-is i ++ take (size i) (drop (u + n .from) block))) ∙ ap (λ (l : List ℕ). clipped (take p l)) (sym (drop-drop (n .from) u block)) in
+      let held-line : clipped (take (u + n .end - (u + n .from)) (drop (u + n .from) block)) ≡ clipped (take p left)
+      = ap (λ (k : ℕ). clipped (take k (drop (u + n .from) block))) size ∙ ap (λ (l : List ℕ). clipped (take p l)) (sym (drop-drop (n .from) u block)) in
       let used-rest : n .end ≡ used m (length out₀) (r .filled) [] rest = w .used-is ∙ ap (λ (k : ℕ). used m k (r .filled) [] rest) same in
       record {
         fed =
@@ -148,19 +144,3 @@ module _ {block line entry out₀ : List ℕ} {at : ℕ} where
             };
         formed-is = w .formed-is;
       }
-
--- ---- the end of a script
-pub fed-nothing : {entry out : List ℕ} {at : ℕ} {h : Held} → Holding [] h → Fed [] [] entry entry out out at (record { used = 0; held = h; filled = at })
-unfolding used
-fed-nothing {entry} {out} {at} {h} free =
-    let t = told-none (meaning entry) [] in
-    record {
-      used-is = refl;
-      effect = effect-as (sym t) (record { printed = printed-none out at; after-is = refl });
-      holding = holding-as (ap (λ (o : Told). o .held) (sym t)) free;
-    }
-
--- what is held is ended by a newline
-pub ending-held : (line : List ℕ) → 0 < length line → newline ∷ [] ≡ ending line
-ending-held [] h = absurd (omega arith)
-ending-held (x ∷ xs) h = refl

@@ -47,18 +47,14 @@ pub fn feed(
     }
 }
 
-// The end of a script: the last line is answered where it lacks its newline, which is fed to it.
+// The end of a script: what it adds is fed, so that the last line is answered where it lacks its newline.
 pub fn finish(held: Held, state: &mut [u32; WORDS], out: &mut [u8], at: usize) -> Progress
     ensures { λ r. ⌜ Fed (ending (heldOf held)) (heldOf held) (now (state .entry)) (now (state .exit)) (now (out .entry)) (now (out .exit)) at r ⌝ }
 {
-    if held.count == 0 {
-        return Progress {
-            used: 0,
-            held: console_held::nothing(),
-            filled: at,
-        };
-    }
-    feed(b"\n", held, state, out, at)
+    let added = console_held::ending(held);
+    let bytes = added.bytes;
+    let count = added.count;
+    feed(&bytes[..count], held, state, out, at)
 }
 
 // What `feed` does, where it is known whether the words are those of a network: nothing is tested.
@@ -84,7 +80,7 @@ pub fn feed_on(
     let end = used + rest.end;
     Advance {
         used: end,
-        held: console_held::hold(console_held::nothing(), &block[from..end]),
+        held: console_held::hold_part(block, from, end),
         filled: rest.filled,
         formed: rest.formed,
     }
@@ -102,9 +98,9 @@ fn begin(
     requires { ⌜ formed ≡ shaped (now state) ⌝ }
     ensures { λ r. ⌜ Begun (now (block .entry)) (heldOf held) (now (state .entry)) (now (state .exit)) (now (out .entry)) (now (out .exit)) at r ⌝ }
 {
-    let end = script_parsing::find(block, 0, 10);
+    let end = console_cut::line_end(block, 0);
     let line = console_held::hold(held, &block[..end]);
-    if !console_lines::goes_on(end, block.len(), at, out.len()) {
+    if !console_cut::goes_on(end, block.len(), at, out.len()) {
         return Advance {
             used: end,
             held: line,

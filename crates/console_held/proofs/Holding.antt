@@ -1,5 +1,5 @@
 -- Bytes laid at a place, and bytes held.
-use mathlib.Core.Path.{_≡_, sym, ap, _∙_}
+use mathlib.Core.Path.{_≡_, sym, ap, subst, _∙_}
 use mathlib.Core.List.{List, _++_, append-assoc, append-nil}
 use Prim.Native.Nat.{ℕ, _+_, _-_, _≤_, min}
 use native.Mathlib.Omega.{arith}
@@ -10,6 +10,7 @@ use Rattle.words.proofs.Parts.{lent-put}
 use Rattle.lists.proofs.Lists.{take-min}
 use Rattle.decimal.specs.Decimal.{Printed}
 use Rattle.console_notation.specs.Lines.{clipMost, clipped}
+use Rattle.console_held.specs.declared.Held.{Held}
 use Rattle.console_held.specs.Held.{Holding}
 
 -- ---- bytes laid at a place
@@ -30,6 +31,10 @@ laid-there w from y at n hf hw e =
     }
 
 -- ---- bytes held
+-- what is held, by another name
+pub holding-as : {l m : List ℕ} {h : Held} → l ≡ m → Holding l h → Holding m h
+holding-as {h = h} e p = subst (λ (l : List ℕ). Holding l h) e p
+
 -- as many as are still held, behind those that are
 pub held-there : (bytes from x : List ℕ) (count at n end : ℕ) → length bytes ≡ clipMost → at ≡ min count clipMost → n ≡ min (clipMost - at) (length from) → Printed bytes x at end (take n from)
     → Holding (clipped (take count bytes ++ from)) (record { bytes = x; count = end })

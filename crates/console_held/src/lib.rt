@@ -1,11 +1,11 @@
-// What is held of a line that has not ended: its first bytes, and more behind them.
+// What is held of a line that has not ended: its first bytes, more behind them, and what the end of a script adds.
 ghost use mathlib.Core.Path.{_≡_};
 ghost use mathlib.Core.List.{[], _++_};
-ghost use Prim.Native.Nat.{min};
-ghost use lib.ListN.{take};
+ghost use Prim.Native.Nat.{_-_, min};
+ghost use lib.ListN.{take, drop};
 ghost use Rattle.decimal.specs.Decimal.{Printed};
 ghost use Rattle.console_notation.specs.Lines.{clipped};
-ghost use Rattle.console_held.specs.Held.{heldOf, Holding, RoomFor};
+ghost use Rattle.console_held.specs.Held.{heldOf, Holding, Within, Ended, RoomFor};
 
 // The first bytes of a line that has not ended, `count` of them: all 513 where `count` is more. That a line is too long is told by 513.
 pub struct Held {
@@ -32,6 +32,35 @@ pub fn hold(held: Held, from: &[u8]) -> Held
     let mut bytes = held.bytes;
     let count = append(from, n, &mut bytes, at);
     Held { bytes, count }
+}
+
+// The bytes of a block from one place to another, where nothing is held before them.
+pub fn hold_part(block: &[u8], from: usize, end: usize) -> Held
+    requires { ⌜ Within (now block) from end ⌝ }
+    ensures { λ r. ⌜ Holding (clipped (take (end - from) (drop from (now (block .entry))))) r ⌝ }
+{
+    hold(nothing(), &block[from..end])
+}
+
+// What the end of a script adds to a line that is held: the newline that it lacks.
+pub struct Added {
+    pub bytes: [u8; 1],
+    pub count: usize,
+}
+
+pub fn ending(held: Held) -> Added
+    ensures { λ r. ⌜ Ended (heldOf held) r ⌝ }
+{
+    if held.count == 0 {
+        return Added {
+            bytes: [0u8; 1],
+            count: 0,
+        };
+    }
+    Added {
+        bytes: [10u8; 1],
+        count: 1,
+    }
 }
 
 // Bytes from a place of the buffer on. It answers where they end.

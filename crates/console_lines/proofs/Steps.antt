@@ -5,14 +5,14 @@ use mathlib.Core.List.{List, [], _∷_, _++_}
 use mathlib.Core.Option.{Option}
 use Prim.Native.Nat.{ℕ, suc, _+_, _-_, _≤_, _<_}
 use native.Mathlib.Omega.{arith}
-use lib.ListN.{length, take, drop, set, take-append-drop, length-append, length-take, length-drop}
+use lib.ListN.{length, take, drop, take-append-drop, length-append, length-take, length-drop}
 use lib.Seq.{take-add, drop-drop}
 use lib.Dec.{ltb, leb}
 use borrow.Author.Tests.{ltb-true, ltb-false, lt-ltb, le-ltb, leb-true, leb-false}
 use Rattle.words.specs.Words.{put}
 use Rattle.lists.proofs.Every.{and-true}
 use Rattle.decimal.specs.Decimal.{Printed}
-use Rattle.decimal.proofs.Printing.{printed-none, printed-then, printed-byte, printed-as}
+use Rattle.decimal.proofs.Printing.{printed-none, printed-then}
 use Rattle.protocol.specs.Network.{Network}
 use Rattle.network_layout.specs.InWords.{shaped, meaning}
 use Rattle.script_notation.specs.declared.Reply.{Reply}
@@ -57,21 +57,24 @@ pub effect-as : {t u : Told} {exit w x : List ℕ} {a b : ℕ} → t ≡ u → E
 effect-as {exit = exit} {w = w} {x = x} {a = a} {b = b} e p = subst (λ (t : Told). Effect t exit w x a b) e p
 
 -- ---- a line answered
--- its answer and a newline behind it
-pub collected : (text : List ℕ) {entry exit out₀ x : List ℕ} {at : ℕ} {r : Reply} → at + lineMost ≤ length out₀ → Answered (parse text) entry exit out₀ x at r
-    → Collected (told (meaning entry) text (newline ∷ [])) exit out₀ (set x (r .end) newline) at (record { end = r .end + 1; formed = r .formed })
-unfolding answer
-collected text {entry} {exit} {out₀} {x} {at} {r} h q =
-    let p = q .replied-at .printed in
-    let size : length x ≡ length out₀ = put-length (omega arith) p in
-    record {
-      effect =
-          effect-as (sym (told-newline (meaning entry) text)) (record {
-            printed = printed-then (omega (arith, p .small)) (p .printed) (printed-byte x (r .end) newline (omega (arith, put-end p)));
-            after-is = q .replied-at .after-is;
-          });
-      formed-is = q .formed-is;
-    }
+module _ (text : List ℕ) {entry exit out₀ x : List ℕ} {at : ℕ} {r : Reply} (h : at + lineMost ≤ length out₀) (q : Answered (parse text) entry exit out₀ x at r) where
+  -- there is room for a newline behind its answer
+  pub newline-fits : r .end < length x
+  newline-fits = let p = q .replied-at .printed in omega (arith, put-length (omega arith) p, put-end p)
+
+  -- its answer and a newline behind it
+  pub collected : {y : List ℕ} {end : ℕ} → Printed x y (r .end) end (newline ∷ []) → Collected (told (meaning entry) text (newline ∷ [])) exit out₀ y at (record { end = end; formed = r .formed })
+  unfolding answer
+  collected n =
+      let p = q .replied-at .printed in
+      record {
+        effect =
+            effect-as (sym (told-newline (meaning entry) text)) (record {
+              printed = printed-then (omega (arith, p .small)) (p .printed) n;
+              after-is = q .replied-at .after-is;
+            });
+        formed-is = q .formed-is;
+      }
 
 -- ---- the lines of a block
 -- a test of numbers is the same of both moved on
@@ -110,9 +113,9 @@ module _ {block entry out₀ : List ℕ} {at : ℕ} where
           formed-is = g;
         }
 
-    pub walked-next : {exit y : List ℕ} {end′ : ℕ} → (ltb end (length block) && leb (filled + lineMost) (length x)) ≡ true
-        → Effect (told (meaning mid) (take (end - from) (drop from block)) (newline ∷ [])) exit x y filled end′ → Walked block entry exit out₀ y at (end + 1) end′
-    walked-next {exit} {y} {end′} f q =
+    pub walked-next : {exit y : List ℕ} {from′ end′ : ℕ} → from′ ≡ end + 1 → (ltb end (length block) && leb (filled + lineMost) (length x)) ≡ true
+        → Effect (told (meaning mid) (take (end - from) (drop from block)) (newline ∷ [])) exit x y filled end′ → Walked block entry exit out₀ y at from′ end′
+    walked-next {exit} {y} {from′} {end′} b′ f q =
         let s = meaning entry in
         let m = meaning mid in
         let b = drop from block in
@@ -121,20 +124,20 @@ module _ {block entry out₀ : List ℕ} {at : ℕ} where
         let both = and-true (ltb p (length b)) (leb (filled + lineMost) size) (sym tests ∙ f) in
         let short : p < length b = ltb-true p (length b) (both .0) in
         let line = take p b in
-        let next : end + 1 ≡ from + suc p = omega arith in
+        let next : from′ ≡ from + suc p = omega arith in
         let t = told s [] (take from block) in
         let told-one : told m (take (end - from) b) (newline ∷ []) ≡ lineTold (answer m line)
         = ap (λ (k : ℕ). told m (take k b) (newline ∷ [])) (let k : end - from ≡ p = omega arith in k) ∙ told-newline m line in
         let one : Effect (lineTold (answer m line)) exit x y filled end′ = effect-as told-one q in
-        let told-all : told s [] (take (end + 1) block) ≡ andThen t (lineTold (answer m line))
+        let told-all : told s [] (take from′ block) ≡ andThen t (lineTold (answer m line))
         = ap (λ (k : ℕ). told s [] (take k block)) next
         ∙ ap (told s []) (take-add from (suc p) block)
         ∙ told-append s [] (take from block) (take (suc p) b)
         ∙ ap₂ (λ (o : Option Network) (h : List ℕ). andThen t (told o h (take (suc p) b))) (sym (w .effect .after-is)) (w .whole)
         ∙ ap (andThen t) (told-line m [] b short) in
         let there : end′ ≡ filled + suc (length (answer m line .bytes)) = omega (arith, one .printed .end-is, length-append (answer m line .bytes) (newline ∷ [])) in
-        let rests : drop (end + 1) block ≡ drop (suc p) b = ap (λ (k : ℕ). drop k block) next ∙ sym (drop-drop (suc p) from block) in
-        let behind : used (meaning exit) size end′ [] (drop (end + 1) block) ≡ used (answer m line .after) size (filled + suc (length (answer m line .bytes))) [] (drop (suc p) b)
+        let rests : drop from′ block ≡ drop (suc p) b = ap (λ (k : ℕ). drop k block) next ∙ sym (drop-drop (suc p) from block) in
+        let behind : used (meaning exit) size end′ [] (drop from′ block) ≡ used (answer m line .after) size (filled + suc (length (answer m line .bytes))) [] (drop (suc p) b)
         = (λ i. used (one .after-is i) size (there i) [] (rests i)) in
         record {
           effect = effect-as (sym told-all) (effect-then same (w .effect) one);

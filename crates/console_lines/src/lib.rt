@@ -2,12 +2,9 @@
 use network_layout::WORDS;
 use script_notation::Reply;
 ghost use mathlib.Core.Path.{_≡_};
-ghost use mathlib.Core.Bool.{_&&_};
 ghost use mathlib.Core.List.{[], _∷_};
-ghost use Prim.Native.Nat.{_+_};
-ghost use lib.Dec.{ltb, leb};
 ghost use Rattle.network_layout.specs.InWords.{shaped, meaning};
-ghost use Rattle.console_notation.specs.Lines.{newline, lineMost, told};
+ghost use Rattle.console_notation.specs.Lines.{newline, told};
 ghost use Rattle.console_lines.specs.Asked.{Collecting};
 ghost use Rattle.console_lines.specs.Promises.{Collected, Ended};
 
@@ -34,13 +31,14 @@ pub fn lines(
     let mut from = 0;
     let mut filled = at;
     let mut known = formed;
-    let mut end = script_parsing::find(block, 0, 10);
-    while goes_on(end, block.len(), filled, out.len()) {
+    let mut end = console_cut::line_end(block, 0);
+    while console_cut::goes_on(end, block.len(), filled, out.len()) {
         let reply = collect(&block[from..end], state, known, out, filled);
         filled = reply.end;
         known = reply.formed;
-        from = end + 1;
-        end = script_parsing::find(block, from, 10);
+        let next = console_cut::line_behind(block, end);
+        from = next.from;
+        end = next.end;
     }
     Next {
         from,
@@ -48,19 +46,6 @@ pub fn lines(
         filled,
         formed: known,
     }
-}
-
-// A newline stands at `end` of so many bytes, and there is room for an answer.
-pub fn goes_on(end: usize, size: usize, at: usize, room: usize) -> bool
-    ensures { λ r. ⌜ r ≡ (ltb end size && leb (at + lineMost) room) ⌝ }
-{
-    if size <= end {
-        return false;
-    }
-    if room < 294 {
-        return false;
-    }
-    at <= room - 294
 }
 
 // A line's answer and a newline behind the answers so far. It answers where they end.
@@ -74,11 +59,9 @@ pub fn collect(
     requires { ⌜ Collecting (now state) formed (now out) at ⌝ }
     ensures { λ r. ⌜ Collected (told (meaning (now (state .entry))) (now (text .entry)) (newline ∷ [])) (now (state .exit)) (now (out .entry)) (now (out .exit)) at r ⌝ }
 {
-    let reply = script_line::line(text, state, formed, out, at);
-    let end = reply.end;
-    out[end] = 10;
+    let reply = script_line::line_on(text, state, formed, out, at);
     Reply {
-        end: end + 1,
+        end: console_cut::end_line(out, reply.end),
         formed: reply.formed,
     }
 }

@@ -1,6 +1,5 @@
 pub mod Digits
 pub mod Printing
-pub mod Spelling
 pub mod Signs
 pub mod Values
 pub mod Again

@@ -12,7 +12,7 @@ use borrow.Author.Tests.{not-true, not-false, le-leb, lt-leb, leb-false, eq-eqb,
 use mir.Syntax.{w32}
 use mir.Val.{toZ, SFits}
 use mir.ValLaws.{toZ-ofZ, toZ-pos}
-use Rattle.words.proofs.Signed.{again, down, bits-under, bits-cast-2, minus-small}
+use Rattle.signed_words.proofs.Signed.{again, down, bits-under, bits-cast-2, minus-small}
 use Rattle.decimal.proofs.Digits.{digits-short}
 use Rattle.decimal.specs.Decimal.{digits, signedDigits, natural, notNegative, negative, signed}
 

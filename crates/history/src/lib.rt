@@ -111,7 +111,7 @@ fn valid(b: &[u8]) -> bool
     }
     let sites = sites_said(b);
     let items = items_said(b);
-    history_validity::records_fill(part_of(b), n, sites, items)
+    history_part::records_fill(part_of(b), n, sites, items)
 }
 
 // The number for which the bytes are refused, or 0.

@@ -2,7 +2,7 @@
 use history::Found;
 use libc::STDIN_FILENO;
 use libc::STDOUT_FILENO;
-use script::ANSWER;
+use script_notation::ANSWER;
 ghost use Prim.Native.Nat.{_≤_};
 ghost use lib.ListN.{length};
 ghost use Rattle.history_print.specs.Asked.{Filled, Room};
@@ -127,7 +127,7 @@ fn line(r: Found, text: &mut [u8; ANSWER]) -> usize
     let kinds = r.kinds;
     let items = r.items;
     let values = r.values;
-    script::entry(site, stamp, count, &kinds, &items, &values, text)
+    script_printing::entry(site, stamp, count, &kinds, &items, &values, text)
 }
 
 // A line and a newline.

@@ -5,7 +5,7 @@ use mathlib.Core.List.{List, [], _∷_, map}
 use Prim.Native.Nat.{ℕ, _+_, _*_, _-_, _≤_, _<_}
 use lib.ListN.{length, getD, drop}
 use lib.Dec.{eqb, ltb}
-use borrow.Author.Tests.{lt-ltb, le-ltb, le-leb, lt-leb, eq-eqb, ne-eqb}
+use borrow.Author.Tests.{lt-ltb, le-ltb, eq-eqb, ne-eqb}
 use Rattle.words.specs.Words.{part, chunks}
 use Rattle.lists.specs.Lists.{every}
 use Rattle.timestamp_order.specs.Order.{byNumber}
@@ -14,7 +14,9 @@ use Rattle.records.specs.Records.{opFits, recordFits}
 use Rattle.history_file.specs.Bytes.{unitSize, padded}
 use Rattle.history_file.specs.Reading.{opRead, tupleCount, opCount, tupleUnits, opUnits, recordRead}
 use Rattle.history_file.proofs.Units.{every-map, rest-part, pairsOf}
-use Rattle.history_validity.specs.Fits.{tuplesFit, opFit, fieldsFit}
+use Rattle.history_tuple_validity.specs.Fits.{tuplesFit}
+use Rattle.history_operation_validity.specs.Fits.{opFit}
+use Rattle.history_validity.specs.Fits.{fieldsFit}
 
 -- ---- truth values
 and-false : (a : Bool) → (a && false) ≡ false
@@ -34,27 +36,6 @@ regroup true p q false m o = and-false (p && q)
 every-both : {A : Type 0} (p q : A → Bool) (l : List A) → every (λ x. p x && q x) l ≡ (every p l && every q l)
 every-both p q [] = refl
 every-both p q (x ∷ l) = ap (λ (t : Bool). (p x && q x) && t) (every-both p q l) ∙ swap (p x) (q x) (every p l) (every q l)
-
--- ---- an operation
-module _ (items : ℕ) (u : List ℕ) where
-  module _ (r : Bool) (is : r ≡ padded 2 u) where
-    pub op-unpadded : r ≡ false → false ≡ opFit items u
-    op-unpadded f = sym (rw (sym is ∙ f))
-
-    module _ (t : r ≡ true) where
-      pub kind-unknown : 1 < getD u 0 0 → false ≡ opFit items u
-      kind-unknown h = sym (rw (sym is ∙ t, lt-leb (getD u 0 0) 1 h))
-
-      pub item-asked : getD u 0 0 ≤ 1 → (item : ℕ) → item ≡ getD u 1 0 → ltb item items ≡ opFit items u
-      item-asked h item e = sym (rw (sym is ∙ t, le-leb (getD u 0 0) 1 h, ← e))
-
--- ---- tuples
-module _ (site n : ℕ) (b : List ℕ) (r : Bool) (is : r ≡ every (padded 1) (chunks unitSize n b)) where
-  pub tuples-unpadded : r ≡ false → false ≡ tuplesFit site n b
-  tuples-unpadded f = sym (rw (sym is ∙ f))
-
-  pub tuples-made : r ≡ true → (m : Bool) → m ≡ madeBy byNumber site (record { epoch = 0; tuples = pairsOf b n }) → m ≡ tuplesFit site n b
-  tuples-made t m e = e ∙ sym (rw (sym is ∙ t))
 
 -- ---- a record
 module _ (sites items : ℕ) (b : List ℕ) where

@@ -3,11 +3,11 @@ use limits::RECORDS;
 use timestamp::Timestamp;
 ghost use mathlib.Core.Path.{_≡_};
 ghost use mathlib.Core.Bool.{true};
-ghost use Prim.Native.Nat.{min, _<_};
-ghost use lib.ListN.{length};
+ghost use Prim.Native.Nat.{min};
 ghost use Rattle.limits.specs.Limits.{recordsMost};
 ghost use Rattle.messages.specs.Messages.{commit};
-ghost use Rattle.messages.specs.InWords.{messageIn, messageRange, messageOf, messageSize, PlainMessage};
+ghost use Rattle.messages.specs.InWords.{messageIn, messageRange, messageOf, PlainMessage};
+ghost use Rattle.messages.specs.Asked.{MessageWords, RecordName};
 
 // A message: the number of the record that it names, or 256 and more for a dummy, which has its own timestamp.
 pub struct Message {
@@ -24,7 +24,7 @@ pub const MESSAGE: usize = STAMP + timestamp_words::WORDS;
 
 // The message that words hold, as a plain value.
 pub fn message_in(w: &[u32]) -> Message
-    requires { ⌜ length (now w) ≡ messageSize ⌝ }
+    requires { ⌜ MessageWords (now w) ⌝ }
     ensures { λ r. ⌜ PlainMessage (messageIn (now (w .entry))) r ⌝ }
 {
     let name = words::word(w, NAME);
@@ -39,7 +39,7 @@ pub fn message_in(w: &[u32]) -> Message
 
 // A message laid over the words of another.
 pub fn put_message(w: &mut [u32], m: Message)
-    requires { ⌜ length (now w) ≡ messageSize ⌝ }
+    requires { ⌜ MessageWords (now w) ⌝ }
     ensures { λ r. ⌜ (messageIn (now (w .exit)) ≡ messageOf m) × (messageRange (now (w .exit)) ≡ true) ⌝ }
 {
     w[NAME] = m.name;
@@ -49,7 +49,7 @@ pub fn put_message(w: &mut [u32], m: Message)
 
 // The message that names a commit.
 pub fn named(name: u32) -> Message
-    requires { ⌜ name < recordsMost ⌝ }
+    requires { ⌜ RecordName name ⌝ }
     ensures { λ r. ⌜ PlainMessage (commit name) r ⌝ }
 {
     Message {

@@ -8,7 +8,6 @@ use native.Mathlib.Numerals.{add-one}
 use lib.ListN.{length, getD}
 use lib.Dec.{eqb, ltb, leb}
 use borrow.Author.Tests.{ltb-true, lt-ltb, le-ltb, le-leb, lt-leb}
-use Rattle.lists.specs.Lists.{someBelow}
 use Rattle.lists.proofs.Every.{and-true}
 use Rattle.timestamp_order.specs.Timestamp.{Stamp}
 use Rattle.timestamp.specs.declared.Timestamp.{Timestamp}
@@ -16,46 +15,20 @@ use Rattle.timestamp.specs.Value.{stampOf, PlainValue}
 use Rattle.timestamp.proofs.Plain.{plain-as}
 use Rattle.timestamp_order.specs.Order.{order, isEarlier}
 use Rattle.limits.specs.Limits.{sitesMost, recordsMost}
-use Rattle.placement.specs.Masks.{bit}
-use Rattle.placement.specs.Placement.{Item, isLine, hasParents}
-use Rattle.placement.proofs.Laws.{bit-mask-of}
+use Rattle.placement.specs.Placement.{isLine}
 use Rattle.messages.specs.declared.Message.{Message as MessageValue}
 use Rattle.lines.specs.Lines.{noLine}
 use Rattle.messages.specs.Messages.{commit, dummy}
 use Rattle.messages.specs.InWords.{messageOf, PlainMessage}
 use Rattle.protocol.specs.Network.{Network, noRecord, lineNumber, messageStamp, placeOf, messageFits}
-use Rattle.protocol.specs.Steps.{noSuchSite, lacksArrived, scheduleNumber, head, headStamp, headEarlier, earlierOf, earliest}
+use Rattle.protocol.specs.Steps.{head, headStamp, headEarlier, earlierOf, earliest}
 use Rattle.network_layout.specs.InWords.{networkIn}
 use Rattle.network_layout.specs.At.{AtSite, AtLine}
-use Rattle.network_choice.specs.Choice.{Best, parentsMask, Choosing}
+use Rattle.network_choice.specs.Choice.{Best, Choosing}
 use Rattle.network_layout.proofs.OnNetwork.{well-on, few-on, at-site, at-line}
 use Rattle.protocol.proofs.WellShaped.{Shape, shape-parts}
 use Rattle.protocol.proofs.Allowed.{schedule-allowed}
 use Rattle.protocol.proofs.Chosen.{parent-ends, parent-fits, chosen-line}
-
--- ---- the number
-module _ (n : Network) (j : ℕ) where
-  pub no-site : noSuchSite n j ≡ true → scheduleNumber n j ≡ 7
-  unfolding scheduleNumber
-  no-site a = rw a
-
-  module _ (a : noSuchSite n j ≡ false) where
-    pub no-parents : hasParents (n .items) j ≡ false → scheduleNumber n j ≡ 19
-    unfolding scheduleNumber
-    no-parents b = rw (a, b)
-
-    module _ (b : hasParents (n .items) j ≡ true) where
-      pub some-lack : someBelow (lacksArrived n j) sitesMost ≡ true → scheduleNumber n j ≡ 20
-      unfolding scheduleNumber
-      some-lack c = rw (a, b, c)
-
-      pub none-lack : someBelow (lacksArrived n j) sitesMost ≡ false → scheduleNumber n j ≡ 0
-      unfolding scheduleNumber
-      none-lack c = rw (a, b, c)
-
--- a bit of the mask of the parents
-pub parent-bit : (xs : List Item) (j mask p : ℕ) → mask ≡ parentsMask xs j → p < sitesMost → bit mask p ≡ isLine xs p j
-parent-bit xs j mask p e h = ap (λ (m : ℕ). bit m p) e ∙ bit-mask-of (λ q. isLine xs q j) sitesMost p h
 
 -- ---- the best parent so far, and one more
 module _ (n : Network) (j p parent : ℕ) (t : Timestamp) (b : Best n j p parent t) where

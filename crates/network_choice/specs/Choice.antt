@@ -3,38 +3,22 @@ use mathlib.Core.Path.{_≡_}
 use mathlib.Core.Bool.{true}
 use mathlib.Core.List.{List}
 use Prim.Native.Nat.{ℕ, _<_}
-use lib.ListN.{length}
 use Rattle.timestamp.specs.declared.Timestamp.{Timestamp}
 use Rattle.timestamp.specs.Value.{PlainValue}
 use Rattle.limits.specs.Limits.{sitesMost}
-use Rattle.placement.specs.Masks.{maskOf}
-use Rattle.placement.specs.Placement.{Item, isLine}
+use Rattle.placement.specs.Placement.{isLine}
 use Rattle.protocol.specs.Network.{Network}
 use Rattle.protocol.specs.Steps.{scheduleNumber, headStamp, earliest}
 use Rattle.network_layout.specs.InWords.{networkIn}
 use Rattle.network_layout.specs.At.{AtNetwork}
+use Rattle.network_schedule_causes.specs.Parents.{parentsMask}
 
 -- of the parents of j below k the earliest, and the timestamp of its oldest message
 pub record Best (n : Network) (j k parent : ℕ) (stamp : Timestamp) : Type 0 where
   pub is : parent ≡ earliest n j k
   pub stamped : parent < sitesMost → PlainValue (headStamp n parent j) stamp
 
--- the parents of j, a bit for each
-abbrev pub parentsMask : List Item → ℕ → ℕ
-parentsMask xs j = maskOf (λ p. isLine xs p j) sitesMost
-
 -- ---- what is asked: the words of a network, with
--- site j
-pub record AtChild (w : List ℕ) (j : ℕ) : Type 0 where
-  pub net : AtNetwork w
-  pub there : j < length (networkIn w .sites)
-
--- site j, the mask of its parents, and a number p that may be one of them
-pub record AtParent (w : List ℕ) (mask p j : ℕ) : Type 0 where
-  pub child : AtChild w j
-  pub few : p < sitesMost
-  pub parents : mask ≡ parentsMask (networkIn w .items) j
-
 -- site j, whose schedule no cause refuses
 pub record Choosing (w : List ℕ) (j : ℕ) : Type 0 where
   pub net : AtNetwork w

@@ -1,4 +1,4 @@
-// Which message a schedule takes: its number, and of the parents' oldest messages the earliest.
+// Which message a schedule takes: of the parents' oldest messages the earliest.
 use timestamp::Timestamp;
 use timestamp_order::Order;
 ghost use mathlib.Core.Path.{_≡_};
@@ -6,12 +6,9 @@ ghost use Prim.Native.Nat.{_+_};
 ghost use Rattle.timestamp.specs.Value.{stampOf, PlainValue};
 ghost use Rattle.timestamp_order.specs.Order.{order, isEarlier};
 ghost use Rattle.limits.specs.Limits.{sitesMost};
-ghost use Rattle.lists.specs.Lists.{someBelow};
-ghost use Rattle.protocol.specs.Network.{lineNumber};
-ghost use Rattle.protocol.specs.Steps.{scheduleNumber, lacksArrived, headStamp};
+ghost use Rattle.protocol.specs.Steps.{headStamp};
 ghost use Rattle.network_layout.specs.InWords.{networkIn};
-ghost use Rattle.network_layout.specs.At.{AtNetwork};
-ghost use Rattle.network_choice.specs.Choice.{Best, AtChild, AtParent, Choosing, ChoosingFrom, Comparing};
+ghost use Rattle.network_choice.specs.Choice.{Best, Choosing, ChoosingFrom, Comparing};
 
 // A parent and the timestamp of its oldest message; the parent is 8 where there is none.
 pub struct Head {
@@ -19,51 +16,7 @@ pub struct Head {
     pub stamp: Timestamp,
 }
 
-// The number of the first cause that refuses the step, or 0.
-pub fn schedule_number(state: &[u32], j: u32) -> u32
-    requires { ⌜ AtNetwork (now state) ⌝ }
-    ensures { λ r. ⌜ r ≡ scheduleNumber (networkIn (now (state .entry))) j ⌝ }
-{
-    if !network_placement::is_site(state, j) {
-        return 7;
-    }
-    if !network_placement::has_parents(state, j) {
-        return 19;
-    }
-    if lacks_arrived(state, j) {
-        return 20;
-    }
-    0
-}
-
-// Whether the line from some parent has no message that has arrived.
-fn lacks_arrived(state: &[u32], j: u32) -> bool
-    requires { ⌜ AtChild (now state) j ⌝ }
-    ensures { λ r. ⌜ r ≡ someBelow (lacksArrived (networkIn (now (state .entry))) j) sitesMost ⌝ }
-{
-    let mask = network_placement::parents(state, j);
-    let mut p = 0;
-    while p < limits::SITES {
-        if lacks_from(state, mask, p, j) {
-            return true;
-        }
-        p += 1;
-    }
-    false
-}
-
-// Whether p is one of the parents, whose mask is given, and its line has no message that has arrived.
-fn lacks_from(state: &[u32], mask: u32, p: u32, j: u32) -> bool
-    requires { ⌜ AtParent (now state) mask p j ⌝ }
-    ensures { λ r. ⌜ r ≡ lacksArrived (networkIn (now (state .entry))) j p ⌝ }
-{
-    if !placement::bit(mask, p) {
-        return false;
-    }
-    network_access::line_arrived(state, network_access::line_number(p, j)) == 0
-}
-
-// ---- the parent with the earliest message, at a site whose schedule is not refused
+// The parent with the earliest message, at a site whose schedule is not refused
 pub fn chosen(state: &[u32], j: u32) -> Head
     requires { ⌜ Choosing (now state) j ⌝ }
     ensures { λ r. ⌜ Best (networkIn (now (state .entry))) j sitesMost (r .parent) (r .stamp) ⌝ }
@@ -114,9 +67,9 @@ fn head_stamp(state: &[u32], p: u32, j: u32) -> Timestamp
     requires { ⌜ ChoosingFrom (now state) p j ⌝ }
     ensures { λ r. ⌜ PlainValue (headStamp (networkIn (now (state .entry))) p j) r ⌝ }
 {
-    let m = network_access::line_first(state, network_access::line_number(p, j));
+    let m = network_lines::line_first(state, network_lines::line_number(p, j));
     if m.name < limits::RECORDS {
-        return network_access::record_stamp(state, words::wide(m.name));
+        return network_records::record_stamp(state, words::wide(m.name));
     }
     m.stamp
 }

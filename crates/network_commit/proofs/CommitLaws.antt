@@ -5,7 +5,6 @@ use mathlib.Core.List.{List, [], _∷_, map}
 use Prim.Native.Nat.{ℕ, _≤_, _<_}
 use lib.IntN.{ℤ}
 use lib.ListN.{length, take}
-use lib.Seq.{getD-set-same}
 use lib.Dec.{leb, eqb}
 use borrow.Author.Tests.{lt-ltb, le-ltb, le-leb, lt-leb, eq-eqb, ne-eqb, eqb-true, eqb-false}
 use Rattle.limits.specs.Limits.{opsMost, sitesMost, recordsMost}
@@ -13,19 +12,20 @@ use Rattle.timestamp_order.specs.Timestamp.{Stamp}
 use Rattle.timestamp.specs.declared.Timestamp.{Timestamp}
 use Rattle.timestamp.specs.Value.{stampOf}
 use Rattle.site_operations.specs.Operations.{Op, valuesRead}
-use Rattle.site.specs.Site.{Site, committed}
+use Rattle.site.specs.Site.{committed}
 use Rattle.placement.specs.Masks.{bit, maskOf}
 use Rattle.lines.specs.Lines.{Line}
 use Rattle.messages.specs.Messages.{commit as commitMessage}
 use Rattle.lists.specs.Numbers.{firstNumber, numberIf}
-use Rattle.protocol.specs.Network.{Network, noStamp, noSite, siteAt, withSite, withLines, withRecord}
+use Rattle.protocol.specs.Network.{Network, noStamp, siteAt, withSite, withLines, withRecord}
 use Rattle.protocol.specs.Steps.{noSuchSite, countAtMost, someLineFull, due, sentTo, opNumber, opsOf, commitCauses, wrongLists, commitNumber, recordOf, commitNetwork}
 use Rattle.protocol.specs.Calls.{Outcome, commit, accepted, perform}
 use Rattle.network_layout.specs.declared.Committed.{Committed}
-use Rattle.network_layout.specs.InWords.{networkIn, shaped, SiteStep, SentStep}
+use Rattle.network_layout.specs.InWords.{networkIn, shaped, SentStep}
 use Rattle.network_layout.specs.Promises.{Performed, CommitAnswered}
 use Rattle.network_layout.specs.At.{AtNetwork}
-use Rattle.network_commit.specs.Done.{CommitReady, WorkDone, CommitDone, Refused, CommitTried}
+use Rattle.network_work.specs.Work.{WorkDone}
+use Rattle.network_commit.specs.Done.{CommitReady, CommitDone, Refused, CommitTried}
 use Rattle.network_layout.proofs.OnNetwork.{well-on, refused-on, accepted-on, unshaped}
 use Rattle.protocol.proofs.Allowed.{commit-allowed}
 use Rattle.network_sending.proofs.SendLaws.{full-by-mask, sent-by-mask}
@@ -115,16 +115,7 @@ module _ (n : Network) (i : ℕ) (ks is : List ℕ) (vs : List ℤ) where
     unfolding commitNumber
     commit-later b = rw (a, b)
 
--- ---- the step on words: the site, then the record, then the messages
-module _ (w : List ℕ) (i : ℕ) (os : List Op) (there : i < length (networkIn w .sites)) (v : List ℕ) (s : SiteStep w v i (committed os)) where
-  pub stamp-now : siteAt (networkIn v) i .stamp ≡ recordOf (networkIn w) i os .stamp
-  stamp-now =
-      let n = networkIn w in
-      ap (λ (m : Network). siteAt m i .stamp) (s .meant) ∙ ap (λ (x : Site). x .stamp) (getD-set-same (n .sites) i (committed os (siteAt n i)) noSite there)
-
-  pub history-now : networkIn v .history ≡ networkIn w .history
-  history-now = ap (λ (m : Network). m .history) (s .meant)
-
+-- ---- the step on words: the messages after the site and the record
 module _ (w : List ℕ) (i n mask : ℕ) (os : List Op) (ready : CommitReady w i n mask os) (v : List ℕ) (t : Timestamp) (ops : List Op) (worked : WorkDone w v i os t ops) where
   abbrev net : Network
   net = networkIn w

@@ -13,7 +13,7 @@ use borrow.Author.Tests.{eq-eqb, ne-eqb}
 use mir.Val.{toZ, ofZ, SFits}
 use mir.ValLaws.{toZ-ofZ}
 use mir.Syntax.{w32}
-use Rattle.words.proofs.Signed.{again}
+use Rattle.signed_words.proofs.Signed.{again}
 use Rattle.site_operations.specs.Operations.{Op, reads, valuesRead}
 use Rattle.site_operations.specs.InWords.{opAt, opsIn, opOf}
 use Rattle.site_operations.proofs.Laws.{ops-last}

@@ -4,21 +4,17 @@ use mathlib.Core.Bool.{true}
 use mathlib.Core.List.{List}
 use Prim.Native.Nat.{ℕ, _≤_, _<_}
 use lib.IntN.{pos}
-use lib.ListN.{length, getD, take}
-use Rattle.limits.specs.Limits.{sitesMost, itemsMost, opsMost, recordsMost}
-use Rattle.lists.specs.Lists.{every, Filled}
+use lib.ListN.{length, take}
+use Rattle.limits.specs.Limits.{sitesMost, opsMost}
+use Rattle.lists.specs.Lists.{Filled}
 use Rattle.lists.specs.Numbers.{firstNumber}
-use Rattle.timestamp.specs.declared.Timestamp.{Timestamp}
 use Rattle.timestamp.specs.Value.{PlainValue}
 use Rattle.site_operations.specs.Operations.{Op, valuesRead}
-use Rattle.site.specs.Site.{committed}
 use Rattle.placement.specs.Masks.{maskOf}
-use Rattle.records.specs.Records.{opFits}
-use Rattle.protocol.specs.Network.{noStamp, siteAt, withSite, withRecord}
+use Rattle.protocol.specs.Network.{noStamp}
 use Rattle.protocol.specs.Steps.{due, commitCauses, recordOf, commitNetwork}
 use Rattle.protocol.specs.Allowed.{CommitAllowed}
 use Rattle.network_layout.specs.declared.Committed.{Committed}
-use Rattle.network_layout.specs.Layout.{stateSize}
 use Rattle.network_layout.specs.InWords.{networkIn, inRange}
 use Rattle.network_layout.specs.At.{AtNetwork}
 
@@ -51,24 +47,6 @@ pub record Masked (w : List ℕ) (i n mask : ℕ) (os : List Op) : Type 0 where
 pub record CommitReady (w : List ℕ) (i n mask : ℕ) (os : List Op) : Type 0 where
   pub masked : Masked w i n mask os
   pub allowed : CommitAllowed (networkIn w) i os
-
--- the site has room for n operations, the history for a record, and the record for the operations
-pub record WorkReady (w : List ℕ) (i n : ℕ) (os : List Op) : Type 0 where
-  pub sized : length w ≡ stateSize
-  pub ranged : inRange w ≡ true
-  pub there : i < getD w 0 0
-  pub few : i < sitesMost
-  pub room : getD w 2 0 < recordsMost
-  pub some-ops : 1 ≤ n
-  pub few-ops : n ≤ opsMost
-  pub fitting : every (opFits itemsMost) os ≡ true
-
--- the operations worked at the site, and the record added; the timestamp and the operations as recorded
-pub record WorkDone (entry exit : List ℕ) (i : ℕ) (os : List Op) (stamp : Timestamp) (ops : List Op) : Type 0 where
-  pub network-is : networkIn exit ≡ withRecord (withSite (networkIn entry) i (committed os (siteAt (networkIn entry) i))) (recordOf (networkIn entry) i os)
-  pub ranged : inRange exit ≡ true
-  pub stamp-is : PlainValue (recordOf (networkIn entry) i os .stamp) stamp
-  pub ops-are : ops ≡ recordOf (networkIn entry) i os .ops
 
 -- what a commit of the operations `os` at site i that no cause refuses answers and leaves
 pub record CommitDone (entry exit : List ℕ) (i : ℕ) (os : List Op) (r : Committed) : Type 0 where

@@ -7,13 +7,9 @@ use network_layout::Committed;
 use network_layout::RECORD_COUNT;
 use network_layout::WORDS;
 pub use operations::op_words;
-use site_operations::OPERATIONS;
-use timestamp::Timestamp;
 ghost use mathlib.Core.Path.{_≡_};
-ghost use Prim.Native.Nat.{_≤_};
 ghost use lib.ListN.{length};
 ghost use Rattle.site_operations.specs.InWords.{opsIn};
-ghost use Rattle.limits.specs.Limits.{opsMost};
 ghost use Rattle.lists.specs.Numbers.{firstNumber};
 ghost use Rattle.network_layout.specs.Layout.{stateSize};
 ghost use Rattle.protocol.specs.Steps.{commitCauses, wrongLists};
@@ -21,13 +17,7 @@ ghost use Rattle.protocol.specs.Calls.{commit as commitCall};
 ghost use Rattle.network_layout.specs.InWords.{networkIn};
 ghost use Rattle.network_layout.specs.At.{AtNetwork};
 ghost use Rattle.network_layout.specs.Promises.{CommitAnswered};
-ghost use Rattle.network_commit.specs.Done.{CommitAt, Masked, CommitReady, CommitDone, Refused, CommitTried, WorkReady, WorkDone};
-
-// The timestamp of a commit, and its operations as the history keeps them.
-struct Worked {
-    stamp: Timestamp,
-    ops: [u32; OPERATIONS],
-}
+ghost use Rattle.network_commit.specs.Done.{CommitAt, Masked, CommitReady, CommitDone, Refused, CommitTried};
 
 // A commit at a site: operations as three lists of their fields. It answers its number, the timestamp and the values read.
 pub fn commit(
@@ -112,7 +102,7 @@ fn commit_cause(state: &[u32], site: u32, ops: &[u32], n: usize, mask: u32) -> u
     if network_sending::some_line_full(state, site, mask) {
         return 13;
     }
-    if network_access::count_at_most(state, words::wide(site)) {
+    if network_sites::count_at_most(state, words::wide(site)) {
         return 14;
     }
     0
@@ -124,7 +114,7 @@ fn commit_done(state: &mut [u32], site: u32, ops: &[u32], n: usize, mask: u32) -
     ensures { λ r. ⌜ CommitDone (now (state .entry)) (now (state .exit)) site (opsIn n (now (ops .entry))) r ⌝ }
 {
     let name = state[RECORD_COUNT];
-    let worked = work(state, site, ops, n);
+    let worked = network_work::work(state, site, ops, n);
     let t = worked.stamp;
     let done = worked.ops;
     let m = Message { name, stamp: t };
@@ -136,21 +126,6 @@ fn commit_done(state: &mut [u32], site: u32, ops: &[u32], n: usize, mask: u32) -
         stamp: t,
         count: given.count,
         values: read,
-    }
-}
-
-// The operations worked at the site, and the commit's record added.
-fn work(state: &mut [u32], site: u32, ops: &[u32], n: usize) -> Worked
-    requires { ⌜ WorkReady (now state) site n (opsIn n (now ops)) ⌝ }
-    ensures { λ r. ⌜ WorkDone (now (state .entry)) (now (state .exit)) site (opsIn n (now (ops .entry))) (r .stamp) (opsIn n (r .ops)) ⌝ }
-{
-    let i = words::wide(site);
-    let done = network_access::site_commit(state, i, ops, n);
-    let t = network_access::site_stamp(state, i);
-    network_access::add_record(state, site, short(n), t, &done);
-    Worked {
-        stamp: t,
-        ops: done,
     }
 }
 
@@ -168,12 +143,4 @@ fn wrong_lists(kinds: usize, items: usize, values: usize) -> bool
         return true;
     }
     values != kinds
-}
-
-// A number of operations as a word.
-fn short(n: usize) -> u32
-    requires { ⌜ n ≤ opsMost ⌝ }
-    ensures { λ r. ⌜ r ≡ n ⌝ }
-{
-    n as u32
 }

@@ -38,7 +38,7 @@ pub fn deliver_on(state: &mut [u32], parent: u32, child: u32) -> u32
     if number != 0 {
         return number;
     }
-    network_access::line_deliver(state, network_access::line_number(parent, child));
+    network_lines::line_deliver(state, network_lines::line_number(parent, child));
     0
 }
 
@@ -67,6 +67,6 @@ fn none_on_way(state: &[u32], parent: u32, child: u32) -> bool
     requires { ⌜ AtPair (now state) parent child ⌝ }
     ensures { λ r. ⌜ r ≡ leb (length (lineAt (networkIn (now (state .entry))) parent child .messages)) (lineAt (networkIn (now (state .entry))) parent child .arrived) ⌝ }
 {
-    let k = network_access::line_number(parent, child);
-    network_access::line_held(state, k) <= network_access::line_arrived(state, k)
+    let k = network_lines::line_number(parent, child);
+    network_lines::line_held(state, k) <= network_lines::line_arrived(state, k)
 }

@@ -66,7 +66,7 @@ fn dummy_number(state: &[u32], site: u32) -> u32
     if network_sending::some_line_full(state, site, mask) {
         return 13;
     }
-    if network_access::count_at_most(state, words::wide(site)) {
+    if network_sites::count_at_most(state, words::wide(site)) {
         return 14;
     }
     0
@@ -93,6 +93,6 @@ fn raise(state: &mut [u32], site: u32) -> Timestamp
     ensures { λ r. ⌜ Raised (now (state .entry)) (now (state .exit)) site r ⌝ }
 {
     let i = words::wide(site);
-    network_access::site_dummy(state, i);
-    network_access::site_stamp(state, i)
+    network_sites::site_dummy(state, i);
+    network_sites::site_stamp(state, i)
 }

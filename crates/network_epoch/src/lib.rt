@@ -37,7 +37,7 @@ pub fn epoch_on(state: &mut [u32], site: u32, to: u32) -> u32
     if number != 0 {
         return number;
     }
-    network_access::site_epoch(state, words::wide(site), to);
+    network_sites::site_epoch(state, words::wide(site), to);
     0
 }
 
@@ -52,7 +52,7 @@ fn epoch_number(state: &[u32], site: u32, to: u32) -> u32
     if network_placement::has_parents(state, site) {
         return 15;
     }
-    let t = network_access::site_stamp(state, words::wide(site));
+    let t = network_sites::site_stamp(state, words::wide(site));
     let present = t.epoch;
     if to <= present.0 {
         return 16;

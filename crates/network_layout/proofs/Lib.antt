@@ -4,3 +4,4 @@ pub mod Asked
 pub mod Played
 pub mod OnNetwork
 pub mod Questions
+pub mod AccessLaws

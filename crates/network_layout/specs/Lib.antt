@@ -4,3 +4,4 @@ pub mod At
 pub mod Promises
 pub mod Reading
 pub mod Played
+pub mod Lent

@@ -1,3 +1,2 @@
-pub mod ClearWords
-pub mod NewWords
 pub mod StartWords
+pub mod NewWords

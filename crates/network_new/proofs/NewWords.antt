@@ -8,14 +8,15 @@ use lib.ListN.{length, getD, set, length-set}
 use lib.Seq.{getD-set-same, getD-set-other}
 use Rattle.words.specs.Words.{part, put, chunks, laid}
 use Rattle.lists.specs.Lists.{every}
-use Rattle.words.proofs.Parts.{part-length, put-length, put-here, put-below, put-getD-below}
+use Rattle.words.proofs.Parts.{put-length, put-here, put-below, put-getD-below}
 use Rattle.words.proofs.Walks.{laid-in}
 use Rattle.placement.specs.InWords.{itemsIn}
 use Rattle.records.specs.InWords.{recordIn, recordRange, recordSize}
 use Rattle.protocol.specs.Network.{linesMost}
 use Rattle.network_layout.specs.Layout.{itemsAt, itemsSize, sitesAt, sitesSize, linesAt, linesSize, historyAt, historySize, stateSize}
 use Rattle.network_layout.proofs.Assembled.{partsOf, networkOf, network-of, Range, range-whole}
-use Rattle.network_new.specs.New.{Begun, Started, Cleared, LayingOut}
+use Rattle.network_new_lines.specs.Cleared.{Cleared, Replaced}
+use Rattle.network_new.specs.New.{Begun, Started, LayingOut}
 
 no-records : (w : List ℕ) → (map recordIn (chunks recordSize 0 w) ≡ []) × (every recordRange (chunks recordSize 0 w) ≡ true)
 unfolding chunks
@@ -107,23 +108,10 @@ module _ (w placed : List ℕ) (sites items : ℕ) (asked : LayingOut w placed s
         }
 
   -- as the code lays them: the counts and the items' words, l; the sites' words, s; the lines' words, e
-  module _ (l : List ℕ) (laid-size : length l ≡ stateSize) where
-    module _ (s : List ℕ) (s-long : length s ≡ length (part l sitesAt sitesSize)) where
-      started-size : length s ≡ sitesSize
-      started-size = s-long ∙ part-length l sitesAt sitesSize (omega (arith, laid-size))
-
-      pub sited-long : length (put l sitesAt sitesSize s) ≡ stateSize
-      sited-long = put-length l sitesAt sitesSize s (omega (arith, laid-size)) started-size ∙ laid-size
-
-      module _ (e : List ℕ) (e-long : length e ≡ length (part (put l sitesAt sitesSize s) linesAt linesSize)) where
-        cleared-size : length e ≡ linesSize
-        cleared-size = e-long ∙ part-length (put l sitesAt sitesSize s) linesAt linesSize (omega (arith, sited-long))
-
-        pub out-size : length (put (put l sitesAt sitesSize s) linesAt linesSize e) ≡ length w
-        out-size = put-length (put l sitesAt sitesSize s) linesAt linesSize e (omega (arith, sited-long)) cleared-size ∙ sited-long ∙ sym (asked .sized)
-
-        pub out-begun : l ≡ laid heads itemsAt placed → Started s sites → Cleared e linesMost → Begun (put (put l sitesAt sitesSize s) linesAt linesSize e) sites (itemsIn items placed)
-        out-begun laid-items started cleared =
-            let laid-words : l ≡ itemed
-            = laid-items ∙ laid-in heads itemsAt placed (omega (arith, items-inside, asked .placed-sized)) ∙ ap (λ (k : ℕ). put heads itemsAt k placed) (asked .placed-sized) in
-            subst (λ (x : List ℕ). Begun (put (put x sitesAt sitesSize s) linesAt linesSize e) sites (itemsIn items placed)) (sym laid-words) (begun s e started-size cleared-size started cleared)
+  pub out-begun : (l : List ℕ) → l ≡ laid heads itemsAt placed → (s : List ℕ) → Replaced sitesAt sitesSize (λ (x : List ℕ). Started x sites) l s → (e : List ℕ) → Replaced linesAt linesSize (λ (x : List ℕ). Cleared x linesMost) s e → Begun e sites (itemsIn items placed)
+  out-begun l laid-items s started e cleared =
+      let laid-words : l ≡ itemed
+      = laid-items ∙ laid-in heads itemsAt placed (omega (arith, items-inside, asked .placed-sized)) ∙ ap (λ (k : ℕ). put heads itemsAt k placed) (asked .placed-sized) in
+      let out : put (put itemed sitesAt sitesSize (started .words)) linesAt linesSize (cleared .words) ≡ e
+      = ap (λ (x : List ℕ). put (put x sitesAt sitesSize (started .words)) linesAt linesSize (cleared .words)) (sym laid-words) ∙ sym (cleared .is ∙ ap (λ (x : List ℕ). put x linesAt linesSize (cleared .words)) (started .is)) in
+      subst (λ (x : List ℕ). Begun x sites (itemsIn items placed)) out (begun (started .words) (cleared .words) (started .sized) (cleared .sized) (started .are) (cleared .are))

@@ -2,7 +2,7 @@
 use mathlib.Core.Path.{_≡_}
 use mathlib.Core.Bool.{true}
 use mathlib.Core.List.{List, [], map}
-use Prim.Native.Nat.{ℕ, _≤_, _<_}
+use Prim.Native.Nat.{ℕ, _+_, _≤_, _<_}
 use lib.ListN.{length, replicate}
 use Rattle.words.specs.Words.{chunks}
 use Rattle.lists.specs.Lists.{every}
@@ -10,10 +10,9 @@ use Rattle.limits.specs.Limits.{sitesMost, itemsMost}
 use Rattle.site.specs.InWords.{siteIn, siteRange, siteSize}
 use Rattle.placement.specs.Placement.{Item}
 use Rattle.lines.specs.Lines.{noLine}
-use Rattle.lines.specs.InWords.{lineIn, lineRange, lineSize}
 use Rattle.protocol.specs.Network.{linesMost, Network}
 use Rattle.protocol.specs.Steps.{startSites}
-use Rattle.network_layout.specs.Layout.{stateSize, itemsSize, sitesSize, linesSize}
+use Rattle.network_layout.specs.Layout.{stateSize, itemsSize, sitesSize}
 use Rattle.network_layout.specs.InWords.{networkIn, inRange}
 
 -- so many sites at their start, these items, nothing on the lines and nothing recorded
@@ -30,11 +29,6 @@ pub record Started (w : List ℕ) (n : ℕ) : Type 0 where
   pub are : map siteIn (chunks siteSize n w) ≡ startSites 0 n
   pub ranged : every siteRange (chunks siteSize n w) ≡ true
 
--- the first k lines of the lines' words hold nothing
-pub record Cleared (w : List ℕ) (k : ℕ) : Type 0 where
-  pub are : map lineIn (chunks lineSize k w) ≡ replicate k noLine
-  pub ranged : every lineRange (chunks lineSize k w) ≡ true
-
 -- ---- what is asked
 -- a state and the items' words, and counts in range
 pub record LayingOut (w placed : List ℕ) (sites items : ℕ) : Type 0 where
@@ -44,6 +38,11 @@ pub record LayingOut (w placed : List ℕ) (sites items : ℕ) : Type 0 where
   pub few-sites : sites ≤ sitesMost
   pub some-items : 1 ≤ items
   pub few-items : items ≤ itemsMost
+
+-- a state whose sites' words start at a place, for n of them
+pub record StartingAt (w : List ℕ) (at n : ℕ) : Type 0 where
+  pub inside : at + sitesSize ≤ length w
+  pub few : n ≤ sitesMost
 
 -- the sites' words, for n of them
 pub record Starting (w : List ℕ) (n : ℕ) : Type 0 where
@@ -55,9 +54,3 @@ pub record StartingNext (w : List ℕ) (i : ℕ) : Type 0 where
   pub sized : length w ≡ sitesSize
   pub room : i < sitesMost
   pub so-far : Started w i
-
--- the lines' words, with k of them cleared and one more to come
-pub record ClearingNext (w : List ℕ) (k : ℕ) : Type 0 where
-  pub sized : length w ≡ linesSize
-  pub room : k < linesMost
-  pub so-far : Cleared w k

@@ -1,21 +1,20 @@
 // The words of a new network: its counts, its placement, its sites at their start and its lines empty. What means nothing stays as it was.
-use network_layout::HISTORY;
+use limits::SITES_WIDE;
 use network_layout::ITEM_COUNT;
 use network_layout::ITEMS;
-use network_layout::LINE;
 use network_layout::LINES;
-use network_layout::LINES_MOST;
 use network_layout::RECORD_COUNT;
 use network_layout::SITE;
 use network_layout::SITE_COUNT;
 use network_layout::SITES;
-ghost use mathlib.Core.Path.{_≡_};
 ghost use Prim.Native.Nat.{_+_};
-ghost use lib.ListN.{length};
 ghost use Rattle.placement.specs.InWords.{itemsIn};
-ghost use Rattle.protocol.specs.Network.{linesMost};
-ghost use Rattle.network_layout.specs.Layout.{linesSize};
-ghost use Rattle.network_new.specs.New.{Begun, Started, Cleared, LayingOut, Starting, StartingNext, ClearingNext};
+ghost use Rattle.network_layout.specs.Layout.{sitesSize};
+ghost use Rattle.network_new_lines.specs.Cleared.{Replaced};
+ghost use Rattle.network_new.specs.New.{Begun, Started, LayingOut, Starting, StartingAt, StartingNext};
+
+// How many words the sites take.
+const SITES_WORDS: usize = SITES_WIDE * SITE;
 
 // The words of a new network of these sites and items.
 pub fn lay_out(state: &mut [u32], sites: u32, items: u32, placed: &[u32])
@@ -26,11 +25,20 @@ pub fn lay_out(state: &mut [u32], sites: u32, items: u32, placed: &[u32])
     state[ITEM_COUNT] = items;
     state[RECORD_COUNT] = 0;
     words::lay(state, ITEMS, placed);
-    start_sites(&mut state[SITES..LINES], sites);
-    clear_lines(&mut state[LINES..HISTORY]);
+    start_at(state, SITES, sites);
+    network_new_lines::clear_at(state, LINES);
 }
 
 // ---- the sites
+// The first n of those whose words start at a place, at their start.
+fn start_at(state: &mut [u32], at: usize, n: u32)
+    requires { ⌜ StartingAt (now state) at n ⌝ }
+    ensures { λ r. ⌜ Replaced at sitesSize (λ w. Started w n) (now (state .entry)) (now (state .exit)) ⌝ }
+{
+    let e = at + SITES_WORDS;
+    start_sites(&mut state[at..e], n);
+}
+
 // The first n sites at their start.
 fn start_sites(w: &mut [u32], n: u32)
     requires { ⌜ Starting (now w) n ⌝ }
@@ -52,25 +60,4 @@ fn start_one(w: &mut [u32], i: u32)
     words[1] = 1;
     words[2] = i;
     words::lay(w, words::wide(i) * SITE, &words);
-}
-
-// ---- the lines
-// Every line empty.
-fn clear_lines(w: &mut [u32])
-    requires { ⌜ length (now w) ≡ linesSize ⌝ }
-    ensures { λ r. ⌜ Cleared (now (w .exit)) linesMost ⌝ }
-{
-    let mut k = 0;
-    while k < LINES_MOST {
-        clear_one(w, k);
-        k += 1;
-    }
-}
-
-// Line k after the k before it: it holds no message, and none has arrived.
-fn clear_one(w: &mut [u32], k: usize)
-    requires { ⌜ ClearingNext (now w) k ⌝ }
-    ensures { λ r. ⌜ Cleared (now (w .exit)) (k + 1) ⌝ }
-{
-    words::lay(w, k * LINE, &[0, 0]);
 }

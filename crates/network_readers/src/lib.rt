@@ -5,18 +5,12 @@ use network_layout::Stamped;
 use network_layout::Tabled;
 use network_layout::WORDS;
 ghost use mathlib.Core.Path.{_≡_};
-ghost use lib.IntN.{pos};
-ghost use lib.ListN.{length, take};
-ghost use Rattle.limits.specs.Limits.{itemsMost};
-ghost use Rattle.site_operations.specs.InWords.{tableIn};
+ghost use lib.ListN.{length};
 ghost use Rattle.protocol.specs.Questions.{askedLine};
 ghost use Rattle.network_layout.specs.Layout.{stateSize};
 ghost use Rattle.network_layout.specs.InWords.{networkIn};
-ghost use Rattle.network_layout.specs.At.{AtSite, AtNetwork, HasLine};
-ghost use Rattle.network_readers.specs.Readers.{padded, tableOf, TableAt, TableRead, StampRead, LineAt, LineRead, Values};
-
-// Where a site's words have its table.
-const TABLE: usize = timestamp_words::WORDS;
+ghost use Rattle.network_layout.specs.At.{AtNetwork};
+ghost use Rattle.network_readers.specs.Readers.{TableRead, StampRead, LineRead};
 
 // The table of a site. It answers its number and a value for each item.
 pub fn table(state: &[u32; WORDS], site: u32) -> Tabled
@@ -37,35 +31,7 @@ fn table_in(state: &[u32], site: u32) -> Tabled
             values: [0; ITEMS_WIDE],
         };
     }
-    table_at(state, words::wide(site))
-}
-
-// The values of the items at site i.
-fn table_at(state: &[u32], i: usize) -> Tabled
-    requires { ⌜ AtSite (now state) i ⌝ }
-    ensures { λ r. ⌜ TableAt (tableOf i (networkIn (now (state .entry)))) (r .number) (r .count) (r .values) ⌝ }
-{
-    let count = words::wide(network_placement::item_count(state));
-    let w = network_access::site_at(state, i);
-    Tabled {
-        number: 0,
-        count,
-        values: values(&w[TABLE..], count),
-    }
-}
-
-// The values of the first n words; the places past them are 0.
-fn values(w: &[u32], n: usize) -> [i32; ITEMS_WIDE]
-    requires { ⌜ Values (now w) n ⌝ }
-    ensures { λ r. ⌜ r ≡ padded itemsMost (pos 0) (take n (tableIn (now (w .entry)))) ⌝ }
-{
-    let mut out = [0i32; ITEMS_WIDE];
-    let mut i = 0;
-    while i < n {
-        out[i] = words::value(words::word(w, i));
-        i += 1;
-    }
-    out
+    network_lookup::table_at(state, words::wide(site))
 }
 
 // The timestamp of a site. It answers its number and the timestamp.
@@ -88,7 +54,7 @@ fn stamp_in(state: &[u32], site: u32) -> Stamped
     }
     Stamped {
         number: 0,
-        stamp: network_access::site_stamp(state, words::wide(site)),
+        stamp: network_sites::site_stamp(state, words::wide(site)),
     }
 }
 
@@ -118,7 +84,7 @@ fn line_on(state: &[u32], parent: u32, child: u32) -> Lined
     if number != 0 {
         return no_line(number);
     }
-    line_at(state, network_access::line_number(parent, child))
+    network_lookup::line_at(state, network_lines::line_number(parent, child))
 }
 
 // The number of the first cause that refuses it, or 0.
@@ -136,20 +102,6 @@ fn line_number(state: &[u32], parent: u32, child: u32) -> u32
         return 17;
     }
     0
-}
-
-// Line k.
-fn line_at(state: &[u32], k: usize) -> Lined
-    requires { ⌜ HasLine (now state) k ⌝ }
-    ensures { λ r. ⌜ LineAt (networkIn (now (state .entry))) k (r .number) (r .held) (r .arrived) ⌝ }
-{
-    let held = network_access::line_held(state, k);
-    let arrived = network_access::line_arrived(state, k);
-    Lined {
-        number: 0,
-        held: held,
-        arrived: arrived,
-    }
 }
 
 // Nothing but the number for which it is refused.

@@ -49,7 +49,7 @@ pub fn schedule_on(state: &mut [u32], site: u32) -> Scheduled
     requires { ⌜ AtNetwork (now state) ⌝ }
     ensures { λ r. ⌜ ScheduleAnswered site (now (state .entry)) (now (state .exit)) r ⌝ }
 {
-    let number = network_choice::schedule_number(state, site);
+    let number = network_schedule_causes::schedule_number(state, site);
     if number != 0 {
         return refused(number);
     }
@@ -76,7 +76,7 @@ fn take_chosen(state: &mut [u32], j: u32) -> Scheduled
     let parent = best.parent;
     let stamp = best.stamp;
     receive(state, parent, j, stamp);
-    network_access::line_take(state, network_access::line_number(parent, j));
+    network_lines::line_take(state, network_lines::line_number(parent, j));
     Scheduled {
         number: 0,
         parent,
@@ -91,7 +91,7 @@ fn receive(state: &mut [u32], p: u32, j: u32, t: Timestamp)
 {
     let wanted = head_writes(state, p, j);
     let ops = wanted.ops;
-    network_access::site_receive(state, words::wide(j), &ops, wanted.count, t);
+    network_sites::site_receive(state, words::wide(j), &ops, wanted.count, t);
 }
 
 // ---- the writes that site j wants
@@ -100,7 +100,7 @@ fn head_writes(state: &[u32], p: u32, j: u32) -> Writes
     requires { ⌜ ChoosingFrom (now state) p j ⌝ }
     ensures { λ r. ⌜ Laid opsMost (r .count) (r .ops) (writesFor (networkIn (now (state .entry))) j (head (networkIn (now (state .entry))) p j)) ⌝ }
 {
-    let m = network_access::line_first(state, network_access::line_number(p, j));
+    let m = network_lines::line_first(state, network_lines::line_number(p, j));
     if limits::RECORDS <= m.name {
         return Writes {
             count: 0,
@@ -115,8 +115,8 @@ fn record_writes(state: &[u32], k: usize, j: u32) -> Writes
     requires { ⌜ Recorded (now state) k ⌝ }
     ensures { λ r. ⌜ Laid opsMost (r .count) (r .ops) (keep (wantedAt (networkIn (now (state .entry)) .items) j) (getD (networkIn (now (state .entry)) .history) k noRecord .ops)) ⌝ }
 {
-    let n = network_access::operation_count(state, k);
-    let ops = network_access::record_ops(state, k);
+    let n = network_records::operation_count(state, k);
+    let ops = network_records::record_ops(state, k);
     wanted(state, &ops, n, j)
 }
 

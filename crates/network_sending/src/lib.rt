@@ -51,7 +51,7 @@ fn line_full(state: &[u32], i: u32, mask: u32, c: u32) -> bool
     if !placement::bit(mask, c) {
         return false;
     }
-    limits::MESSAGES_WIDE <= network_access::line_held(state, network_access::line_number(i, c))
+    limits::MESSAGES_WIDE <= network_lines::line_held(state, network_lines::line_number(i, c))
 }
 
 // The message to site c, where the mask names it.
@@ -61,7 +61,7 @@ fn send_one(state: &mut [u32], i: u32, mask: u32, c: u32, m: Message)
     ensures { λ r. ⌜ inRange (now (state .exit)) ≡ true ⌝ }
 {
     if placement::bit(mask, c) {
-        let k = network_access::line_number(i, c);
-        network_access::line_send(state, k, m);
+        let k = network_lines::line_number(i, c);
+        network_lines::line_send(state, k, m);
     }
 }

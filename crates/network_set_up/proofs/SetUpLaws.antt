@@ -2,7 +2,7 @@
 use mathlib.Core.Path.{_≡_, refl, sym, ap, subst, _∙_}
 use mathlib.Core.Bool.{Bool, true, false, not, cond, _||_}
 use mathlib.Core.List.{List, [], _∷_}
-use Prim.Native.Nat.{ℕ, zero, suc, min}
+use Prim.Native.Nat.{ℕ, min}
 use native.Mathlib.Omega.{arith}
 use lib.ListN.{length}
 use lib.Dec.{eqb, ltb}
@@ -22,7 +22,9 @@ use Rattle.network_layout.specs.InWords.{meaning}
 use Rattle.network_layout.specs.Promises.{Performed}
 use Rattle.network_layout.proofs.Performs.{meaning-some}
 use Rattle.network_new.specs.New.{newNetwork, Begun, LayingOut}
-use Rattle.network_set_up.specs.SetUp.{countsNumber, Paired}
+use Rattle.network_set_up_counts.specs.Counts.{countsNumber}
+use Rattle.network_set_up_counts.proofs.CountLaws.{single}
+use Rattle.network_set_up.specs.SetUp.{Paired}
 
 -- ---- the number
 -- the first of three, as the first of the first two's and the third
@@ -30,10 +32,6 @@ of-three : (x y : Bool) (n : ℕ) → firstNumber (numberIf x 1 ∷ (numberIf y 
 of-three true y n = refl
 of-three false true n = refl
 of-three false false n = refl
-
-pub single : (n : ℕ) → firstNumber (n ∷ []) ≡ n
-single zero = refl
-single (suc n) = first-some (suc n) [] (λ z. omega arith)
 
 module _ (sites items : ℕ) (ps ms : List ℕ) where
   abbrev counts : ℕ

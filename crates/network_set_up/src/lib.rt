@@ -5,14 +5,13 @@ ghost use mathlib.Core.List.{[], _∷_, _++_};
 ghost use Prim.Native.Nat.{_+_, _<_};
 ghost use lib.ListN.{length};
 ghost use Rattle.limits.specs.Limits.{itemsMost};
-ghost use Rattle.lists.specs.Numbers.{numberIf, firstNumber, outside as outsideOf};
 ghost use Rattle.placement.specs.InWords.{itemsIn};
 ghost use Rattle.protocol.specs.Network.{noStamp};
-ghost use Rattle.protocol.specs.Steps.{wrongItems, itemsOf};
+ghost use Rattle.protocol.specs.Steps.{itemsOf};
 ghost use Rattle.protocol.specs.Calls.{setUp as setUpCall};
 ghost use Rattle.network_layout.specs.Layout.{stateSize};
 ghost use Rattle.network_layout.specs.Promises.{Performed};
-ghost use Rattle.network_set_up.specs.SetUp.{countsNumber, Paired};
+ghost use Rattle.network_set_up.specs.SetUp.{Paired};
 
 // Set-up: a new network, whatever the state was before. It answers its number.
 pub fn set_up(
@@ -32,7 +31,7 @@ fn set_up_in(state: &mut [u32], sites: u32, items: u32, primaries: &[u32], masks
     requires { ⌜ length (now state) ≡ stateSize ⌝ }
     ensures { λ r. ⌜ Performed (setUpCall sites items (now (primaries .entry)) (now (masks .entry))) (now (state .entry)) (now (state .exit)) r 0 noStamp [] ⌝ }
 {
-    let cause = counts_number(sites, items, primaries.len(), masks.len());
+    let cause = network_set_up_counts::counts_number(sites, items, primaries.len(), masks.len());
     if cause != 0 {
         return cause;
     }
@@ -43,53 +42,6 @@ fn set_up_in(state: &mut [u32], sites: u32, items: u32, primaries: &[u32], masks
     }
     network_new::lay_out(state, sites, items, &placed);
     number
-}
-
-// ---- the counts
-// The number for which the counts are refused, or 0: the sites', then the items'.
-fn counts_number(sites: u32, items: u32, primaries: usize, masks: usize) -> u32
-    ensures { λ r. ⌜ r ≡ countsNumber sites items primaries masks ⌝ }
-{
-    let few = number_if(outside(1, limits::SITES, sites), 1);
-    let each = number_if(items_wrong(items, primaries, masks), 2);
-    first(few, each)
-}
-
-// The number of a cause that holds, and 0 of any other.
-fn number_if(holds: bool, number: u32) -> u32
-    ensures { λ r. ⌜ r ≡ numberIf holds number ⌝ }
-{
-    if holds {
-        return number;
-    }
-    0
-}
-
-// The first of two numbers that is not 0.
-fn first(a: u32, b: u32) -> u32
-    ensures { λ r. ⌜ r ≡ firstNumber (a ∷ (b ∷ [])) ⌝ }
-{
-    if a != 0 {
-        return a;
-    }
-    b
-}
-
-fn outside(low: u32, high: u32, k: u32) -> bool
-    ensures { λ r. ⌜ r ≡ outsideOf low high k ⌝ }
-{
-    k < low || high < k
-}
-
-// Whether the number of items is out of bounds or not that of the primaries, or of the masks.
-fn items_wrong(items: u32, primaries: usize, masks: usize) -> bool
-    ensures { λ r. ⌜ r ≡ wrongItems items primaries masks ⌝ }
-{
-    if outside(1, limits::ITEMS, items) {
-        return true;
-    }
-    let n = words::wide(items);
-    primaries != n || masks != n
 }
 
 // ---- the items

@@ -1,201 +1,44 @@
 -- The test for shape: what each part of it says of the network.
 use mathlib.Core.Path.{_≡_, refl, sym, ap, ap₂, subst, _∙_}
-use mathlib.Core.Bool.{Bool, true, false, _&&_, _||_, and-false, and-comm, false≢true}
-use mathlib.Core.List.{List, [], _∷_, map}
-use Prim.Native.Nat.{ℕ, zero, suc, _+_, _-_, _*_, _/_, _%_, _≤_, _<_, min}
+use mathlib.Core.Bool.{Bool, true, false, _&&_, and-comm}
+use mathlib.Core.List.{List, map}
+use Prim.Native.Nat.{ℕ, zero, suc, _+_, _-_, _*_, _≤_, _<_, min}
 use native.Mathlib.Omega.{arith}
-use native.Mathlib.Numerals.{add-one}
-use native.Mathlib.Nat.{not-suc-le-zero}
-use lib.ListN.{length, getD, take, drop, drop-of-length-le, length-map, List·getD-map}
-use lib.Seq.{drop-cons}
+use lib.ListN.{length, length-map}
 use lib.Dec.{leb, eqb, ltb}
-use borrow.Author.Tests.{lt-ltb, le-ltb, le-leb, lt-leb, leb-true, leb-false, ltb-true, ltb-false, eq-eqb, ne-eqb, eqb-true}
+use borrow.Author.Tests.{leb-true, ltb-true, ltb-false, eq-eqb, eqb-true}
 use Rattle.words.specs.Words.{part, chunks}
-use Rattle.lists.specs.Lists.{every, everyFrom, isEmpty}
-use Rattle.words.proofs.Chunks.{chunks-length, chunks-at}
+use Rattle.lists.specs.Lists.{every, everyFrom}
+use Rattle.words.proofs.Chunks.{chunks-length}
 use Rattle.lists.proofs.Every.{and-true}
 use Rattle.timestamp_order.specs.Timestamp.{Stamp}
 use Rattle.timestamp_order.specs.Order.{byNumber}
-use Rattle.timestamp_words.specs.InWords.{stampSize, stampRange, stampShaped}
+use Rattle.timestamp_words.specs.InWords.{stampRange, stampShaped}
 use Rattle.timestamp_order.specs.Made.{madeBy}
 use Rattle.site.specs.Site.{Site}
 use Rattle.site.specs.InWords.{siteIn, siteRange, siteSize}
 use Rattle.site.proofs.Laws.{stamp-law}
-use Rattle.placement.specs.Placement.{Item, itemsNumber, isLine, LineBits}
+use Rattle.placement.specs.Placement.{Item, itemsNumber, LineBits}
 use Rattle.placement.specs.InWords.{itemSize, itemIn, itemsIn}
-use Rattle.limits.specs.Limits.{itemsMost, sitesMost, heldMost, recordsMost}
-use Rattle.lines.specs.InWords.{boxesAt, boxesSize, boxesIn, lineIn, lineSize, lineRange, lineCounted}
-use Rattle.messages.specs.InWords.{messageIn, messageRange, messageSize}
-use Rattle.lines.proofs.Boxes.{messages-length}
+use Rattle.limits.specs.Limits.{itemsMost, sitesMost, recordsMost}
+use Rattle.lines.specs.InWords.{lineIn, lineSize, lineRange}
 use Rattle.records.specs.Records.{Record, recordFits}
 use Rattle.records.specs.InWords.{recordIn, recordRange, recordSize}
-use Rattle.network_layout.specs.Layout.{siteCount, itemCount, recordCount, itemsAt, itemsSize, sitesAt, sitesSize, historyAt, historySize, stateSize}
-use Rattle.protocol.specs.Network.{linesMost, noRecord, placeOf, messageFits, lineFits, wellShaped}
+use Rattle.network_layout.specs.Layout.{siteCount, itemCount, recordCount, itemsAt, itemsSize, sitesAt, sitesSize, linesAt, linesSize, historyAt, historySize, stateSize}
+use Rattle.protocol.specs.Network.{linesMost, placeOf, lineFits, wellShaped}
 use Rattle.network_layout.specs.InWords.{siteWords, lineWords, recordWords, networkIn, inRange, shaped}
-use Rattle.network_layout.proofs.Assembled.{no-record}
-use Rattle.network_shape.specs.Tested.{countsFit, recordTest, commitTest, messageTest, lineTest, placedIn, historyIn, groupShaped, historyShaped, linesShaped, Counted, idle, Skipped}
-
--- ---- a test of each element
-pub every-from : {A : Type 0} (p : A → Bool) (i : ℕ) (l : List A) → everyFrom (λ _ x. p x) i l ≡ every p l
-every-from p i [] = refl
-every-from p i (x ∷ xs) = ap (λ (b : Bool). p x && b) (every-from p (suc i) xs)
-
-and-swap : (a b c : Bool) → (a && (b && c)) ≡ (b && (a && c))
-and-swap true b c = refl
-and-swap false b c = sym (and-false b)
-
-and-pairs : (a b c d : Bool) → ((a && b) && (c && d)) ≡ ((a && c) && (b && d))
-and-pairs true b c d = and-swap b c d
-and-pairs false b c d = refl
-
--- two tests, one of them of what the element means
-module _ {A B : Type 0} (p : A → Bool) (f : A → B) where
-  from-both : (q : ℕ → B → Bool) (t : ℕ → A → Bool) → ((i : ℕ) (x : A) → t i x ≡ (p x && q i (f x))) → (i : ℕ) (l : List A) → everyFrom t i l ≡ (every p l && everyFrom q i (map f l))
-  from-both q t e i [] = refl
-  from-both q t e i (x ∷ xs) = ap₂ (λ (a b : Bool). a && b) (e i x) (from-both q t e (suc i) xs) ∙ and-pairs (p x) (q i (f x)) (every p xs) (everyFrom q (suc i) (map f xs))
-
-  every-both : (q : B → Bool) (l : List A) → every (λ x. p x && q (f x)) l ≡ (every p l && every q (map f l))
-  every-both q l = sym (every-from (λ (x : A). p x && q (f x)) 0 l) ∙ from-both (λ _. q) (λ _ x. p x && q (f x)) (λ _ _. refl) 0 l ∙ ap (λ (b : Bool). every p l && b) (every-from q 0 (map f l))
-
--- a walk over chunks that leaves at the first that fails: up to i all pass
-abbrev pub Passed : (ℕ → List ℕ → Bool) → ℕ → ℕ → List ℕ → ℕ → Type 0
-Passed q m n w i = everyFrom q 0 (chunks m n w) ≡ everyFrom q i (drop i (chunks m n w))
-
-module _ (q : ℕ → List ℕ → Bool) (m n : ℕ) (w : List ℕ) (i : ℕ) (e : Passed q m n w i) where
-  pub walk-done : n ≤ i → true ≡ everyFrom q 0 (chunks m n w)
-  walk-done h = sym (e ∙ ap (everyFrom q i) (drop-of-length-le (chunks m n w) {i = i} (omega (arith, chunks-length m n w))))
-
-  module _ (h : i < n) (r : Bool) (is : r ≡ q i (part w (i * m) m)) where
-    walk-step : everyFrom q 0 (chunks m n w) ≡ (r && everyFrom q (i + 1) (drop (i + 1) (chunks m n w)))
-    walk-step =
-        e
-        ∙ ap (everyFrom q i) (drop-cons (chunks m n w) i [] (omega (arith, chunks-length m n w)))
-        ∙ ap₂ (λ (b : Bool) (j : ℕ). b && everyFrom q j (drop j (chunks m n w))) (ap (q i) (chunks-at m n w i h) ∙ sym is) (sym (add-one i))
-
-    pub walk-false : r ≡ false → false ≡ everyFrom q 0 (chunks m n w)
-    walk-false f = sym (walk-step ∙ ap (λ (b : Bool). b && everyFrom q (i + 1) (drop (i + 1) (chunks m n w))) f)
-
-    pub walk-next : r ≡ true → Passed q m n w (i + 1)
-    walk-next t = walk-step ∙ ap (λ (b : Bool). b && everyFrom q (i + 1) (drop (i + 1) (chunks m n w))) t
+use Rattle.network_counts.specs.Counts.{countsFit}
+use Rattle.network_line_shape.specs.LineTests.{lineTest, historyIn}
+use Rattle.network_line_shape.proofs.Walk.{Passed, walk-next, and-swap, and-pairs, from-both, every-both}
+use Rattle.network_line_shape.proofs.LineLaws.{line-empty}
+use Rattle.network_shape.specs.Tested.{recordTest, placedIn, groupShaped, historyShaped, linesShaped, Counted, idle, Skipped}
 
 -- a record's test asks for its size too, and a chunk has it
 pub record-sized : (sites items : ℕ) (x : List ℕ) → length x ≡ recordSize → (r : Bool) → r ≡ (eqb (length x) recordSize && recordTest sites items x) → r ≡ recordTest sites items x
 record-sized sites items x size r e = e ∙ ap (λ (b : Bool). b && recordTest sites items x) (eq-eqb (length x) recordSize size)
 
--- ---- one message: a dummy of site p, or the name of a commit that p made
-history-length : (kept : List ℕ) (made : ℕ) → length (historyIn kept made) ≡ made
-history-length kept made = length-map (chunks recordSize made kept) recordIn ∙ chunks-length recordSize made kept
-
-module _ (kept : List ℕ) (made p k : ℕ) where
-  pub commit-unmade : made ≤ k → false ≡ commitTest (historyIn kept made) p k
-  commit-unmade h = sym (rw (history-length kept made, le-ltb k made h))
-
-  pub commit-by : k < made → (site : ℕ) → site ≡ recordIn (part kept (k * recordSize) recordSize) .site → eqb site p ≡ commitTest (historyIn kept made) p k
-  commit-by h site e =
-      let there : getD (historyIn kept made) k noRecord ≡ recordIn (part kept (k * recordSize) recordSize)
-      = ap (getD (historyIn kept made) k) no-record ∙ List·getD-map recordIn (chunks recordSize made kept) k [] ∙ ap recordIn (chunks-at recordSize made kept k h) in
-      ap (λ (x : ℕ). eqb x p) (e ∙ sym (ap (λ (r : Record). r .site) there)) ∙ sym (rw (history-length kept made, lt-ltb k made h))
-
-module _ (w : List ℕ) (p : ℕ) (h : List Record) (name : ℕ) (is : name ≡ getD w 0 0) where
-  pub message-dummy : recordsMost ≤ name → (r : Bool) → r ≡ stampShaped p (part w 1 stampSize) → r ≡ messageTest h p w
-  unfolding stampShaped
-  message-dummy g r e = e ∙ sym (rw (← is, le-ltb name recordsMost g))
-
-  pub message-named : name < recordsMost → (r : Bool) → r ≡ commitTest h p name → r ≡ messageTest h p w
-  message-named g r e = e ∙ sym (rw (← is, lt-ltb name recordsMost g))
-
--- ---- one line
-chunks-take : (m n k : ℕ) (w : List ℕ) → n ≤ k → take n (chunks m k w) ≡ chunks m n w
-unfolding chunks
-chunks-take m zero k w h = refl
-chunks-take m (suc n) zero w h = absurd (not-suc-le-zero h)
-chunks-take m (suc n) (suc k) w h = ap (λ (cs : List (List ℕ)). take m w ∷ cs) (chunks-take m n k (drop m w) (omega arith))
-
-some-held : {A : Type 0} (l : List A) → 0 < length l → isEmpty l ≡ false
-some-held [] h = absurd (omega arith)
-some-held (x ∷ xs) h = refl
-
 pub placed-lines : (items : ℕ) → items ≤ itemsMost → (placed : List ℕ) (m : ℕ) → LineBits (itemsIn (min items itemsMost) placed) m → LineBits (itemsIn items placed) m
 placed-lines items few placed m bits = let all : min items itemsMost ≡ items = omega arith in subst (λ (n : ℕ). LineBits (itemsIn n placed) m) all bits
-
-module _ (xs : List Item) (h : List Record) (k : ℕ) (l : List ℕ) where
-  held-few : lineCounted l ≡ true → (getD l 0 0 ≤ heldMost) × (getD l 1 0 ≤ getD l 0 0)
-  unfolding lineCounted
-  held-few e = let q = and-true (leb (getD l 0 0) heldMost) (leb (getD l 1 0) (getD l 0 0)) e in (leb-true (getD l 0 0) heldMost (q .0), leb-true (getD l 1 0) (getD l 0 0) (q .1))
-
-  -- how many it holds, where it says no more than there is room for
-  pub counted-held : lineCounted l ≡ true → (n : ℕ) → n ≡ length (lineIn l .messages) → n ≡ getD l 0 0
-  counted-held e n is = omega (arith, messages-length l, held-few e .0)
-
-  ahead : length (lineIn l .messages) < getD l 1 0 → false ≡ lineTest xs h k l
-  unfolding lineFits lineIn
-  ahead b = sym (rw (lt-leb (getD l 1 0) (length (map messageIn (boxesIn l))) b) (and-false (lineRange l)))
-
-  pub line-uncounted : lineCounted l ≡ false → false ≡ lineTest xs h k l
-  unfolding lineCounted lineRange
-  line-uncounted e = go (leb (getD l 0 0) heldMost) refl
-    where
-      go : (b : Bool) → leb (getD l 0 0) heldMost ≡ b → false ≡ lineTest xs h k l
-      go true t =
-          let f : leb (getD l 1 0) (getD l 0 0) ≡ false = rw t at e in
-          ahead (omega (arith, messages-length l, leb-true (getD l 0 0) heldMost t, leb-false (getD l 1 0) (getD l 0 0) f))
-      go false f = sym (rw f)
-
-  module _ (fine : lineCounted l ≡ true) (n : ℕ) (is : n ≡ length (lineIn l .messages)) where
-    abbrev boxes : List (List ℕ)
-    boxes = chunks messageSize n (part l boxesAt boxesSize)
-
-    held : length (map messageIn boxes) ≡ n
-    held = length-map boxes messageIn ∙ chunks-length messageSize n (part l boxesAt boxesSize)
-
-    line-is : lineTest xs h k l ≡ ((isEmpty (map messageIn boxes) || isLine xs (k / sitesMost) (k % sitesMost)) && every (messageTest h (k / sitesMost)) boxes)
-    unfolding lineRange placeOf lineFits lineIn
-    line-is =
-        let same : n ≡ getD l 0 0 = counted-held fine n is in
-        let few : n ≤ heldMost = omega (arith, held-few fine .0) in
-        let arrived : getD l 1 0 ≤ n = omega (arith, held-few fine .1) in
-        let fits = messageFits byNumber h (k / sitesMost) in
-        rw (
-          ← same,
-          le-leb n heldMost few,
-          chunks-take messageSize n heldMost (part l boxesAt boxesSize) few,
-          held,
-          le-leb (getD l 1 0) n arrived,
-          every-both messageRange messageIn fits boxes,
-        )
-        (and-swap (every messageRange boxes) (isEmpty (map messageIn boxes) || isLine xs (k / sitesMost) (k % sitesMost)) (every fits (map messageIn boxes)))
-
-    line-none : n ≡ 0 → true ≡ lineTest xs h k l
-    unfolding chunks
-    line-none z =
-        let none : boxes ≡ [] = ap (λ (m : ℕ). chunks messageSize m (part l boxesAt boxesSize)) z in
-        sym (line-is ∙ rw none)
-
-    module _ (some : n ≡ 0 → ⊥) where
-      line-by : lineTest xs h k l ≡ (isLine xs (k / sitesMost) (k % sitesMost) && every (messageTest h (k / sitesMost)) boxes)
-      line-by = line-is ∙ rw (some-held (map messageIn boxes) (omega (arith, held, some)))
-
-      pub line-unplaced : isLine xs (k / sitesMost) (k % sitesMost) ≡ false → false ≡ lineTest xs h k l
-      line-unplaced f = sym (line-by ∙ ap (λ (b : Bool). b && every (messageTest h (k / sitesMost)) boxes) f)
-
-      pub line-by-messages : isLine xs (k / sitesMost) (k % sitesMost) ≡ true → (t : Bool) → t ≡ every (messageTest h (k / sitesMost)) boxes → t ≡ lineTest xs h k l
-      line-by-messages f t g = sym (line-by ∙ ap (λ (b : Bool). b && every (messageTest h (k / sitesMost)) boxes) f ∙ sym g)
-
-  -- one that holds nothing
-  none-counted : getD l 0 0 ≡ 0 → getD l 1 0 ≡ 0 → lineCounted l ≡ true
-  unfolding lineCounted
-  none-counted z y = rw (z, y)
-
-  pub line-empty : (n : ℕ) → n ≡ length (lineIn l .messages) → n ≡ 0 → (arrived : ℕ) → arrived ≡ lineIn l .arrived → eqb arrived 0 ≡ lineTest xs h k l
-  unfolding lineIn
-  line-empty n is z arrived e = go (lineCounted l) refl
-    where
-      none : getD l 0 0 ≡ 0
-      none = omega (arith, messages-length l)
-
-      go : (b : Bool) → lineCounted l ≡ b → eqb arrived 0 ≡ lineTest xs h k l
-      go true t = eq-eqb arrived 0 (omega (arith, none, held-few t .1)) ∙ line-none t n is z
-      go false f = ne-eqb arrived 0 (λ y. false≢true (sym f ∙ none-counted none (omega arith))) ∙ line-uncounted f
 
 -- idle lines are passed over
 pub skip-none : (w : List ℕ) (k : ℕ) → k ≤ linesMost → Skipped w k k
@@ -335,10 +178,10 @@ module _ (w : List ℕ) where
         group-by-sites t = sym (by-placement ∙ ap (λ (b : Bool). b && everyFrom stampShaped 0 (siteWords w)) t)
 
   -- ---- the history and the lines, as they are asked for
-  pub history-asked : (made : ℕ) → made ≡ recordCount w → every (recordTest (siteCount w) (itemCount w)) (chunks recordSize made (part w historyAt historySize)) ≡ historyShaped w
+  pub history-asked : (made : ℕ) → made ≡ recordCount w → (kept : List ℕ) → kept ≡ part w historyAt historySize → (r : Bool) → r ≡ every (recordTest (siteCount w) (itemCount w)) (chunks recordSize made kept) → r ≡ historyShaped w
   unfolding historyShaped
-  history-asked made is = ap (λ (n : ℕ). every (recordTest (siteCount w) (itemCount w)) (chunks recordSize n (part w historyAt historySize))) is
+  history-asked made is kept e r f = f ∙ ap₂ (λ (n : ℕ) (ys : List ℕ). every (recordTest (siteCount w) (itemCount w)) (chunks recordSize n ys)) is e
 
-  pub lines-asked : (items : ℕ) → items ≡ itemCount w → everyFrom (lineTest (itemsIn items (part w itemsAt itemsSize)) history) 0 (lineWords w) ≡ linesShaped w
+  pub lines-asked : (items : ℕ) → items ≡ itemCount w → (lined : List ℕ) → lined ≡ part w linesAt linesSize → (placed : List ℕ) → placed ≡ part w itemsAt itemsSize → (kept : List ℕ) → kept ≡ part w historyAt historySize → (r : Bool) → r ≡ everyFrom (lineTest (itemsIn items placed) (historyIn kept (recordCount w))) 0 (chunks lineSize linesMost lined) → r ≡ linesShaped w
   unfolding linesShaped
-  lines-asked items is = ap (λ (n : ℕ). everyFrom (lineTest (itemsIn n (part w itemsAt itemsSize)) history) 0 (lineWords w)) is
+  lines-asked items is lined le placed pe kept ke r f = f ∙ rw (is, le, pe, ke)

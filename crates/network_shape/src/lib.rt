@@ -1,10 +1,5 @@
 // Whether a state's words are those of a network. It looks only at what is held, and passes over empty lines at once.
-use limits::ITEMS as ITEMS_MOST;
-use limits::RECORDS as RECORDS_MOST;
-use limits::SITES as SITES_MOST;
-use limits::SITES_WIDE;
-use lines::BOXES;
-use messages::MESSAGE;
+use limits::RECORDS_WIDE;
 use network_layout::HISTORY;
 use network_layout::ITEM_COUNT;
 use network_layout::ITEMS;
@@ -16,9 +11,10 @@ use network_layout::RECORD_COUNT;
 use network_layout::SITE;
 use network_layout::SITE_COUNT;
 use network_layout::SITES;
-use network_layout::WORDS;
+use network_line_shape::chunk;
+use network_line_shape::line_shaped;
 ghost use mathlib.Core.Path.{_≡_};
-ghost use Prim.Native.Nat.{_+_, _*_, _≤_, _<_};
+ghost use Prim.Native.Nat.{_+_, _≤_};
 ghost use lib.ListN.{length};
 ghost use Rattle.words.specs.Words.{part, chunks};
 ghost use Rattle.lists.specs.Lists.{every, everyFrom};
@@ -26,16 +22,20 @@ ghost use Rattle.lists.specs.Numbers.{numberIf};
 ghost use Rattle.limits.specs.Limits.{sitesMost, recordsMost};
 ghost use Rattle.timestamp_words.specs.InWords.{stampShaped};
 ghost use Rattle.site.specs.InWords.{siteSize};
-ghost use Rattle.placement.specs.Masks.{bit};
 ghost use Rattle.placement.specs.InWords.{itemsIn};
 ghost use Rattle.lines.specs.InWords.{lineSize};
-ghost use Rattle.messages.specs.InWords.{messageSize};
 ghost use Rattle.records.specs.InWords.{recordSize};
 ghost use Rattle.protocol.specs.Network.{linesMost};
 ghost use Rattle.protocol.specs.Steps.{noSuchSite};
 ghost use Rattle.network_layout.specs.Layout.{stateSize};
 ghost use Rattle.network_layout.specs.InWords.{shaped as shapedWords, numberIn};
-ghost use Rattle.network_shape.specs.Tested.{countsFit, historyIn, recordTest, commitTest, messageTest, lineTest, groupShaped, historyShaped, linesShaped, Counted, Places, MessageAsked, MessagesAsked, LineAsked, HeldAsked, LinesAsked, MadeAsked, LineTested, idle, Skipped};
+ghost use Rattle.network_line_shape.specs.LineTests.{historyIn, lineTest, Places};
+ghost use Rattle.network_shape.specs.Tested.{recordTest, groupShaped, historyShaped, linesShaped, Counted, LinesAsked, idle, Skipped};
+
+// How many words the lines and the history take.
+const LINES_WORDS: usize = LINES_MOST * LINE;
+
+const HISTORY_WORDS: usize = RECORDS_WIDE * RECORD;
 
 // 6 where the words are not those of a network, 7 where it has no such site, else 0.
 pub fn site_number(state: &[u32], site: u32) -> u32
@@ -71,32 +71,13 @@ fn group_fits(state: &[u32]) -> bool
 {
     let sites = state[SITE_COUNT];
     let items = state[ITEM_COUNT];
-    if !counts_fit(sites, items, state[RECORD_COUNT]) {
+    if !network_counts::counts_fit(sites, items, state[RECORD_COUNT]) {
         return false;
     }
     if !placement::fits(sites, &state[ITEMS..SITES], words::wide(items)) {
         return false;
     }
     sites_shaped(&state[SITES..LINES], sites)
-}
-
-// 1 to 8 sites, 1 to 64 items, at most 256 records.
-fn counts_fit(sites: u32, items: u32, made: u32) -> bool
-    ensures { λ r. ⌜ r ≡ countsFit sites items made ⌝ }
-{
-    if sites == 0 {
-        return false;
-    }
-    if SITES_MOST < sites {
-        return false;
-    }
-    if items == 0 {
-        return false;
-    }
-    if ITEMS_MOST < items {
-        return false;
-    }
-    made <= RECORDS_MOST
 }
 
 // Whether each of the first n sites has a timestamp of its own.
@@ -121,7 +102,7 @@ fn history_fits(state: &[u32]) -> bool
 {
     let made = words::wide(state[RECORD_COUNT]);
     records_shaped(
-        &state[HISTORY..WORDS],
+        words_at(state, HISTORY, HISTORY_WORDS),
         made,
         state[SITE_COUNT],
         state[ITEM_COUNT],
@@ -150,10 +131,10 @@ fn lines_fit(state: &[u32]) -> bool
 {
     let items = words::wide(state[ITEM_COUNT]);
     lines_shaped(
-        &state[LINES..HISTORY],
-        &state[ITEMS..SITES],
+        words_at(state, LINES, LINES_WORDS),
+        network_placement::placed(state),
         items,
-        &state[HISTORY..WORDS],
+        words_at(state, HISTORY, HISTORY_WORDS),
         state[RECORD_COUNT],
     )
 }
@@ -199,84 +180,12 @@ fn is_idle(l: &[u32]) -> bool
     false
 }
 
-// Whether line k fits, by the bits of all lines; one that holds nothing, where nothing has arrived.
-fn line_shaped(l: &[u32], k: usize, given: u64, kept: &[u32], made: u32) -> bool
-    requires { ⌜ LineAsked (now l) k (now kept) made ⌝ }
-    ensures { λ r. ⌜ LineTested given (historyIn (now (kept .entry)) made) k (now (l .entry)) r ⌝ }
+// ---- a part of the state
+// So many words from a place on, by numbers that the function is not told: bounds that are written out cost a proof the more, the larger they are.
+fn words_at(state: &[u32], at: usize, n: usize) -> &[u32]
+    requires { ⌜ at + n ≤ length (now state) ⌝ }
+    ensures { λ r. ⌜ now r ≡ part (now (state .entry)) at n ⌝ }
 {
-    if lines::is_empty(l) {
-        return lines::arrived(l) == 0;
-    }
-    let n = lines::held(l);
-    held_shaped(l, n, k, given, kept, made)
-}
-
-// Whether line k, which holds n messages, fits.
-fn held_shaped(l: &[u32], n: usize, k: usize, given: u64, kept: &[u32], made: u32) -> bool
-    requires { ⌜ HeldAsked (now l) n k (now kept) made ⌝ }
-    ensures { λ r. ⌜ LineTested given (historyIn (now (kept .entry)) made) k (now (l .entry)) r ⌝ }
-{
-    if !lines::counted(l) {
-        return false;
-    }
-    if !is_given(given, k) {
-        return false;
-    }
-    messages_shaped(&l[BOXES..LINE], n, (k / SITES_WIDE) as u32, kept, made)
-}
-
-// Bit k of the bits of all lines.
-fn is_given(given: u64, k: usize) -> bool
-    requires { ⌜ k < linesMost ⌝ }
-    ensures { λ r. ⌜ r ≡ bit given k ⌝ }
-{
-    (given >> k) % 2 == 1
-}
-
-// Whether each of the first n messages fits a line from site p.
-fn messages_shaped(w: &[u32], n: usize, p: u32, kept: &[u32], made: u32) -> bool
-    requires { ⌜ MessagesAsked (now w) n (now kept) made ⌝ }
-    ensures { λ r. ⌜ r ≡ every (messageTest (historyIn (now (kept .entry)) made) p) (chunks messageSize n (now (w .entry))) ⌝ }
-{
-    let mut i = 0;
-    while i < n {
-        if !message_shaped(chunk(w, i, MESSAGE), p, kept, made) {
-            return false;
-        }
-        i += 1;
-    }
-    true
-}
-
-// Whether a message is a dummy that site p made, or names a recorded commit of p.
-fn message_shaped(w: &[u32], p: u32, kept: &[u32], made: u32) -> bool
-    requires { ⌜ MessageAsked (now w) (now kept) made ⌝ }
-    ensures { λ r. ⌜ r ≡ messageTest (historyIn (now (kept .entry)) made) p (now (w .entry)) ⌝ }
-{
-    let name = words::word(w, messages::NAME);
-    if name < made {
-        return made_at(kept, made, name, p);
-    }
-    if name < RECORDS_MOST {
-        return false;
-    }
-    timestamp_words::made_by(&w[messages::STAMP..MESSAGE], p)
-}
-
-// Whether site p made record k.
-fn made_at(kept: &[u32], made: u32, k: u32, p: u32) -> bool
-    requires { ⌜ MadeAsked (now kept) made k ⌝ }
-    ensures { λ r. ⌜ r ≡ commitTest (historyIn (now (kept .entry)) made) p k ⌝ }
-{
-    records::site(chunk(kept, words::wide(k), RECORD)) == p
-}
-
-// Chunk i of the words, of m words each.
-fn chunk(w: &[u32], i: usize, m: usize) -> &[u32]
-    requires { ⌜ i * m + m ≤ length (now w) ⌝ }
-    ensures { λ r. ⌜ now r ≡ part (now (w .entry)) (i * m) m ⌝ }
-{
-    let a = i * m;
-    let e = a + m;
-    &w[a..e]
+    let e = at + n;
+    &state[at..e]
 }

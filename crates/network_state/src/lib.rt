@@ -26,7 +26,7 @@ pub fn holdings(state: &[u32; WORDS]) -> Totals
     Totals {
         sites: network_placement::site_count(state),
         items: network_placement::item_count(state),
-        records: network_access::record_count(state),
+        records: network_records::record_count(state),
     }
 }
 
@@ -41,7 +41,7 @@ fn record_in(state: &[u32], k: usize) -> Entry
     requires { ⌜ length (now state) ≡ stateSize ⌝ }
     ensures { λ r. ⌜ Entered (getD (networkIn (now (state .entry)) .history) k noRecord) r ⌝ }
 {
-    if words::wide(network_access::record_count(state)) <= k {
+    if words::wide(network_records::record_count(state)) <= k {
         return no_entry();
     }
     if RECORDS_WIDE <= k {
@@ -55,10 +55,10 @@ fn entry_in(state: &[u32], k: usize) -> Entry
     ensures { λ r. ⌜ Entered (getD (networkIn (now (state .entry)) .history) k noRecord) r ⌝ }
 {
     Entry {
-        site: network_access::record_site(state, k),
-        stamp: network_access::record_stamp(state, k),
-        count: network_access::operation_count(state, k),
-        ops: network_access::record_ops(state, k),
+        site: network_records::record_site(state, k),
+        stamp: network_records::record_stamp(state, k),
+        count: network_records::operation_count(state, k),
+        ops: network_records::record_ops(state, k),
     }
 }
 

@@ -80,7 +80,7 @@ fn is_waiting(state: &[u32], site: u32, item: u32) -> bool
     }
     let mut p = 0u32;
     while p < SITES {
-        if on_line(state, network_access::line_number(p, site), item) {
+        if on_line(state, network_lines::line_number(p, site), item) {
             return true;
         }
         p += 1;
@@ -93,7 +93,7 @@ fn on_line(state: &[u32], k: usize, item: u32) -> bool
     requires { ⌜ AtLine (now state) k ⌝ }
     ensures { λ r. ⌜ r ≡ any (carries (now (state .entry)) item) (onIt (now (state .entry)) k) ⌝ }
 {
-    let n = network_access::line_held(state, k);
+    let n = network_lines::line_held(state, k);
     let mut i = 0;
     while i < n {
         if in_message(state, k, i, item) {
@@ -109,8 +109,8 @@ fn in_message(state: &[u32], k: usize, i: usize, item: u32) -> bool
     requires { ⌜ AtLine (now state) k ⌝ }
     ensures { λ r. ⌜ r ≡ carries (now (state .entry)) item (getD (onIt (now (state .entry)) k) i (commit 0)) ⌝ }
 {
-    let name = lines::name(network_access::line_at(state, k), i);
-    if network_access::record_count(state) <= name {
+    let name = lines::name(network_lines::line_at(state, k), i);
+    if network_records::record_count(state) <= name {
         return false;
     }
     record_writes(state, words::wide(name), item)
@@ -121,5 +121,5 @@ fn record_writes(state: &[u32], k: usize, item: u32) -> bool
     requires { ⌜ HasRecord (now state) k ⌝ }
     ensures { λ r. ⌜ r ≡ any (writesItem item) (getD (networkIn (now (state .entry)) .history) k noRecord .ops) ⌝ }
 {
-    records::writes(network_access::record_at(state, k), item)
+    records::writes(network_records::record_at(state, k), item)
 }

@@ -5,19 +5,18 @@ use mathlib.Core.List.{List}
 use Prim.Native.Nat.{ℕ, zero, suc, _+_, _*_, _/_, _%_, _^_, _≤_, _<_}
 use native.Mathlib.Omega.{arith}
 use native.Mathlib.Numerals.{add-one}
-use native.Mathlib.Nat.{mod-one, mod-lt, zero-div, div-eq-of-lt}
+use native.Mathlib.Nat.{mod-one, mod-lt}
 use lib.Bits.{bitOr, or-shr, or-mod, or-zero-l}
-use lib.Pow.{mod-pow-add, pow-lt, pow-pos}
+use lib.Pow.{mod-pow-add}
 use lib.ListN.{length, getD, drop, drop-of-length-le}
 use lib.Seq.{drop-cons}
-use lib.Dec.{eqb, ltb}
-use borrow.Author.Tests.{ltb-true, ltb-false, eq-eqb, ne-eqb}
+use lib.Dec.{eqb}
 use Rattle.lists.specs.Lists.{any}
 use Rattle.placement.specs.Masks.{bit, maskOf, Names}
 use Rattle.placement.specs.Placement.{Item, noItem}
 use Rattle.placement.specs.InWords.{itemAt, itemsIn}
 use Rattle.placement.proofs.Items.{items-length, items-at}
-use Rattle.placement.proofs.Laws.{bit-added, bit-kept}
+use Rattle.placement_item.proofs.Bits.{bit-none}
 
 -- ---- the bits of two masks together
 one-of : (i j : ℕ) → i < 2 → j < 2 → eqb (bitOr i j) 1 ≡ (eqb i 1 || eqb j 1)
@@ -34,27 +33,6 @@ bit-or a b k =
     ap (λ (z : ℕ). eqb (z % 2) 1) (or-shr a b k)
     ∙ ap (λ (z : ℕ). eqb z 1) (or-mod x y 1)
     ∙ one-of (x % 2) (y % 2) (mod-lt x {m = 2} (omega arith)) (mod-lt y {m = 2} (omega arith))
-
-pub bit-none : (k : ℕ) → bit 0 k ≡ false
-bit-none k = ap (λ (z : ℕ). eqb (z % 2) 1) (zero-div (2 ^ k))
-
--- ---- the bits of a weight
-pub bit-one : (k j : ℕ) → bit (2 ^ k) j ≡ eqb k j
-bit-one k j = go (ltb j k) (ltb k j) refl refl
-  where
-    e : 0 + 2 ^ k ≡ 2 ^ k
-    e = omega arith
-
-    go : (b d : Bool) → ltb j k ≡ b → ltb k j ≡ d → bit (2 ^ k) j ≡ eqb k j
-    go true d p q =
-        let below = ltb-true j k p in
-        ap (λ (x : ℕ). bit x j) (sym e) ∙ bit-kept 0 k j below true ∙ bit-none j ∙ sym (ne-eqb k j (λ z. omega arith))
-    go false true p q =
-        let above = ltb-true k j q in
-        ap (λ (x : ℕ). eqb (x % 2) 1) (div-eq-of-lt (pow-lt above)) ∙ sym (ne-eqb k j (λ z. omega arith))
-    go false false p q =
-        let same : k ≡ j = omega (arith, ltb-false j k p, ltb-false k j q) in
-        ap (bit (2 ^ k)) (sym same) ∙ ap (λ (x : ℕ). bit x k) (sym e) ∙ bit-added 0 k (pow-pos k) true ∙ sym (eq-eqb k j same)
 
 -- ---- a mask is that of its bits
 weight : (r k : ℕ) → r < 2 → r * 2 ^ k ≡ cond (eqb r 1) (2 ^ k) 0

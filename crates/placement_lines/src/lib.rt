@@ -5,12 +5,15 @@ use placement::bit;
 use placement::few;
 use placement::mask;
 use placement::primary;
+use placement_item::children_by;
+use placement_item::joins;
+use placement_item::lines_by;
+use placement_item::parents_by;
 ghost use mathlib.Core.Path.{_≡_};
-ghost use Prim.Native.Nat.{min, _*_, _/_, _%_};
-ghost use lib.Dec.{eqb};
-ghost use Rattle.placement.specs.Masks.{maskOf, Names};
-ghost use Rattle.placement.specs.Placement.{givesLine, isLine, LineBits, hasParents};
-ghost use Rattle.placement.specs.InWords.{itemAt, itemsIn};
+ghost use Prim.Native.Nat.{min};
+ghost use Rattle.placement.specs.Masks.{maskOf};
+ghost use Rattle.placement.specs.Placement.{isLine, LineBits, hasParents};
+ghost use Rattle.placement.specs.InWords.{itemsIn};
 ghost use Rattle.limits.specs.Limits.{itemsMost, sitesMost};
 
 // Whether the placement gives a line from site p to site c.
@@ -40,23 +43,6 @@ pub fn lines(w: &[u32], items: usize) -> u64
         k += 1;
     }
     m
-}
-
-// The lines that an item gives: from its primary to the sites of its copies.
-fn lines_by(primary: u32, mask: u32) -> u64
-    ensures { λ r. ⌜ Names (sitesMost * sitesMost) r (λ k. givesLine (k / sitesMost) (k % sitesMost) (record { primary = primary; mask = mask })) ⌝ }
-{
-    if primary < SITES {
-        return wide(below(mask, SITES)) << (SITES * primary);
-    }
-    0
-}
-
-// A mask of the sites that there can be, as one of lines.
-fn wide(x: u32) -> u64
-    ensures { λ r. ⌜ r ≡ x ⌝ }
-{
-    x as u64
 }
 
 // Whether site c has a parent.
@@ -100,44 +86,4 @@ pub fn parents(w: &[u32], items: usize, c: u32) -> u32
         k += 1;
     }
     below(m, SITES)
-}
-
-// The children that item k gives site p: the sites of its copies, where p is its primary.
-fn children_by(w: &[u32], k: usize, p: u32) -> u32
-    ensures { λ r. ⌜ Names sitesMost r (λ c. givesLine p c (itemAt (now (w .entry)) k)) ⌝ }
-{
-    if primary(w, k) == p {
-        return mask(w, k);
-    }
-    0
-}
-
-// The parents that item k gives site c: its primary, where c has a copy.
-fn parents_by(w: &[u32], k: usize, c: u32) -> u32
-    ensures { λ r. ⌜ Names sitesMost r (λ p. givesLine p c (itemAt (now (w .entry)) k)) ⌝ }
-{
-    if bit(mask(w, k), c) {
-        return one(primary(w, k));
-    }
-    0
-}
-
-// Whether item k has its primary at site p and a copy at site c.
-fn joins(w: &[u32], k: usize, p: u32, c: u32) -> bool
-    ensures { λ r. ⌜ r ≡ givesLine p c (itemAt (now (w .entry)) k) ⌝ }
-{
-    if primary(w, k) != p {
-        return false;
-    }
-    bit(mask(w, k), c)
-}
-
-// The mask that of the sites that there can be names site k alone.
-fn one(k: u32) -> u32
-    ensures { λ r. ⌜ Names sitesMost r (λ j. eqb k j) ⌝ }
-{
-    if 31 < k {
-        return 0;
-    }
-    1u32 << k
 }

@@ -13,15 +13,11 @@ use Rattle.placement.proofs.Laws.{line-upward}
 use Rattle.protocol.specs.Network.{Network, placeOf}
 use Rattle.protocol.proofs.Times.{Times, times}
 
-pub places-apart : (xs : List Item) (a b : ℕ) → placeOf xs a ≡ placeOf xs b → a ≡ b
-unfolding placeOf
-places-apart xs a b e = e
-
 -- ---- a line of a placement that set-up does not refuse
 module _ (sites : ℕ) (xs : List Item) (p c : ℕ) (placed : itemsNumber sites xs ≡ 0) (line : isLine xs p c ≡ true) where
   pub line-rises : placeOf xs p < placeOf xs c
   unfolding placeOf
-  line-rises = line-upward sites xs p c placed line .0
+  line-rises = omega (arith, line-upward sites xs p c placed line .0)
 
   -- a timestamp has room for a tuple of each site before the child, and for the child's own
   pub child-place : sites ≤ sitesMost → placeOf xs c < sitesMost
@@ -33,6 +29,10 @@ module _ (sites : ℕ) (xs : List Item) (p c : ℕ) (placed : itemsNumber sites 
   line-ends = let up = line-upward sites xs p c placed line in (omega (arith, up .0, up .1), up .1)
 
 -- ---- the order of a network's sites
+pub places-apart : (xs : List Item) (a b : ℕ) → placeOf xs a ≡ placeOf xs b → a ≡ b
+unfolding placeOf
+places-apart xs a b e = omega (arith, e)
+
 abbrev pub placeAt : Network → ℕ → ℕ
 placeAt n = placeOf (n .items)
 

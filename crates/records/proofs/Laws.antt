@@ -29,7 +29,7 @@ use Rattle.site_operations.proofs.Laws.{ops-at, ops-length, next-laid}
 use Rattle.limits.specs.Limits.{itemsMost, opsMost}
 use Rattle.records.specs.Records.{opFits, recordFits}
 use Rattle.record_codes.specs.Codes.{stampAt, codesAt, valuesAt, packedSize, codesMost, opOfCode, opsOf, joined, codeNumber, codesIn, placesIn, coded, codeOf, Packed}
-use Rattle.record_codes.proofs.Laws.{places-length, place-at}
+use Rattle.record_packing.proofs.Laws.{places-length, place-at}
 use Rattle.records.specs.InWords.{recordSize, countIn, recordIn, recordRange, Written}
 
 -- ---- read

@@ -38,7 +38,7 @@ pub fn write(w: &mut [u32], site: u32, n: u32, t: Timestamp, ops: &[u32])
     w[SITE] = site;
     w[COUNT] = n;
     timestamp_words::write_to(t, &mut w[STAMP..CODES]);
-    record_codes::pack(&mut w[CODES..WORDS], ops);
+    record_packing::pack(&mut w[CODES..WORDS], ops);
 }
 
 // The site of a record.
@@ -77,7 +77,7 @@ pub fn operations(w: &[u32]) -> [u32; site_operations::OPERATIONS]
     let n = count(w);
     let mut i = 0;
     while i < n {
-        record_codes::unpack(&mut out, w, i);
+        record_packing::unpack(&mut out, w, i);
         i += 1;
     }
     out
@@ -90,7 +90,7 @@ pub fn writes(w: &[u32], item: u32) -> bool
     let n = count(w);
     let mut i = 0;
     while i < n {
-        if record_codes::is_write_of(w, i, item) {
+        if record_packing::is_write_of(w, i, item) {
             return true;
         }
         i += 1;
@@ -119,5 +119,5 @@ pub fn shaped(w: &[u32], sites: u32, items: u32) -> bool
     if !timestamp_words::made_by(&w[STAMP..CODES], site) {
         return false;
     }
-    record_codes::fit(w, words::wide(n), items)
+    record_fit::fit(w, words::wide(n), items)
 }

@@ -15,7 +15,7 @@ use Rattle.script_notation.specs.declared.Reply.{Reply}
 use Rattle.script_notation.specs.Parse.{on, commitWith}
 use Rattle.script_notation.specs.Print.{print, answerMost, Put}
 use Rattle.script_notation.specs.Answers.{Answer, replied, Answered}
-use Rattle.script_parsing.specs.Parsed.{keptMost, keptOf}
+use Rattle.script_lists.specs.Kept.{keptMost, keptOf}
 
 module _ (site : ℕ) where
   performs-kept : (s : Option Network) (os : List Op) → perform s (commitWith site (take keptMost os)) ≡ perform s (commitWith site os)

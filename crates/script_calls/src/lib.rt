@@ -1,47 +1,21 @@
 // The calls by their letters: the fields behind the letter parsed, the call made, its answer printed. No words are tested: whether they are those of a
 // network is known before a call, and answered for the words after it.
 use network_layout::WORDS;
+use script_lists::KEPT;
 use script_notation::Reply;
-use script_parsing::KEPT;
 ghost use mathlib.Core.Path.{_≡_};
-ghost use mathlib.Core.Bool.{true, cond};
-ghost use mathlib.Core.List.{_∷_, []};
+ghost use mathlib.Core.Bool.{true};
+ghost use mathlib.Core.List.{[]};
 ghost use mathlib.Core.Option.{some};
-ghost use Prim.Native.Nat.{_+_, _≤_};
-ghost use lib.Dec.{eqb};
-ghost use lib.ListN.{length};
-ghost use Rattle.decimal.specs.Decimal.{natural, digits};
+ghost use Rattle.decimal.specs.Decimal.{natural};
 ghost use Rattle.protocol.specs.Network.{noStamp};
 ghost use Rattle.network_layout.specs.InWords.{shaped};
 ghost use Rattle.network_layout.specs.Promises.{Performed};
 ghost use Rattle.script_notation.specs.Fields.{fieldsFrom};
-ghost use Rattle.script_notation.specs.Print.{answerMost};
 ghost use Rattle.script_notation.specs.Parse.{all, on, one, two, setUpOf, commitOf, commitWith, operation};
-ghost use Rattle.script_notation.specs.Answers.{RepliedAt, Calling, Answered, Said};
+ghost use Rattle.script_notation.specs.Answers.{RepliedAt, Calling, Answered};
 ghost use Rattle.script_calls.specs.Chosen.{siteCall, pairCall};
 ghost use Rattle.script_calls.specs.Asked.{SettingUp, OnNetwork};
-
-// A question mark, for what is no call.
-pub fn question(formed: bool, out: &mut [u8], at: usize) -> Reply
-    requires { ⌜ at + answerMost ≤ length (now out) ⌝ }
-    ensures { λ r. ⌜ Said (63 ∷ []) formed (now (out .entry)) (now (out .exit)) at r ⌝ }
-{
-    Reply {
-        end: script_printing::question(out, at),
-        formed,
-    }
-}
-
-// The number of a call that needs a network, on the words of none.
-fn no_network(formed: bool, out: &mut [u8], at: usize) -> Reply
-    requires { ⌜ at + answerMost ≤ length (now out) ⌝ }
-    ensures { λ r. ⌜ Said (digits 6) formed (now (out .entry)) (now (out .exit)) at r ⌝ }
-{
-    Reply {
-        end: script_printing::number(out, at, 6),
-        formed,
-    }
-}
 
 // ---- set-up
 pub fn set_up(
@@ -57,11 +31,11 @@ pub fn set_up(
     let mut list = [0u32; 256];
     let n = script_parsing::numbers(text, 2, &mut list);
     if !n.ok {
-        return question(formed, out, at);
+        return script_replies::question(formed, out, at);
     }
     let count = n.count;
     if count < 2 {
-        return question(formed, out, at);
+        return script_replies::question(formed, out, at);
     }
     set_up_numbers(&list[..count], state, formed, out, at)
 }
@@ -79,9 +53,9 @@ fn set_up_numbers(
 {
     let mut primaries = [0u32; 128];
     let mut masks = [0u8; 128];
-    let n = script_parsing::items(&list[2..], &mut primaries, &mut masks);
+    let n = script_lists::items(&list[2..], &mut primaries, &mut masks);
     if !n.ok {
-        return question(formed, out, at);
+        return script_replies::question(formed, out, at);
     }
     let count = n.count;
     let number = network_set_up::set_up(
@@ -92,19 +66,9 @@ fn set_up_numbers(
         &masks[..count],
     );
     Reply {
-        end: script_printing::number(out, at, number),
-        formed: formed_then(number, formed),
+        end: script_numbers::number(out, at, number),
+        formed: script_replies::formed_then(number, formed),
     }
-}
-
-// An accepted set-up makes the words those of a network.
-fn formed_then(number: u32, formed: bool) -> bool
-    ensures { λ r. ⌜ r ≡ cond (eqb number 0) true formed ⌝ }
-{
-    if number == 0 {
-        return true;
-    }
-    formed
 }
 
 // ---- commit
@@ -119,12 +83,12 @@ pub fn commit(
     ensures { λ r. ⌜ Answered (commitOf (fieldsFrom (now (text .entry)) 2)) (now (state .entry)) (now (state .exit)) (now (out .entry)) (now (out .exit)) at r ⌝ }
 {
     if text.len() < 2 {
-        return question(formed, out, at);
+        return script_replies::question(formed, out, at);
     }
-    let end = script_parsing::find(text, 2, 32);
+    let end = script_fields::find(text, 2, 32);
     let site = decimal::natural(&text[2..end]);
     if !site.ok {
-        return question(formed, out, at);
+        return script_replies::question(formed, out, at);
     }
     commit_at(site.value, text, end + 1, state, formed, out, at)
 }
@@ -147,10 +111,10 @@ fn commit_at(
     let mut values = [0i32; KEPT];
     let n = script_parsing::operations(text, from, &mut kinds, &mut items, &mut values);
     if !n.ok {
-        return question(formed, out, at);
+        return script_replies::question(formed, out, at);
     }
     if !formed {
-        return no_network(formed, out, at);
+        return script_replies::no_network(formed, out, at);
     }
     let count = n.count;
     let answer = network_commit::commit_on(
@@ -181,10 +145,10 @@ pub fn at_site(
 {
     let site = script_parsing::one_number(text);
     if !site.ok {
-        return question(formed, out, at);
+        return script_replies::question(formed, out, at);
     }
     if !formed {
-        return no_network(formed, out, at);
+        return script_replies::no_network(formed, out, at);
     }
     Reply {
         end: at_site_on(schedules, site.value, state, out, at),
@@ -226,14 +190,14 @@ pub fn of_two(
 {
     let pair = script_parsing::two_numbers(text);
     if !pair.ok {
-        return question(formed, out, at);
+        return script_replies::question(formed, out, at);
     }
     if !formed {
-        return no_network(formed, out, at);
+        return script_replies::no_network(formed, out, at);
     }
     let number = of_two_on(delivers, pair.first, pair.second, state);
     Reply {
-        end: script_printing::number(out, at, number),
+        end: script_numbers::number(out, at, number),
         formed,
     }
 }

@@ -1,5 +1,8 @@
 -- The table of worked examples, by computation.
-use mathlib.Core.Path.{refl}
+use mathlib.Core.Path.{_≡_, refl}
+use mathlib.Core.List.{[], _∷_}
+use mathlib.Core.Option.{none}
+use lib.IntN.{pos}
 use Rattle.decimal.specs.Decimal.{lastDigits, digits, valueFrom, natural, signed}
 use Rattle.timestamp_order.specs.Timestamp.{appendedOrSame, raisedOrSame}
 use Rattle.timestamp_order.specs.Order.{orderBy, tuplesOrder, pairOrder, numberOrder}
@@ -11,13 +14,22 @@ use Rattle.protocol.specs.Steps.{setUpNumber, setUpNetwork, commitNumber, commi
 use Rattle.protocol.specs.Calls.{perform}
 use Rattle.script_notation.specs.Fields.{position, fields}
 use Rattle.script_notation.specs.Parse.{all, operation, placed, called, parse}
-use Rattle.script_notation.specs.Print.{tuplesText, spaced, print}
+use Rattle.script_notation.specs.Print.{tuplesText, spaced, valuesText, print}
 use Rattle.script_notation.specs.Answers.{answer, answers}
-use Rattle.script_notation.specs.Examples.{Holds, table, LongHold}
+use Rattle.script_notation.specs.Examples.{Holds, table, longestLine, LongHold}
+
+-- values read are printed in their order
+in-order : valuesText (pos 5 ∷ pos 7 ∷ []) ≡ 32 ∷ 53 ∷ 32 ∷ 55 ∷ []
+unfolding lastDigits digits spaced
+in-order = refl
 
 pub examples-hold : Holds table
 unfolding lastDigits digits valueFrom natural signed appendedOrSame raisedOrSame orderBy tuplesOrder pairOrder numberOrder work itemNumber isLine hasParents placeOf setUpNumber setUpNetwork commitNumber commitNetwork deliverNumber deliverNetwork scheduleNumber scheduleNetwork earliest perform position fields all operation placed called parse tuplesText spaced print answer answers
 examples-hold = record { lines-hold = refl; pairs-hold = comparisons-hold }
+
+longest-answered : answer none (longestLine .input) .bytes ≡ longestLine .output
+unfolding valueFrom natural lastDigits digits setUpNumber perform position fields all placed called parse print answer
+longest-answered = refl
 
 pub long-hold : LongHold
 unfolding valueFrom natural lastDigits digits setUpNumber perform position fields all placed called parse print answer answers

@@ -1,6 +1,6 @@
 -- From a call's promise and what was printed to the promise of its line; and the calls that numbers and fields stand for.
 use mathlib.Core.Path.{_≡_, refl, sym, ap, subst, _∙_}
-use mathlib.Core.Bool.{Bool, true, false, cond, not}
+use mathlib.Core.Bool.{Bool, true, false, cond, not, _&&_}
 use mathlib.Core.List.{List, [], _∷_, map}
 use mathlib.Core.Option.{Option, none, some}
 use Prim.Native.Nat.{ℕ, suc, _+_, _-_, _≤_, _<_}
@@ -8,8 +8,9 @@ use native.Mathlib.Omega.{arith}
 use lib.IntN.{ℤ}
 use lib.ListN.{length, getD, take, drop}
 use lib.Seq.{length-take-le}
-use borrow.Author.Tests.{not-true, not-false, eqb-true, eqb-false, ne-eqb, le-leb, lt-leb}
-use lib.Dec.{eqb}
+use borrow.Author.Tests.{not-true, not-false, eqb-true, eqb-false, ne-eqb, le-leb, lt-leb, leb-true, leb-false}
+use lib.Dec.{eqb, leb}
+use Rattle.lists.proofs.Every.{and-true}
 use Rattle.decimal.specs.Decimal.{natural, digits}
 use Rattle.timestamp_order.specs.Timestamp.{Stamp}
 use Rattle.site_operations.specs.Operations.{Op}
@@ -24,7 +25,7 @@ use Rattle.script_notation.specs.Fields.{space, position, fields, fields
 use Rattle.script_notation.specs.Parse.{on, setUpWith, setUpOf, commitWith, commitOf, called, byLetter, longest, parse, all, operation, placed, listed, firstOperations, firstItems}
 use Rattle.script_notation.specs.Print.{print, fieldsOf, answerMost, Put}
 use Rattle.script_notation.specs.Answers.{replied, RepliedAt, Answered, Said}
-use Rattle.script_notation.proofs.Places.{field-next, fields-end}
+use Rattle.script_notation.proofs.Places.{place-within, field-next, fields-end}
 use Rattle.script_notation.proofs.Putting.{put-as, print-fields, print-refused, print-number}
 use Rattle.script_notation.proofs.Shapes.{shape-stays, shape-set-up}
 use Rattle.script_notation.proofs.Parsing.{kinds-of, items-of, values-of, primaries-of, masks-of}
@@ -152,7 +153,7 @@ letter-one [] fs h = absurd (omega arith)
 letter-one (b ∷ l) fs h = refl
 
 module _ (text : List ℕ) where
-  pub too-long : longest < length text → none ≡ parse text
+  too-long : longest < length text → none ≡ parse text
   unfolding parse
   too-long h = rw (lt-leb (length text) longest h)
 
@@ -169,11 +170,34 @@ module _ (text : List ℕ) where
         zero-on : fieldsFrom text 0 ≡ fields text
         zero-on = ap (λ (b : Bool). cond b (fields text) []) (le-leb 0 (length text) (omega arith))
 
-    pub other-letter : end ≤ length text → (end ≡ 1 → ⊥) → none ≡ parse text
+    other-letter : end ≤ length text → (end ≡ 1 → ⊥) → none ≡ parse text
     other-letter g n = letter-long (take end text) (fieldsFrom text (end + 1)) (λ z. n (sym (length-take-le end text g) ∙ z)) ∙ opened
 
-    pub one-letter : end ≤ length text → end ≡ 1 → called (getD text 0 0) (fieldsFrom text 2) ≡ parse text
+    one-letter : end ≤ length text → end ≡ 1 → called (getD text 0 0) (fieldsFrom text 2) ≡ parse text
     one-letter g z =
         letter-one text (fieldsFrom text 2) (omega arith)
         ∙ ap (λ (k : ℕ). byLetter (take k text ∷ fieldsFrom text (k + 1))) (sym z)
         ∙ opened
+
+  -- a line that is not too long and begins with one byte alone is the call of that byte, any other is none
+  abbrev lettered : Bool → Bool
+  lettered short = short && eqb (position space text) 1
+
+  pub unlettered-none : lettered (leb (length text) longest) ≡ false → none ≡ parse text
+  unlettered-none = go (leb (length text) longest) refl
+    where
+      go : (t : Bool) → leb (length text) longest ≡ t → lettered t ≡ false → none ≡ parse text
+      go true e f = other-letter (leb-true (length text) longest e) (position space text) (omega arith) (place-within space text) (eqb-false (position space text) 1 f)
+      go false e f = too-long (leb-false (length text) longest e)
+
+  pub record Letter : Type 0 where
+    pub short : length text ≤ longest
+    pub some : 1 ≤ length text
+    pub called-is : called (getD text 0 0) (fieldsFrom text 2) ≡ parse text
+
+  pub lettered-called : lettered (leb (length text) longest) ≡ true → Letter
+  lettered-called e =
+      let both = and-true (leb (length text) longest) (eqb (position space text) 1) e in
+      let h = leb-true (length text) longest (both .0) in
+      let one = eqb-true (position space text) 1 (both .1) in
+      record { short = h; some = omega (arith, place-within space text); called-is = one-letter h (position space text) (omega arith) (place-within space text) one }

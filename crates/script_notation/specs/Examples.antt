@@ -46,11 +46,14 @@ abbrev pub zeros : ℕ → List ℕ
 zeros zero = []
 zeros (suc n) = 32 ∷ 48 ∷ zeros n
 
+abbrev pub longestLine : ScriptLine
+longestLine = record { input = 112 ∷ 32 ∷ 49 ∷ 32 ∷ 49 ∷ 48 ∷ 32 ∷ 49 ∷ 48 ∷ 32 ∷ 49 ∷ 48 ∷ zeros 250; output = 50 ∷ [] }  -- p 1 10 10 10 0 .. 0, 512 bytes | 2
+
+abbrev pub tooLongLine : ScriptLine
+tooLongLine = record { input = 112 ∷ 32 ∷ 49 ∷ 32 ∷ 49 ∷ 48 ∷ 48 ∷ 32 ∷ 49 ∷ 48 ∷ 32 ∷ 49 ∷ 48 ∷ zeros 250; output = 63 ∷ [] }  -- p 1 100 10 10 0 .. 0, 513 bytes | ?
+
 abbrev pub longLines : List ScriptLine
-longLines =
-    record { input = 112 ∷ 32 ∷ 49 ∷ 32 ∷ 49 ∷ 48 ∷ 32 ∷ 49 ∷ 48 ∷ 32 ∷ 49 ∷ 48 ∷ zeros 250; output = 50 ∷ [] }  -- p 1 10 10 10 0 .. 0, 512 bytes | 2
-    ∷ record { input = 112 ∷ 32 ∷ 49 ∷ 32 ∷ 49 ∷ 48 ∷ 48 ∷ 32 ∷ 49 ∷ 48 ∷ 32 ∷ 49 ∷ 48 ∷ zeros 250; output = 63 ∷ [] }  -- p 1 100 10 10 0 .. 0, 513 bytes | ?
-    ∷ []
+longLines = longestLine ∷ tooLongLine ∷ []
 
 pub record LongHold : Type 0 where
   pub long-lines : answers none (map (λ (l : ScriptLine). l .input) longLines) ≡ map (λ (l : ScriptLine). l .output) longLines

@@ -5,7 +5,7 @@ use Prim.Native.Nat.{ℕ, _≤_}
 use lib.IntN.{ℤ}
 use lib.ListN.{length}
 use Rattle.script_notation.specs.Parse.{longest}
-use Rattle.script_parsing.specs.Parsed.{keptMost}
+use Rattle.script_lists.specs.Kept.{keptMost}
 
 -- a line, read from a place behind the letter and its space, and a list for its numbers
 pub record ToNumbersFrom (text : List ℕ) (from : ℕ) (list : List ℕ) : Type 0 where
@@ -19,16 +19,3 @@ pub record ToOperations (text kinds items : List ℕ) (values : List ℤ) : Type
   pub kinds-sized : length kinds ≡ keptMost
   pub items-sized : length items ≡ keptMost
   pub values-sized : length values ≡ keptMost
-
--- lists in which so many are kept
-pub record ToKeep (count : ℕ) (kinds items : List ℕ) (values : List ℤ) : Type 0 where
-  pub few : count ≤ keptMost
-  pub kinds-sized : length kinds ≡ keptMost
-  pub items-sized : length items ≡ keptMost
-  pub values-sized : length values ≡ keptMost
-
--- numbers, and lists for the fields of the items that they stand for
-pub record ToItems (list primaries masks : List ℕ) : Type 0 where
-  pub few : length list ≤ 256
-  pub primaries-sized : length primaries ≡ 128
-  pub masks-sized : length masks ≡ 128

@@ -4,7 +4,6 @@ use mathlib.Core.Bool.{cond}
 use mathlib.Core.List.{List}
 use mathlib.Core.Option.{Option, none, some}
 use Prim.Native.Nat.{ℕ}
-use lib.ListN.{take}
 use Rattle.decimal.specs.declared.Number.{Number}
 use Rattle.decimal.specs.Decimal.{natural, numberOf}
 use Rattle.site_operations.specs.Operations.{Op}
@@ -12,7 +11,7 @@ use Rattle.protocol.specs.Calls.{Call}
 use Rattle.script_notation.specs.Fields.{fieldsFrom}
 use Rattle.script_notation.specs.Parse.{on, all, one, two}
 use Rattle.script_parsing.specs.declared.Two.{Two}
-use Rattle.script_parsing.specs.declared.Parsed.{Parsed}
+use Rattle.script_lists.specs.declared.Parsed.{Parsed}
 
 -- ---- numbers: every call that takes one, or two, is the call of those that were parsed
 abbrev pub ofOne : Number → (ℕ → Call) → Option Call
@@ -33,10 +32,3 @@ pub record Both (first second : Number) (r : Two) : Type 0 where
 -- ---- operations
 abbrev pub operationOf : Parsed → Option Op
 operationOf r = cond (r .ok) (some (record { kind = r .kind; item = r .item; value = r .value })) none
-
--- those that are kept of a line
-abbrev pub keptMost : ℕ
-keptMost = 9
-
-abbrev pub keptOf : List Op → Option (List Op)
-keptOf os = some (take keptMost os)

@@ -1,40 +1,19 @@
-// A line's fields: the numbers, a set-up's items and a commit's operations in them.
+// A line's fields: the numbers and a commit's operations in them.
 use decimal::Integer;
 use decimal::Number;
+use script_lists::Listed;
+use script_lists::Parsed;
 ghost use mathlib.Core.Path.{_≡_};
 ghost use mathlib.Core.Bool.{false};
-ghost use mathlib.Core.List.{[], _∷_, _++_};
-ghost use Prim.Native.Nat.{_+_, _≤_};
-ghost use lib.ListN.{take, drop};
+ghost use Prim.Native.Nat.{_≤_};
+ghost use lib.ListN.{take};
 ghost use Rattle.decimal.specs.Decimal.{natural, numberOf, integerOf};
-ghost use Rattle.script_notation.specs.Fields.{position, fieldsFrom};
-ghost use Rattle.script_notation.specs.Parse.{on, all, listed, reading as readingOf, writing as writingOf, assigned as assignedIn, operation as operationIn, firstOperations, placed, firstItems};
+ghost use Rattle.script_notation.specs.Fields.{fieldsFrom};
+ghost use Rattle.script_notation.specs.Parse.{on, all, listed, reading as readingOf, writing as writingOf, assigned as assignedIn, operation as operationIn, firstOperations};
 ghost use mathlib.Core.Option.{none};
-ghost use Rattle.script_parsing.specs.Asked.{ToNumbersFrom, ToOperations, ToKeep, ToItems};
-ghost use Rattle.script_parsing.specs.Parsed.{OneNumber, TwoNumbers, Both, keptMost, keptOf, operationOf};
-
-// A commit takes eight operations at most: nine stand for more.
-pub const KEPT: usize = 9;
-
-// How many things there are in a list, where it is one.
-pub struct Listed {
-    pub ok: bool,
-    pub count: usize,
-}
-
-// Where a byte first stands from a position on, or the end.
-pub fn find(text: &[u8], from: usize, byte: u8) -> usize
-    ensures { λ r. ⌜ r ≡ from + position byte (drop from (now (text .entry))) ⌝ }
-{
-    let mut i = from;
-    while i < text.len() {
-        if text[i] == byte {
-            return i;
-        }
-        i += 1;
-    }
-    i
-}
+ghost use Rattle.script_parsing.specs.Asked.{ToNumbersFrom, ToOperations};
+ghost use Rattle.script_parsing.specs.Parsed.{OneNumber, TwoNumbers, Both, operationOf};
+ghost use Rattle.script_lists.specs.Kept.{keptMost, keptOf};
 
 // The number behind the letter, where it is all that stands there.
 pub fn one_number(text: &[u8]) -> Number
@@ -60,7 +39,7 @@ pub struct Two {
 pub fn two_numbers(text: &[u8]) -> Two
     ensures { λ r. ⌜ TwoNumbers (now (text .entry)) r ⌝ }
 {
-    let end = find(text, 2, 32);
+    let end = script_fields::find(text, 2, 32);
     if text.len() <= end {
         return no_two();
     }
@@ -104,34 +83,16 @@ pub fn numbers(text: &[u8], from: usize, list: &mut [u32]) -> Listed
     let mut at = from;
     let mut count = 0;
     while at <= text.len() {
-        let end = find(text, at, 32);
+        let end = script_fields::find(text, at, 32);
         let n = decimal::natural(&text[at..end]);
         if !n.ok {
-            return no_list();
+            return script_lists::no_list();
         }
         list[count] = n.value;
         count += 1;
         at = end + 1;
     }
     Listed { ok: true, count }
-}
-
-// What is no list.
-pub fn no_list() -> Listed
-    ensures { λ r. ⌜ (r .ok ≡ false) × (r .count ≡ 0) ⌝ }
-{
-    Listed {
-        ok: false,
-        count: 0,
-    }
-}
-
-// An operation, where a field is one; else `ok` is false.
-pub struct Parsed {
-    pub ok: bool,
-    pub kind: u8,
-    pub item: u32,
-    pub value: i32,
 }
 
 // The operations in the fields from a position on, the first nine of them from the front of the lists.
@@ -148,30 +109,15 @@ pub fn operations(
     let mut at = from;
     let mut count = 0usize;
     while at <= text.len() {
-        let end = find(text, at, 32);
+        let end = script_fields::find(text, at, 32);
         let o = operation(&text[at..end]);
         if !o.ok {
-            return no_list();
+            return script_lists::no_list();
         }
-        count = keep(o, count, kinds, items, values);
+        count = script_lists::keep(o, count, kinds, items, values);
         at = end + 1;
     }
     Listed { ok: true, count }
-}
-
-// An operation behind the first `count`, where these are not nine. It answers how many there are now.
-fn keep(o: Parsed, count: usize, kinds: &mut [u8], items: &mut [u32], values: &mut [i32]) -> usize
-    requires { ⌜ ToKeep count (now kinds) (now items) (now values) ⌝ }
-    ensures { λ r. ⌜ (firstOperations r (now (kinds .exit)) (now (items .exit)) (now (values .exit)) ≡ take keptMost (firstOperations count (now (kinds .entry)) (now (items .entry)) (now (values .entry)) ++ (record { kind = o .kind; item = o .item; value = o .value } ∷ []))) × (r ≤ keptMost) ⌝ }
-{
-    if KEPT <= count {
-        return count;
-    }
-    let v = o.value;
-    kinds[count] = o.kind;
-    items[count] = o.item;
-    values[count] = v;
-    count + 1
 }
 
 // The operation in a field.
@@ -194,7 +140,7 @@ fn operation(field: &[u8]) -> Parsed
 fn assigned(text: &[u8]) -> Parsed
     ensures { λ r. ⌜ operationOf r ≡ assignedIn (now (text .entry)) ⌝ }
 {
-    let end = find(text, 0, 61);
+    let end = script_fields::find(text, 0, 61);
     if text.len() <= end {
         return no_operation();
     }
@@ -244,28 +190,4 @@ fn no_operation() -> Parsed
         item: 0,
         value: 0,
     }
-}
-
-// The items that numbers stand for two by two, from the front of the lists.
-pub fn items(list: &[u32], primaries: &mut [u32], masks: &mut [u8]) -> Listed
-    requires { ⌜ ToItems (now list) (now primaries) (now masks) ⌝ }
-    ensures { λ r. ⌜ (listed (r .ok) (firstItems (r .count) (now (primaries .exit)) (now (masks .exit))) ≡ placed (now (list .entry))) × (r .count ≤ 128) ⌝ }
-{
-    let mut count = 0usize;
-    let mut at = 0usize;
-    while at < list.len() {
-        let next = at + 1;
-        if list.len() <= next {
-            return no_list();
-        }
-        let mask = list[next];
-        if 255 < mask {
-            return no_list();
-        }
-        primaries[count] = list[at];
-        masks[count] = mask as u8;
-        count += 1;
-        at = next + 1;
-    }
-    Listed { ok: true, count }
 }

@@ -7,7 +7,7 @@ use timestamp::Timestamp;
 use timestamp::Tuple;
 ghost use mathlib.Core.Path.{_≡_};
 ghost use mathlib.Core.List.{_∷_, []};
-ghost use Prim.Native.Nat.{_+_, _≤_, _<_, min};
+ghost use Prim.Native.Nat.{_+_, _≤_, min};
 ghost use lib.ListN.{length, take};
 ghost use Rattle.timestamp.specs.Value.{stampOf, pairOf};
 ghost use Rattle.script_notation.specs.Fields.{space};
@@ -15,7 +15,6 @@ ghost use Rattle.script_notation.specs.Parse.{firstOperations};
 ghost use Rattle.script_notation.specs.Print.{letter as letterOf, opText, opsText, recordText, recordMost, Put, tupleText, tuplesText, stampText, valuesText, print, fieldsOf, answerMost};
 ghost use mathlib.Core.Bool.{cond};
 ghost use lib.Dec.{eqb};
-ghost use Rattle.decimal.specs.Decimal.{digits, signedDigits};
 ghost use Rattle.protocol.specs.Calls.{commit as commitCall, dummy as dummyCall, schedule as scheduleCall};
 ghost use Rattle.script_printing.specs.Asked.{RoomForOperations, RoomForValues};
 
@@ -31,7 +30,7 @@ pub fn entry(
 ) -> usize
     ensures { λ r. ⌜ Put recordMost (now (out .entry)) (now (out .exit)) 0 r (recordText (record { site = site; stamp = stampOf t; ops = firstOperations count (now (kinds .entry)) (now (items .entry)) (now (values .entry)) })) ⌝ }
 {
-    let end = number(out, 0, site);
+    let end = script_numbers::number(out, 0, site);
     let behind = stamp(out, end, t);
     operations(out, behind, count, kinds, items, values)
 }
@@ -64,8 +63,8 @@ fn operation(out: &mut [u8], at: usize, kind: u8, item: u32, v: i32) -> usize
     ensures { λ r. ⌜ Put 24 (now (out .entry)) (now (out .exit)) at r (space ∷ opText (record { kind = kind; item = item; value = v })) ⌝ }
 {
     out[at] = 32;
-    let end = behind_byte(out, at + 1, letter(kind), item);
-    value(out, end, 61, v)
+    let end = script_numbers::behind_byte(out, at + 1, letter(kind), item);
+    script_numbers::value(out, end, 61, v)
 }
 
 fn letter(kind: u8) -> u8
@@ -77,30 +76,13 @@ fn letter(kind: u8) -> u8
     119
 }
 
-// A question mark, from a place of the buffer on.
-pub fn question(out: &mut [u8], at: usize) -> usize
-    requires { ⌜ at < length (now out) ⌝ }
-    ensures { λ r. ⌜ Put answerMost (now (out .entry)) (now (out .exit)) at r (63 ∷ []) ⌝ }
-{
-    out[at] = 63;
-    at + 1
-}
-
-// A number alone: what a set-up, an epoch and a deliver print, and every refusal.
-pub fn number(out: &mut [u8], at: usize, n: u32) -> usize
-    requires { ⌜ at + 10 ≤ length (now out) ⌝ }
-    ensures { λ r. ⌜ Put 10 (now (out .entry)) (now (out .exit)) at r (digits n) ⌝ }
-{
-    decimal::put(out, at, n)
-}
-
 pub fn dummied(out: &mut [u8], at: usize, answer: Dummied) -> usize
     requires { ⌜ at + answerMost ≤ length (now out) ⌝ }
     ensures { λ r. ⌜ Put answerMost (now (out .entry)) (now (out .exit)) at r (print (dummyCall 0) (fieldsOf (answer .number) 0 (stampOf (answer .stamp)) [])) ⌝ }
 {
     let n = answer.number;
     let t = answer.stamp;
-    let end = number(out, at, n);
+    let end = script_numbers::number(out, at, n);
     if n != 0 {
         return end;
     }
@@ -114,12 +96,11 @@ pub fn scheduled(out: &mut [u8], at: usize, answer: Scheduled) -> usize
     let n = answer.number;
     let parent = answer.parent;
     let t = answer.stamp;
-    let end = number(out, at, n);
+    let end = script_numbers::with_parent(out, at, n, parent);
     if n != 0 {
         return end;
     }
-    let behind = behind_byte(out, end, 32, parent);
-    stamp(out, behind, t)
+    stamp(out, end, t)
 }
 
 pub fn committed(out: &mut [u8], at: usize, answer: Committed) -> usize
@@ -130,7 +111,7 @@ pub fn committed(out: &mut [u8], at: usize, answer: Committed) -> usize
     let t = answer.stamp;
     let count = answer.count;
     let read = answer.values;
-    let end = number(out, at, n);
+    let end = script_numbers::number(out, at, n);
     if n != 0 {
         return end;
     }
@@ -144,7 +125,7 @@ pub fn stamp(out: &mut [u8], at: usize, t: Timestamp) -> usize
     ensures { λ r. ⌜ Put 187 (now (out .entry)) (now (out .exit)) at r (stampText (stampOf t)) ⌝ }
 {
     let e = t.epoch;
-    let end = behind_byte(out, at, 32, e.0);
+    let end = script_numbers::behind_byte(out, at, 32, e.0);
     tuples(out, end, t)
 }
 
@@ -170,8 +151,8 @@ fn tuple(out: &mut [u8], at: usize, byte: u8, t: Tuple) -> usize
     ensures { λ r. ⌜ Put 22 (now (out .entry)) (now (out .exit)) at r (byte ∷ tupleText (pairOf t)) ⌝ }
 {
     let count = t.count;
-    let end = behind_byte(out, at, byte, t.site);
-    behind_byte(out, end, 46, count.0)
+    let end = script_numbers::behind_byte(out, at, byte, t.site);
+    script_numbers::behind_byte(out, end, 46, count.0)
 }
 
 fn separator(i: usize) -> u8
@@ -193,7 +174,7 @@ fn values(out: &mut [u8], at: usize, count: usize, list: &[i32]) -> usize
     let mut i = 0usize;
     while i < n {
         let v = list[i];
-        end = value(out, end, 32, v);
+        end = script_numbers::value(out, end, 32, v);
         i += 1;
     }
     end
@@ -207,22 +188,4 @@ pub fn shorter(count: usize) -> usize
         return count;
     }
     8
-}
-
-// A byte and a value behind it.
-pub fn value(out: &mut [u8], at: usize, byte: u8, v: i32) -> usize
-    requires { ⌜ at + 12 ≤ length (now out) ⌝ }
-    ensures { λ r. ⌜ Put 12 (now (out .entry)) (now (out .exit)) at r (byte ∷ signedDigits v) ⌝ }
-{
-    out[at] = byte;
-    decimal::put_signed(out, at + 1, v)
-}
-
-// A byte and a number behind it.
-pub fn behind_byte(out: &mut [u8], at: usize, byte: u8, n: u32) -> usize
-    requires { ⌜ at + 11 ≤ length (now out) ⌝ }
-    ensures { λ r. ⌜ Put 11 (now (out .entry)) (now (out .exit)) at r (byte ∷ digits n) ⌝ }
-{
-    out[at] = byte;
-    decimal::put(out, at + 1, n)
 }

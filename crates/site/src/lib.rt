@@ -32,8 +32,8 @@ pub fn commit(part: &mut [u32], ops: &[u32], n: usize) -> [u32; OPERATIONS]
     if part.len() != WORDS {
         return [0u32; OPERATIONS];
     }
-    let done = site_operations::record(&part[TABLE..WORDS], ops, n);
-    site_operations::write(&mut part[TABLE..WORDS], ops, n);
+    let done = table_work::record(&part[TABLE..WORDS], ops, n);
+    table_work::write(&mut part[TABLE..WORDS], ops, n);
     put_stamp(part, stamp(part).raise());
     done
 }
@@ -61,7 +61,7 @@ pub fn receive(part: &mut [u32], ops: &[u32], n: usize, t: Timestamp)
     ensures { λ r. ⌜ Changed (now (part .entry)) (now (part .exit)) (received (opsIn (min n opsMost) (now (ops .entry))) (stampOf t)) ⌝ }
 {
     if part.len() == WORDS {
-        site_operations::write(&mut part[TABLE..WORDS], ops, n);
+        table_work::write(&mut part[TABLE..WORDS], ops, n);
         let own = stamp(part).own();
         let count = own.count;
         put_stamp(part, t.append(own.site, count));

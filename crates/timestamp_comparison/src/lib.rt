@@ -1,12 +1,14 @@
 // The order of timestamps: epochs first, then tuple by tuple, the higher site earlier.
-use timestamp::Count;
 use timestamp::Epoch;
 use timestamp::Timestamp;
-use timestamp::Tuple;
 pub use timestamp_order::Order;
+pub use tuple_comparison::compare_counts;
+pub use tuple_comparison::compare_tuples;
+use tuple_comparison::number_order;
+use tuple_comparison::then_by;
 ghost use mathlib.Core.Path.{_≡_};
-ghost use Rattle.timestamp.specs.Value.{stampOf, pairOf};
-ghost use Rattle.timestamp_order.specs.Order.{thenBy, numberOrder, pairOrder, tuplesOrder, order, byNumber};
+ghost use Rattle.timestamp.specs.Value.{stampOf};
+ghost use Rattle.timestamp_order.specs.Order.{numberOrder, tuplesOrder, order, byNumber};
 
 // The lower epoch is earlier; with equal epochs the tuples decide.
 pub fn compare(a: Timestamp, b: Timestamp) -> Order
@@ -24,24 +26,6 @@ pub fn compare_epochs(a: Epoch, b: Epoch) -> Order
     ensures { λ r. ⌜ r ≡ numberOrder (a .0) (b .0) ⌝ }
 {
     number_order(a.0, b.0)
-}
-
-// The lower count is earlier.
-pub fn compare_counts(a: Count, b: Count) -> Order
-    ensures { λ r. ⌜ r ≡ numberOrder (a .0) (b .0) ⌝ }
-{
-    number_order(a.0, b.0)
-}
-
-// The higher site is earlier; for the same site the lower count.
-pub fn compare_tuples(a: Tuple, b: Tuple) -> Order
-    ensures { λ r. ⌜ r ≡ pairOrder byNumber (pairOf a) (pairOf b) ⌝ }
-{
-    let by_site = number_order(b.site, a.site);
-    let x = a.count;
-    let y = b.count;
-    let by_count = compare_counts(x, y);
-    then_by(by_site, by_count)
 }
 
 // A proper prefix is earlier; else the first differing tuple decides.
@@ -70,30 +54,6 @@ fn tuples_order(a: Timestamp, b: Timestamp) -> Order
     }
     if n < m {
         return Order::Earlier; // a is a proper prefix of b
-    }
-    Order::Equal
-}
-
-// The first comparison decides; where it finds no difference, the second.
-fn then_by(first: Order, second: Order) -> Order
-    ensures { λ r. ⌜ r ≡ thenBy first second ⌝ }
-{
-    match first {
-        Order::Earlier => Order::Earlier,
-        Order::Equal => second,
-        Order::Later => Order::Later,
-    }
-}
-
-// The lower number is earlier.
-fn number_order(m: u32, n: u32) -> Order
-    ensures { λ r. ⌜ r ≡ numberOrder m n ⌝ }
-{
-    if m < n {
-        return Order::Earlier;
-    }
-    if n < m {
-        return Order::Later;
     }
     Order::Equal
 }

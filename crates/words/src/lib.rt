@@ -1,27 +1,13 @@
 // Words of 32 bits in lent slices: one read, many copied or moved, and a signed value kept as a word.
+pub use signed_words::bits;
+pub use signed_words::value;
+pub use word_access::fill;
+pub use word_access::store;
+pub use word_access::wide;
+pub use word_access::word;
 ghost use mathlib.Core.Path.{_≡_};
 ghost use Prim.Native.Nat.{min};
-ghost use lib.ListN.{getD, set, length, replicate};
-ghost use mir.Val.{toZ, ofZ};
-ghost use mir.Syntax.{w32};
 ghost use Rattle.words.specs.Words.{overlaid, laid, shifted};
-
-// A word as an index.
-pub fn wide(x: u32) -> usize
-    ensures { λ r. ⌜ r ≡ x ⌝ }
-{
-    x as usize
-}
-
-// The word at a place, and 0 past the end.
-pub fn word(w: &[u32], i: usize) -> u32
-    ensures { λ r. ⌜ r ≡ getD (now (w .entry)) i 0 ⌝ }
-{
-    if i < w.len() {
-        return w[i];
-    }
-    0
-}
 
 // The words of one slice over the front of another, as far as both reach.
 pub fn copy(w: &mut [u32], from: &[u32])
@@ -31,27 +17,6 @@ pub fn copy(w: &mut [u32], from: &[u32])
     let mut i = 0;
     while i < n {
         w[i] = from[i];
-        i += 1;
-    }
-}
-
-// One word at a place; past the end nothing.
-pub fn store(w: &mut [u32], i: usize, v: u32)
-    ensures { λ r. ⌜ now (w .exit) ≡ set (now (w .entry)) i v ⌝ }
-{
-    if i < w.len() {
-        w[i] = v;
-    }
-}
-
-// One word everywhere.
-pub fn fill(w: &mut [u32], v: u32)
-    ensures { λ r. ⌜ now (w .exit) ≡ replicate (length (now (w .entry))) v ⌝ }
-{
-    let n = w.len();
-    let mut i = 0;
-    while i < n {
-        w[i] = v;
         i += 1;
     }
 }
@@ -81,26 +46,6 @@ pub fn shift(w: &mut [u32], k: usize)
             j += 1;
         }
     }
-}
-
-// The word of a signed value, in two's complement.
-pub fn bits(v: i32) -> u32
-    ensures { λ r. ⌜ r ≡ ofZ w32 v ⌝ }
-{
-    if 0 <= v {
-        return v as u32;
-    }
-    4294967295u32 - ((-1 - v) as u32)
-}
-
-// The signed value of a word.
-pub fn value(w: u32) -> i32
-    ensures { λ r. ⌜ r ≡ toZ w32 w ⌝ }
-{
-    if w < 2147483648u32 {
-        return w as i32;
-    }
-    -1 - ((4294967295u32 - w) as i32)
 }
 
 fn shorter(m: usize, n: usize) -> usize

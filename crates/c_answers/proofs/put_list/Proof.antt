@@ -8,7 +8,7 @@ use mir.Val.{ofZ}
 use mir.Syntax.{w32}
 use Rattle.words.specs.Words.{put}
 use Rattle.c_answers.specs.Answers.{valueWords}
-use Rattle.c_answers.proofs.Words.{first-behind}
+use Rattle.c_fields.proofs.FieldWords.{first-behind}
 use borrow.Author.Needs.{needs}
 use Rattle.c_answers.proofs.put_list.Statement.{statement}
 use Rattle.c_answers.proofs.put_list.Tie as tie

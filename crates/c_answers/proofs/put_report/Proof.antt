@@ -8,7 +8,7 @@ use Rattle.limits.specs.Limits.{itemsMost}
 use Rattle.words.specs.Words.{put, part}
 use Rattle.words.proofs.Parts.{part-length}
 use Rattle.words.proofs.Walks.{overlaid-same}
-use Rattle.c_answers.proofs.Words.{first-behind}
+use Rattle.c_fields.proofs.FieldWords.{first-behind}
 use borrow.Author.Needs.{needs}
 use Rattle.c_answers.proofs.put_report.Statement.{statement}
 use Rattle.c_answers.proofs.put_report.Tie as tie

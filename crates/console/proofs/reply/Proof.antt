@@ -1,9 +1,10 @@
 -- `reply` feeds what is left of the block until all of it is used: all before is answered. What is left falls, since each turn finds room.
 use mathlib.Core.Path.{_≡_, refl, sym, _∙_}
-use Prim.Native.Nat.{_+_, _-_, _<_}
+use Prim.Native.Nat.{_+_, _-_, _≤_, _<_}
 use native.Mathlib.Omega.{arith}
 use lib.ListN.{length, length-map}
 use lib.Seq.{length-take-le}
+use borrow.Author.Tests.{ltb-true, ltb-false}
 use Rattle.decimal.proofs.Printing.{front-fits}
 use Rattle.network_layout.specs.InWords.{shaped}
 use Rattle.console_held.specs.Held.{heldOf}
@@ -20,10 +21,10 @@ abbrev μ-loop : tie.MeasureT-loop
 
 -- where a part of the block was fed: the start, the loop's head, and what is reached
 abbrev startOf : tie.After-feed-on Inv-loop μ-loop → tie.Start Inv-loop μ-loop
-startOf d = d .before .before .before .before .before .before .before .before
+startOf d = d .before .before .before .before .before .before .before .before .before
 
 abbrev headOf : tie.After-feed-on Inv-loop μ-loop → tie.At-loop Inv-loop μ-loop
-headOf d = d .before .before .before .before .before
+headOf d = d .before .before .before .before .before .before
 
 next : (d : tie.After-feed-on Inv-loop μ-loop) → Reached (startOf d .args .block .now) (heldOf (startOf d .args .held)) (startOf d .args .state .now) (d .feed-on .last .1 .1 .0) (headOf d .loop .used + d .feed-on .result .used) (d .feed-on .result .held)
 next d = reached-next (headOf d .loop .inv .0) (d .feed-on .ensures .fed)
@@ -31,20 +32,27 @@ next d = reached-next (headOf d .loop .inv .0) (d .feed-on .ensures .fed)
 same : (d : tie.After-feed-on Inv-loop μ-loop) → length (d .feed-on .last .1 .1 .1 .1 .0) ≡ length (startOf d .args .answers .now)
 same d = d .feed-on .kept .1 .1 .1 .1 .0 ∙ headOf d .loop .inv .1
 
+-- in a turn bytes of the block are left
+within : (d : tie.Then1 Inv-loop μ-loop) → d .before .before .loop .used < length (d .before .before .before .before .before .args .block .now)
+within d = let L = d .before .left in ltb-true (d .before .before .loop .used) (length (d .before .before .before .before .before .args .block .now)) (sym (L .ensures) ∙ d .if1 .taken)
+
 loop-holds : tie.Need-loop-holds Inv-loop μ-loop
 loop-holds c = (reached-none (simp length-map at (c .before .before .good .1 .0 .1 .1 .0 .1 .0 .1)), refl, c .before .before .pre .formed-is)
 
+left-requires : tie.Need-left-requires Inv-loop μ-loop
+left-requires c κs = search needs
+
 sub-feed-on : tie.Need-sub-feed-on Inv-loop μ-loop
-sub-feed-on c = search needs
+sub-feed-on c = omega (arith, within c)
 
 part-feed-on-start : tie.Need-part-feed-on-start Inv-loop μ-loop
-part-feed-on-start c = search needs
+part-feed-on-start c = omega (arith, within c)
 
 part-feed-on-end : tie.Need-part-feed-on-end Inv-loop μ-loop
 part-feed-on-end c = search needs
 
 feed-on-requires : tie.Need-feed-on-requires Inv-loop μ-loop
-feed-on-requires c κs = c .before .before .before .before .loop .inv .2
+feed-on-requires c κs = c .before .before .before .before .before .loop .inv .2
 
 add-used : tie.Need-add-used Inv-loop μ-loop
 add-used c = let fed = c .before .before .before .before in omega (arith, next fed .within, startOf fed .good .0 .0)
@@ -67,17 +75,21 @@ returns c = reached-end (next (c .before .before .before .before .before .before
 loop-less : tie.Need-loop-less Inv-loop μ-loop
 loop-less c =
     let fed = c .before .before .before .before .before .before .before in
-    let within : headOf fed .loop .used < length (startOf fed .args .block .now) = c .before .before .before .before .before .before .before .before .before .before .before .loop-test .taken in
-    omega (arith, part-some (headOf fed .loop .inv .0) (fed .feed-on .ensures .fed) within (omega (arith, startOf fed .pre .room, headOf fed .loop .inv .1)))
+    let some = within (fed .before .before .before .before) in
+    omega (arith, some, part-some (headOf fed .loop .inv .0) (fed .feed-on .ensures .fed) some (omega (arith, startOf fed .pre .room, headOf fed .loop .inv .1)))
 
 loop-again : tie.Need-loop-again Inv-loop μ-loop
 loop-again c = let fed = c .before .before .before .before .before .before .before in (next fed, same fed, fed .feed-on .ensures .formed-is)
 
 same-length-2 : tie.Need-same-length-2 Inv-loop μ-loop
-same-length-2 c = c .before .loop .inv .1
+same-length-2 c = c .before .before .loop .inv .1
 
 returns-2 : tie.Need-returns-2 Inv-loop μ-loop
-returns-2 c = reached-all (c .loop-test .left) (c .before .loop .inv .2) (c .before .loop .inv .0)
+returns-2 c =
+    let head = c .before .before in
+    let block = head .before .before .before .args .block .now in
+    let all : length block ≤ head .loop .used = ltb-false (head .loop .used) (length block) (sym (c .before .left .ensures) ∙ c .if1 .left) in
+    reached-all all (head .loop .inv .2) (head .loop .inv .0)
 
 pub reply-spec : {M : Type 1} → statement M
 reply-spec =
@@ -86,6 +98,7 @@ reply-spec =
     Inv-loop
     μ-loop
     loop-holds
+    left-requires
     sub-feed-on
     part-feed-on-start
     part-feed-on-end

@@ -16,11 +16,11 @@ use borrow.Author.Needs.{needs}
 use Rattle.console_blocks.proofs.begin.Statement.{statement}
 use Rattle.console_blocks.proofs.begin.Tie as tie
 
-find-requires : tie.Need-find-requires
-find-requires c κs = search needs
+line-end-requires : tie.Need-line-end-requires
+line-end-requires c κs = search needs
 
 slice-aggregate-hold : tie.Need-slice-aggregate-hold
-slice-aggregate-hold c = let S = c .before .before .before .before in sym (length-take-le (c .before .find .result) (S .args .block .now) (omega (arith, place-within newline (S .args .block .now), c .before .find .ensures)))
+slice-aggregate-hold c = let S = c .before .before .before .before in sym (length-take-le (c .before .line-end .result) (S .args .block .now) (omega (arith, place-within newline (S .args .block .now), c .before .line-end .ensures)))
 
 hold-requires : tie.Need-hold-requires
 hold-requires c κs = search needs
@@ -31,13 +31,13 @@ goes-on-requires c κs = search needs
 returns : tie.Need-returns
 returns c =
     let G = c .before .goes-on in
-    begun-held (c .before .before .before .before .find .ensures) (c .before .before .before .before .before .before .before .pre) (sym (G .ensures) ∙ not-true (G .result) (c .if1 .taken)) (c .before .before .hold .ensures)
+    begun-held (c .before .before .before .before .line-end .ensures) (c .before .before .before .before .before .before .before .pre) (sym (G .ensures) ∙ not-true (G .result) (c .if1 .taken)) (c .before .before .hold .ensures)
 
 answer-requires : tie.Need-answer-requires
 answer-requires c κs =
     let S = c .before .before .before .before .before .before .before .before .before in
     let A = S .args in
-    let found = c .before .before .before .before .before .before .find in
+    let found = c .before .before .before .before .before .before .line-end in
     let H = c .before .before .before .before .hold in
     let G = c .before .before .before .goes-on in
     let size = length (A .out .now) in
@@ -49,7 +49,7 @@ answer-requires c κs =
     }
 
 add-t13 : tie.Need-add-t13
-add-t13 c = omega (arith, place-within newline (c .before .before .before .before .before .before .before .before .before .before .before .before .args .block .now), c .before .before .before .before .before .before .before .before .before .find .ensures)
+add-t13 c = omega (arith, place-within newline (c .before .before .before .before .before .before .before .before .before .before .before .before .args .block .now), c .before .before .before .before .before .before .before .before .before .line-end .ensures)
 
 nothing-requires : tie.Need-nothing-requires
 nothing-requires c κs = search needs
@@ -60,13 +60,13 @@ same-length c = search needs
 returns-2 : tie.Need-returns-2
 returns-2 c =
     let G = c .before .before .before .before .before .before .before .goes-on in
-    begun-answered (c .before .before .before .before .before .before .before .before .before .before .find .ensures) (sym (G .ensures) ∙ not-false (G .result) (c .before .before .before .before .before .before .if1 .left)) (c .before .before .before .before .before .before .before .before .hold .ensures) (c .nothing .ensures) (c .before .before .before .answer .ensures)
+    begun-answered (c .before .before .before .before .before .before .before .before .before .before .line-end .ensures) (sym (G .ensures) ∙ not-false (G .result) (c .before .before .before .before .before .before .if1 .left)) (c .before .before .before .before .before .before .before .before .hold .ensures) (c .nothing .ensures) (c .before .before .before .answer .ensures)
 
 pub begin-spec : {M : Type 1} → statement M
 begin-spec =
     tie.close
     (tie.spec
-    find-requires
+    line-end-requires
     slice-aggregate-hold
     hold-requires
     goes-on-requires

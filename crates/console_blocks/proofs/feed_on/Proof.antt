@@ -35,28 +35,20 @@ add-end c =
     let began = c .before .before .before .before .before .before .before .before .before .before .before .before .before .begin in
     omega (arith, S .good .0 .0, end-within (S .args .block .now) (began .result .used) (began .ensures .within) (c .before .before .before .before .lines .ensures))
 
-nothing-requires : tie.Need-nothing-requires
-nothing-requires c κs = search needs
-
-sub-hold : tie.Need-sub-hold
-sub-hold c = search needs
-
-part-hold-start : tie.Need-part-hold-start
-part-hold-start c = search needs
-
-part-hold-end : tie.Need-part-hold-end
-part-hold-end c = let began = c .before .before .before .before .before .before .before .before .before .before .before .before .before .before .begin in end-within (c .before .before .before .before .before .before .before .before .before .before .before .before .before .before .before .before .before .before .before .args .block .now) (began .result .used) (began .ensures .within) (c .before .before .before .before .before .lines .ensures)
-
-hold-requires : tie.Need-hold-requires
-hold-requires c κs = search needs
+hold-part-requires : tie.Need-hold-part-requires
+hold-part-requires c κs =
+    let S = c .before .before .before .before .before .before .before .before .before .before .before .before .before .before .before .before .before .before in
+    let began = c .before .before .before .before .before .before .before .before .before .before .before .before .before .begin in
+    let rest = c .before .before .before .before .lines in
+    record { ordered = omega (arith, rest .ensures .end-is); there = end-within (S .args .block .now) (began .result .used) (began .ensures .within) (rest .ensures) }
 
 same-length-2 : tie.Need-same-length-2
 same-length-2 c = search needs
 
 returns-2 : tie.Need-returns-2
 returns-2 c =
-    let began = c .before .before .before .before .before .before .before .before .before .before .before .before .before .before .before .before .begin in
-    fed-lines (began .ensures) (c .before .before .before .before .before .before .before .before .before .before .before .if1 .left) (began .kept .1 .1 .1 .1 .0) (c .before .before .before .before .before .before .before .lines .ensures) (c .before .before .nothing .ensures) (c .hold .ensures)
+    let began = c .before .before .before .before .before .before .before .before .before .before .before .before .before .before .begin in
+    fed-lines (began .ensures) (c .before .before .before .before .before .before .before .before .before .if1 .left) (began .kept .1 .1 .1 .1 .0) (c .before .before .before .before .before .lines .ensures) (c .hold-part .ensures)
 
 pub feed-on-spec : {M : Type 1} → statement M
 feed-on-spec =
@@ -71,10 +63,6 @@ feed-on-spec =
     lines-requires
     add-from
     add-end
-    nothing-requires
-    sub-hold
-    part-hold-start
-    part-hold-end
-    hold-requires
+    hold-part-requires
     same-length-2
     returns-2)

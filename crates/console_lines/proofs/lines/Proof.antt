@@ -41,11 +41,11 @@ ahead d =
     let both = and-true (ltb (L .end) size) (leb (L .filled + lineMost) (length (L .out))) (test d) in
     (ltb-true (L .end) size (both .0), leb-true (L .filled + lineMost) (length (L .out)) (both .1))
 
-find-requires : tie.Need-find-requires Inv-loop μ-loop
-find-requires c κs = search needs
+line-end-requires : tie.Need-line-end-requires Inv-loop μ-loop
+line-end-requires c κs = search needs
 
 loop-holds : tie.Need-loop-holds Inv-loop μ-loop
-loop-holds c = (walked-none, c .find .ensures, refl, c .before .before .before .pre)
+loop-holds c = (walked-none, c .line-end .ensures, refl, c .before .before .before .pre)
 
 goes-on-requires : tie.Need-goes-on-requires Inv-loop μ-loop
 goes-on-requires c κs = search needs
@@ -62,21 +62,18 @@ part-collect-end c = omega (arith, ahead c .0)
 collect-requires : tie.Need-collect-requires Inv-loop μ-loop
 collect-requires c κs = let d = c .before .before .before in record { formed-is = headOf d .loop .inv .3; room = ahead d .1 }
 
-add-from : tie.Need-add-from Inv-loop μ-loop
-add-from c = let d = c .before .before .before .before .before .before in omega (arith, ahead d .0)
-
-find-requires-2 : tie.Need-find-requires-2 Inv-loop μ-loop
-find-requires-2 c κs = search needs
+line-behind-requires : tie.Need-line-behind-requires Inv-loop μ-loop
+line-behind-requires c κs = ahead (c .before .before .before .before .before .before) .0
 
 loop-less : tie.Need-loop-less Inv-loop μ-loop
-loop-less c = let d = c .before .before .before .before .before .before .before in omega (arith, ahead d .0, headOf d .loop .inv .1)
+loop-less c = let d = c .before .before .before .before .before .before .before in omega (arith, ahead d .0, headOf d .loop .inv .1, c .line-behind .ensures .from-is)
 
 loop-again : tie.Need-loop-again Inv-loop μ-loop
 loop-again c =
     let d = c .before .before .before .before .before .before .before in
     let L = headOf d .loop in
     let q = c .before .before .before .collect in
-    (walked-next (L .inv .0) (L .inv .1) (L .inv .2) (test d) (q .ensures .effect), c .find2 .ensures, q .kept .1 .1 .1 .0 ∙ L .inv .2, q .ensures .formed-is)
+    (walked-next (L .inv .0) (L .inv .1) (L .inv .2) (c .line-behind .ensures .from-is) (test d) (q .ensures .effect), c .line-behind .ensures .end-is, q .kept .1 .1 .1 .0 ∙ L .inv .2, q .ensures .formed-is)
 
 same-length : tie.Need-same-length Inv-loop μ-loop
 same-length c = c .before .before .loop .inv .2
@@ -92,15 +89,14 @@ lines-spec =
     (tie.spec
     Inv-loop
     μ-loop
-    find-requires
+    line-end-requires
     loop-holds
     goes-on-requires
     sub-collect
     part-collect-start
     part-collect-end
     collect-requires
-    add-from
-    find-requires-2
+    line-behind-requires
     loop-less
     loop-again
     same-length

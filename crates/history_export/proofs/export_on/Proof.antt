@@ -4,7 +4,7 @@ use native.Mathlib.Omega.{arith}
 use Rattle.network_layout.proofs.Performs.{records-count}
 use Rattle.history_file.proofs.Exports.{few-records, body-lent, export-short, export-done}
 use borrow.Author.Needs.{needs}
-use Rattle.history_export.specs.Asked.{Counted}
+use Rattle.history_record_bytes.specs.Asked.{Counted}
 use Rattle.history_export.proofs.export_on.Statement.{statement}
 use Rattle.history_export.proofs.export_on.Tie as tie
 

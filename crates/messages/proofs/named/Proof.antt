@@ -8,7 +8,7 @@ zero-requires : tie.Need-zero-requires
 zero-requires c κs = search needs
 
 returns : tie.Need-returns
-returns c = commit-value (c .before .args .name) (c .zero .result) (c .before .pre) (c .zero .ensures)
+returns c = commit-value (c .before .args .name) (c .zero .result) (c .before .pre .few) (c .zero .ensures)
 
 pub named-spec : {M : Type 1} → statement M
 named-spec = tie.close (tie.spec zero-requires returns)

@@ -25,7 +25,7 @@ write-to-requires c κs = search needs
 same-length : tie.Need-same-length
 same-length c =
     let A = c .before .before .before .before .before .before .args in
-    written-length (A .w .now) (c .before .before .before .before .before .before .pre) (A .m .name) (stampOf (A .m .stamp)) (c .before .before .write-to .ensures .1) (c .before .before .write-to .last .1 .0) (c .before .before .write-to .ensures .0)
+    written-length (A .w .now) (c .before .before .before .before .before .before .pre .sized) (A .m .name) (stampOf (A .m .stamp)) (c .before .before .write-to .ensures .1) (c .before .before .write-to .last .1 .0) (c .before .before .write-to .ensures .0)
 
 returns : tie.Need-returns
 returns c =
@@ -33,7 +33,7 @@ returns c =
     let ys = c .before .before .write-to .last .1 .0 in
     let few = c .before .before .write-to .ensures .1 in
     let is = c .before .before .write-to .ensures .0 in
-    (written-message (A .w .now) (c .before .before .before .before .before .before .pre) (A .m .name) (stampOf (A .m .stamp)) few ys is, written-range (A .w .now) (c .before .before .before .before .before .before .pre) (A .m .name) (stampOf (A .m .stamp)) few ys is)
+    (written-message (A .w .now) (c .before .before .before .before .before .before .pre .sized) (A .m .name) (stampOf (A .m .stamp)) few ys is, written-range (A .w .now) (c .before .before .before .before .before .before .pre .sized) (A .m .name) (stampOf (A .m .stamp)) few ys is)
 
 pub put-message-spec : {M : Type 1} → statement M
 put-message-spec =

@@ -4,7 +4,8 @@ use mathlib.Core.Bool.{true}
 use borrow.Author.Tests.{not-true, not-false}
 use Rattle.placement.specs.Placement.{isLine}
 use Rattle.network_layout.specs.InWords.{networkIn}
-use Rattle.network_choice.proofs.ChoiceLaws.{parent-bit, better-none, better-first, better-earlier, better-not}
+use Rattle.network_schedule_causes.proofs.CauseLaws.{parent-bit}
+use Rattle.network_choice.proofs.ChoiceLaws.{better-none, better-first, better-earlier, better-not}
 use borrow.Author.Needs.{needs}
 use Rattle.network_choice.proofs.better.Statement.{statement}
 use Rattle.network_choice.proofs.better.Tie as tie

@@ -45,12 +45,6 @@ slice-aggregate-number c = search needs
 number-requires : tie.Need-number-requires
 number-requires c κs = search needs
 
-returns-2 : tie.Need-returns-2
-returns-2 c =
-    let placed = c .before in
-    let A = entry (asked placed) .args in
-    set-up-refused (A .sites) (A .items) (A .primaries .now) (A .masks .now) (A .state .now) (placed .number .result) (sym (number-is placed)) (c .if2 .taken)
-
 slice-aggregate-lay-out : tie.Need-slice-aggregate-lay-out
 slice-aggregate-lay-out c = search needs
 
@@ -61,7 +55,14 @@ lay-out-requires c κs =
     let made = placed .before .before in
     let start = entry (asked placed) in
     let A = start .args in
-    may-lay-out (A .sites) (A .items) (A .primaries .now) (A .masks .now) (A .state .now) (made .item-words .result) (number-is placed ∙ free .if2 .left) (start .pre) (search needs)
+    let none : numberOf start ≡ 0 = number-is placed ∙ free .if2 .left in
+    may-lay-out (A .sites) (A .items) (A .primaries .now) (A .masks .now) (A .state .now) (made .item-words .result) none (start .pre) (search needs)
+
+returns-2 : tie.Need-returns-2
+returns-2 c =
+    let placed = c .before in
+    let A = entry (asked placed) .args in
+    set-up-refused (A .sites) (A .items) (A .primaries .now) (A .masks .now) (A .state .now) (placed .number .result) (sym (number-is placed)) (c .if2 .taken)
 
 same-length : tie.Need-same-length
 same-length c = search needs

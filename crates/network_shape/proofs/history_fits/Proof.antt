@@ -1,5 +1,8 @@
 -- `history_fits` tests the records made.
-use mathlib.Core.Path.{_∙_}
+use mathlib.Core.Path.{ap, _∙_}
+use native.Mathlib.Omega.{arith}
+use lib.ListN.{length}
+use Rattle.network_layout.proofs.Assembled.{kept-size}
 use Rattle.network_shape.proofs.ShapeLaws.{history-asked}
 use borrow.Author.Needs.{needs}
 use Rattle.network_shape.proofs.history_fits.Statement.{statement}
@@ -11,14 +14,8 @@ shared-slice-read-wide c = search needs
 wide-requires : tie.Need-wide-requires
 wide-requires c κs = search needs
 
-sub-records-shaped : tie.Need-sub-records-shaped
-sub-records-shaped c = search needs
-
-part-records-shaped-start : tie.Need-part-records-shaped-start
-part-records-shaped-start c = search needs
-
-part-records-shaped-end : tie.Need-part-records-shaped-end
-part-records-shaped-end c = search needs
+words-at-requires : tie.Need-words-at-requires
+words-at-requires c κs = search needs
 
 shared-slice-read-records-shaped : tie.Need-shared-slice-read-records-shaped
 shared-slice-read-records-shaped c = search needs
@@ -27,13 +24,18 @@ shared-slice-read-records-shaped-2 : tie.Need-shared-slice-read-records-shaped-2
 shared-slice-read-records-shaped-2 c = search needs
 
 records-shaped-requires : tie.Need-records-shaped-requires
-records-shaped-requires c κs = search needs
+records-shaped-requires c κs =
+    let lent = c .before .before .words-at in
+    let counted = c .before .before .before in
+    let s = counted .before .before .before in
+    record { sized = ap length (lent .ensures) ∙ kept-size (s .args .state .now) (s .pre .sized); few = omega (arith, counted .wide .ensures, s .pre .few-records) }
 
 returns : tie.Need-returns
 returns c =
+    let lent = c .before .before .before .words-at in
     let counted = c .before .before .before .before in
     let w = counted .before .before .before .args .state .now in
-    c .records-shaped .ensures ∙ history-asked w (counted .wide .result) (counted .wide .ensures)
+    history-asked w (counted .wide .result) (counted .wide .ensures) (lent .result .now) (lent .ensures) (c .records-shaped .result) (c .records-shaped .ensures)
 
 pub history-fits-spec : {M : Type 1} → statement M
 history-fits-spec =
@@ -41,9 +43,7 @@ history-fits-spec =
     (tie.spec
     shared-slice-read-wide
     wide-requires
-    sub-records-shaped
-    part-records-shaped-start
-    part-records-shaped-end
+    words-at-requires
     shared-slice-read-records-shaped
     shared-slice-read-records-shaped-2
     records-shaped-requires

@@ -10,8 +10,9 @@ use Rattle.words.proofs.Parts.{part-length}
 use Rattle.placement.specs.InWords.{itemsIn}
 use Rattle.lines.specs.InWords.{lineSize}
 use Rattle.protocol.specs.Network.{linesMost}
-use Rattle.network_shape.specs.Tested.{historyIn, lineTest}
-use Rattle.network_shape.proofs.ShapeLaws.{placed-lines, Passed, walk-false, walk-next, walk-done, skip}
+use Rattle.network_line_shape.specs.LineTests.{historyIn, lineTest}
+use Rattle.network_line_shape.proofs.Walk.{Passed, walk-false, walk-next, walk-done}
+use Rattle.network_shape.proofs.ShapeLaws.{placed-lines, skip}
 use Rattle.network_shape.proofs.lines_shaped.Statement.{statement}
 use Rattle.network_shape.proofs.lines_shaped.Tie as tie
 

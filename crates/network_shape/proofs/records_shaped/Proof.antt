@@ -9,7 +9,8 @@ use lib.ListN.{length}
 use Rattle.words.proofs.Parts.{part-length}
 use Rattle.records.specs.InWords.{recordSize}
 use Rattle.network_shape.specs.Tested.{recordTest}
-use Rattle.network_shape.proofs.ShapeLaws.{Passed, every-from, walk-false, walk-next, walk-done, record-sized}
+use Rattle.network_line_shape.proofs.Walk.{Passed, every-from, walk-false, walk-next, walk-done}
+use Rattle.network_shape.proofs.ShapeLaws.{record-sized}
 use Rattle.network_shape.proofs.records_shaped.Statement.{statement}
 use Rattle.network_shape.proofs.records_shaped.Tie as tie
 

@@ -7,7 +7,7 @@ use borrow.Author.Tests.{not-true, not-false}
 use Rattle.words.specs.Words.{part}
 use Rattle.timestamp_words.specs.InWords.{stampShaped}
 use Rattle.site.specs.InWords.{siteSize}
-use Rattle.network_shape.proofs.ShapeLaws.{Passed, walk-false, walk-next, walk-done}
+use Rattle.network_line_shape.proofs.Walk.{Passed, walk-false, walk-next, walk-done}
 use Rattle.network_shape.proofs.sites_shaped.Statement.{statement}
 use Rattle.network_shape.proofs.sites_shaped.Tie as tie
 

@@ -1,5 +1,6 @@
 -- `item_number` answers what the definition says of an item, test by test.
-use mathlib.Core.Path.{sym, _∙_}
+use mathlib.Core.Path.{_≡_, sym, _∙_}
+use Prim.Native.Nat.{_%_, _^_}
 use Rattle.placement.specs.Placement.{Item}
 use Rattle.placement.proofs.Items.{primary-missing, copy-missing, copy-own, copy-below, none-faulty}
 use borrow.Author.Needs.{needs}
@@ -32,6 +33,10 @@ returns-3 c =
     let s = a .before .before in
     copy-own (s .args .sites) (item s) (a .before .if1 .left) (sym (a .above .ensures) ∙ c .before .before .if2 .left) (sym (c .before .bit .ensures) ∙ c .if3 .taken)
 
+-- what is asked of the copies below the primary
+below-is : (c : tie.After-below) → let s = c .before .before .before .before .before .before in c .below .result ≡ (s .args .mask) % (2 ^ (s .args .primary))
+below-is c = c .below .ensures
+
 below-requires : tie.Need-below-requires
 below-requires c κs = search needs
 
@@ -42,7 +47,7 @@ returns-4 c =
     let b = d .before .before in
     let a = b .before .before in
     let s = a .before .before in
-    copy-below (s .args .sites) (item s) (a .before .if1 .left) (sym (a .above .ensures) ∙ b .before .if2 .left) (sym (b .bit .ensures) ∙ d .before .if3 .left) (λ z. c .if4 .taken (d .below .ensures ∙ z))
+    copy-below (s .args .sites) (item s) (a .before .if1 .left) (sym (a .above .ensures) ∙ b .before .if2 .left) (sym (b .bit .ensures) ∙ d .before .if3 .left) (λ z. c .if4 .taken (below-is d ∙ z))
 
 returns-5 : tie.Need-returns-5
 unfolding item
@@ -51,7 +56,7 @@ returns-5 c =
     let b = d .before .before in
     let a = b .before .before in
     let s = a .before .before in
-    none-faulty (s .args .sites) (item s) (a .before .if1 .left) (sym (a .above .ensures) ∙ b .before .if2 .left) (sym (b .bit .ensures) ∙ d .before .if3 .left) (sym (d .below .ensures) ∙ c .if4 .left)
+    none-faulty (s .args .sites) (item s) (a .before .if1 .left) (sym (a .above .ensures) ∙ b .before .if2 .left) (sym (b .bit .ensures) ∙ d .before .if3 .left) (sym (below-is d) ∙ c .if4 .left)
 
 pub item-number-spec : {M : Type 1} → statement M
 item-number-spec =

@@ -14,7 +14,7 @@ use Rattle.script_notation.specs.Parse.{all, operation, commitWith, firstOperat
 use Rattle.script_notation.specs.Print.{print}
 use Rattle.script_notation.proofs.Walks.{is-some, is-none}
 use Rattle.script_notation.proofs.Replying.{answered-none, answered-as, answered-unformed, answered-formed, replied-some, commit-with}
-use Rattle.script_parsing.specs.Parsed.{keptMost}
+use Rattle.script_lists.specs.Kept.{keptMost}
 use Rattle.script_calls.proofs.Kept.{answered-kept, no-commit}
 use borrow.Author.Needs.{needs}
 use Rattle.script_calls.proofs.commit_at.Statement.{statement}

@@ -10,8 +10,8 @@ use Rattle.script_notation.specs.Fields.{fieldsFrom}
 use Rattle.script_notation.specs.Parse.{on, all, operation, firstOperations}
 use Rattle.script_notation.proofs.Places.{field-within}
 use Rattle.script_notation.proofs.Walks.{ahead, ahead-none, is-some, is-none, is-false, walk-out, walk-next, walk-end, take-front}
-use Rattle.script_parsing.specs.Asked.{ToKeep}
-use Rattle.script_parsing.specs.Parsed.{keptMost, keptOf}
+use Rattle.script_lists.specs.Asked.{ToKeep}
+use Rattle.script_lists.specs.Kept.{keptMost, keptOf}
 use borrow.Author.Needs.{needs}
 use Rattle.script_parsing.proofs.operations.Statement.{statement}
 use Rattle.script_parsing.proofs.operations.Tie as tie

@@ -1,0 +1,176 @@
+/* 100,000 mixed steps on an almost empty network and as many on a full one; or, with a letter as the argument, one kind of call again and again on a full network or its
+   history file. What the calls answer is summed. */
+#include <stdio.h>
+
+#include "gevrolen.h"
+
+static uint32_t state[GEVROLEN_WORDS];
+static uint8_t file[GEVROLEN_FILE_BYTES];
+static size_t length;
+
+static uint32_t commit_at(uint32_t site, uint32_t first, size_t count)
+{
+    struct gevrolen_operation operations[GEVROLEN_OPERATIONS];
+    struct gevrolen_committed answer;
+    for (size_t k = 0; k < count; k++)
+        operations[k] = (struct gevrolen_operation){GEVROLEN_WRITE, first + 8 * (uint32_t)k, 1};
+    return gevrolen_commit(state, site, operations, count, &answer);
+}
+
+static uint64_t schedule_at(uint32_t site)
+{
+    struct gevrolen_scheduled answer;
+    uint64_t number = gevrolen_schedule(state, site, &answer);
+    return number ? number : answer.stamp.tuples[answer.stamp.length - 1].count;
+}
+
+/* Steps of three bytes: a letter as in a script, and two digits. `c` writes item b at site a, `w` all eight items of site a; the new epoch of `e` is the round's number.
+   Summed are every number and the own count of each timestamp that a schedule took. */
+static uint64_t step(const char *text, uint32_t round)
+{
+    uint32_t a = text[1] - '0', b = text[2] - '0';
+    struct gevrolen_stamp stamp;
+    switch (text[0]) {
+    case 'c': return commit_at(a, b, 1);
+    case 'w': return commit_at(a, a, GEVROLEN_OPERATIONS);
+    case 'd': return gevrolen_dummy(state, a, &stamp);
+    case 'e': return gevrolen_epoch(state, a, round);
+    case 'l': return gevrolen_deliver(state, a, b);
+    default: return schedule_at(a);
+    }
+}
+
+static uint64_t rounds(const char *steps, uint32_t count)
+{
+    uint64_t sum = 0;
+    for (uint32_t round = 1; round <= count; round++)
+        for (const char *at = steps; *at; at += 3)
+            sum += step(at, round);
+    return sum;
+}
+
+/* Two sites and one item, at most nine records, one message: 1,000 times a set-up and nine rounds of eleven steps, of which four are refused: 11, 20, 18, 15. */
+static uint64_t almost_empty(void)
+{
+    static const uint32_t primary = 0;
+    static const uint8_t mask = 2;
+    uint64_t sum = 0;
+    for (int i = 0; i < 1000; i++) {
+        gevrolen_set_up(state, 2, 1, &primary, 1, &mask, 1);
+        sum += rounds("c00l01s10d00l01s10e00c10s10l01e10", 9);
+    }
+    return sum;
+}
+
+/* Item k has its primary at site k % 8 and a copy at every site above it; 256 records of eight operations, 16 messages on each of the 28 lines, one from each parent
+   arrived at site 7. */
+static void fill(void)
+{
+    uint32_t primaries[GEVROLEN_ITEMS];
+    uint8_t masks[GEVROLEN_ITEMS];
+    for (uint32_t k = 0; k < GEVROLEN_ITEMS; k++) {
+        primaries[k] = k % 8;
+        masks[k] = (uint8_t)(0xFE << k % 8);
+    }
+    gevrolen_set_up(state, GEVROLEN_SITES, GEVROLEN_ITEMS, primaries, GEVROLEN_ITEMS, masks, GEVROLEN_ITEMS);
+    rounds("w00w10w20w30w40w50w60w70", 16);
+    rounds("w70", 128);
+    rounds("l07l17l27l37l47l57l67", 1);
+}
+
+/* That network, and 10,000 rounds of ten steps. Site 7 takes the oldest message of site 6, which sends it a dummy: the line is full again. Six steps are refused: 12, 11,
+   13, 15, 17, 20. */
+static uint64_t full(void)
+{
+    fill();
+    return rounds("c77c10d00e00e70s70d60l67l76s10", 10000);
+}
+
+static uint64_t waiting(void)
+{
+    struct gevrolen_report report;
+    uint64_t sum = 0;
+    gevrolen_waiting(state, 7, &report);
+    for (uint32_t k = 0; k < report.count; k++)
+        sum += report.items[k];
+    return sum;
+}
+
+static uint64_t checked(void)
+{
+    struct gevrolen_file answer;
+    gevrolen_read(file, length, &answer);
+    return answer.records;
+}
+
+static uint64_t digest(const struct gevrolen_record *one)
+{
+    uint64_t sum = (uint64_t)one->site + one->count + one->stamp.epoch + one->stamp.tuples[one->stamp.length - 1].count;
+    for (uint32_t k = 0; k < one->count; k++)
+        sum += (uint64_t)one->operations[k].kind + one->operations[k].item + (uint32_t)one->operations[k].value;
+    return sum;
+}
+
+/* All records, each from where the one before ended. */
+static uint64_t following(void)
+{
+    struct gevrolen_file answer;
+    struct gevrolen_record one;
+    uint64_t sum = 0;
+    gevrolen_read(file, length, &answer);
+    for (size_t at = 0; !gevrolen_record_from(file + answer.start, answer.length, at, 8, 64, &one, &at);)
+        sum += digest(&one);
+    return sum;
+}
+
+/* All records by their numbers, each with all checks. */
+static uint64_t numbered(void)
+{
+    struct gevrolen_record one;
+    uint64_t sum = 0;
+    for (size_t k = 0; !gevrolen_record(file, length, k, &one); k++)
+        sum += digest(&one);
+    return sum;
+}
+
+/* One kind of call; `h` is a deliver to a site that is none, which is refused behind the test for a well-shaped state. */
+static uint64_t once(char letter)
+{
+    switch (letter) {
+    case 'e': return almost_empty();
+    case 'f': return full();
+    case 'h': return gevrolen_deliver(state, 8, 8) == GEVROLEN_NO_SUCH_SITE;
+    case 'w': return waiting();
+    case 'x': gevrolen_export(state, file, sizeof file, &length); return length;
+    case 'k': return checked();
+    case 'r': return following();
+    default: return numbered();
+    }
+}
+
+static int times(char letter)
+{
+    switch (letter) {
+    case 'e': return 20;
+    case 'f': return 2;
+    case 'h': return 100000;
+    case 'R': return 100;
+    default: return 10000;
+    }
+}
+
+int main(int count, char **arguments)
+{
+    uint64_t sum = 0;
+    if (count < 2) {
+        printf("%llu\n", (unsigned long long)almost_empty());
+        printf("%llu\n", (unsigned long long)full());
+        return 0;
+    }
+    fill();
+    gevrolen_export(state, file, sizeof file, &length);
+    for (int n = times(arguments[1][0]); n; n--)
+        sum += once(arguments[1][0]);
+    printf("%llu\n", (unsigned long long)sum);
+    return 0;
+}

@@ -1,0 +1,37 @@
+// The tuples of a timestamp in words, counted and written as bytes.
+use limits::SITES_WIDE;
+ghost use mathlib.Core.Path.{_≡_};
+ghost use Prim.Native.Nat.{_≤_};
+ghost use lib.ListN.{length};
+ghost use Rattle.timestamp_order.specs.Timestamp.{room};
+ghost use Rattle.timestamp_words.specs.InWords.{stampIn, stampSize};
+ghost use Rattle.history_file.specs.Bytes.{joined};
+ghost use Rattle.history_file.specs.File.{pairBytes};
+ghost use Rattle.history_tuple_bytes.specs.Asked.{ForTuples};
+
+// How many tuples it has: eight at most.
+pub fn tuple_count(w: &[u32]) -> usize
+    requires { ⌜ length (now w) ≡ stampSize ⌝ }
+    ensures { λ r. ⌜ (r ≡ length (stampIn (now (w .entry)) .tuples)) × (r ≤ room) ⌝ }
+{
+    let n = words::wide(w[1]);
+    if SITES_WIDE < n {
+        return SITES_WIDE;
+    }
+    n
+}
+
+// Its n tuples, eight bytes each.
+pub fn put_tuples(b: &mut [u8], w: &[u32], n: usize)
+    requires { ⌜ ForTuples (now b) (now w) n ⌝ }
+    ensures { λ r. ⌜ now (b .exit) ≡ joined pairBytes (stampIn (now (w .entry)) .tuples) ⌝ }
+{
+    let mut i = 0usize;
+    while i < n {
+        let a = i * 8;
+        let e = a + 8;
+        let p = 2 + i * 2;
+        history_units::put_unit(&mut b[a..e], w[p], 0, 0, w[p + 1]);
+        i += 1;
+    }
+}

@@ -1,0 +1,2 @@
+pub mod ClearWords
+pub mod Replacing

@@ -1,0 +1,77 @@
+// The records of a state by their numbers.
+use network_layout::HISTORY;
+use network_layout::RECORD;
+use network_layout::RECORD_COUNT;
+use site_operations::OPERATIONS;
+use timestamp::Timestamp;
+ghost use mathlib.Core.Path.{_≡_};
+ghost use Prim.Native.Nat.{min, _≤_};
+ghost use lib.ListN.{length, getD};
+ghost use Rattle.timestamp.specs.Value.{stampOf, PlainValue};
+ghost use Rattle.site_operations.specs.InWords.{opsIn, OpsLaid};
+ghost use Rattle.limits.specs.Limits.{opsMost};
+ghost use Rattle.records.specs.InWords.{recordIn, recordSize};
+ghost use Rattle.network_layout.specs.Layout.{stateSize, recordCount};
+ghost use Rattle.protocol.specs.Network.{noRecord};
+ghost use Rattle.network_layout.specs.InWords.{networkIn, RecordStep};
+ghost use Rattle.network_layout.specs.At.{AtRoom, HasRecord};
+ghost use Rattle.network_layout.specs.Lent.{Lent};
+
+// How many there are.
+pub fn record_count(state: &[u32]) -> u32
+    requires { ⌜ length (now state) ≡ stateSize ⌝ }
+    ensures { λ r. ⌜ r ≡ recordCount (now (state .entry)) ⌝ }
+{
+    state[RECORD_COUNT]
+}
+
+// The words of record k.
+pub fn record_at(state: &[u32], k: usize) -> &[u32]
+    requires { ⌜ HasRecord (now state) k ⌝ }
+    ensures { λ r. ⌜ Lent recordSize recordIn (getD (networkIn (now (state .entry)) .history) k noRecord) (now r) ⌝ }
+{
+    let a = HISTORY + k * RECORD;
+    let e = a + RECORD;
+    &state[a..e]
+}
+
+pub fn record_site(state: &[u32], k: usize) -> u32
+    requires { ⌜ HasRecord (now state) k ⌝ }
+    ensures { λ r. ⌜ r ≡ getD (networkIn (now (state .entry)) .history) k noRecord .site ⌝ }
+{
+    records::site(record_at(state, k))
+}
+
+pub fn record_stamp(state: &[u32], k: usize) -> Timestamp
+    requires { ⌜ HasRecord (now state) k ⌝ }
+    ensures { λ r. ⌜ PlainValue (getD (networkIn (now (state .entry)) .history) k noRecord .stamp) r ⌝ }
+{
+    records::stamp(record_at(state, k))
+}
+
+// A record more: its words behind the others, and the number of records one higher.
+pub fn add_record(state: &mut [u32], site: u32, n: u32, t: Timestamp, ops: &[u32; OPERATIONS])
+    requires { ⌜ AtRoom (now state) n (opsIn (min n opsMost) (now ops)) ⌝ }
+    ensures { λ r. ⌜ RecordStep (now (state .entry)) (now (state .exit)) (record { site = site; stamp = stampOf t; ops = opsIn (min n opsMost) (now (ops .entry)) }) ⌝ }
+{
+    let made = record_count(state);
+    let a = HISTORY + words::wide(made) * RECORD;
+    let e = a + RECORD;
+    records::write(&mut state[a..e], site, n, t, ops);
+    words::store(state, RECORD_COUNT, made + 1);
+}
+
+pub fn operation_count(state: &[u32], k: usize) -> usize
+    requires { ⌜ HasRecord (now state) k ⌝ }
+    ensures { λ r. ⌜ (r ≡ length (getD (networkIn (now (state .entry)) .history) k noRecord .ops)) × (r ≤ opsMost) ⌝ }
+{
+    records::count(record_at(state, k))
+}
+
+// A record's operations, three words each, 0 past the last.
+pub fn record_ops(state: &[u32], k: usize) -> [u32; OPERATIONS]
+    requires { ⌜ HasRecord (now state) k ⌝ }
+    ensures { λ r. ⌜ OpsLaid (length (getD (networkIn (now (state .entry)) .history) k noRecord .ops)) (getD (networkIn (now (state .entry)) .history) k noRecord .ops) r ⌝ }
+{
+    records::operations(record_at(state, k))
+}

@@ -1,0 +1,63 @@
+// The operations of a commit on a table: what they read from it, and what they write to it.
+use limits::OPERATIONS_WIDE;
+use site_operations::OPERATIONS;
+use site_operations::item;
+use site_operations::kind;
+use site_operations::put;
+use table_access::kept_value;
+use table_access::write_one;
+ghost use mathlib.Core.Path.{_≡_};
+ghost use Prim.Native.Nat.{min, _<_};
+ghost use Rattle.site_operations.specs.Operations.{recorded, worked};
+ghost use Rattle.site_operations.specs.InWords.{opAt, opsIn, tableIn, OpsLaid, Put};
+ghost use Rattle.limits.specs.Limits.{opsMost};
+
+// The operations as the history keeps them, each read with the value that the table has; 0 past the last.
+pub fn record(table: &[u32], ops: &[u32], n: usize) -> [u32; OPERATIONS]
+    ensures { λ r. ⌜ OpsLaid (min n opsMost) (worked (tableIn (now (table .entry))) (opsIn (min n opsMost) (now (ops .entry))) .ops) r ⌝ }
+{
+    let mut out = [0u32; OPERATIONS];
+    let m = few(n);
+    let mut i = 0;
+    while i < m {
+        record_one(&mut out, table, ops, i);
+        i += 1;
+    }
+    out
+}
+
+// The writes among the operations, done to the table in their order.
+pub fn write(table: &mut [u32], ops: &[u32], n: usize)
+    ensures { λ r. ⌜ tableIn (now (table .exit)) ≡ worked (tableIn (now (table .entry))) (opsIn (min n opsMost) (now (ops .entry))) .table ⌝ }
+{
+    let m = few(n);
+    let mut i = 0;
+    while i < m {
+        write_one(table, ops, i);
+        i += 1;
+    }
+}
+
+// Operation i, as the history keeps it, after the i before it.
+fn record_one(out: &mut [u32; OPERATIONS], table: &[u32], ops: &[u32], i: usize)
+    requires { ⌜ i < opsMost ⌝ }
+    ensures { λ r. ⌜ Put (now (out .entry)) (now (out .exit)) i (recorded (tableIn (now (table .entry))) (tableIn (now (table .entry))) (opAt (now (ops .entry)) i)) ⌝ }
+{
+    put(
+        out,
+        i,
+        kind(ops, i),
+        item(ops, i),
+        kept_value(table, ops, i),
+    );
+}
+
+// A number of operations: eight at most.
+fn few(n: usize) -> usize
+    ensures { λ r. ⌜ r ≡ min n opsMost ⌝ }
+{
+    if n < OPERATIONS_WIDE {
+        return n;
+    }
+    OPERATIONS_WIDE
+}

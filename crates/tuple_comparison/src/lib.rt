@@ -1,0 +1,49 @@
+// Tuples compared, the higher site earlier; and what every comparison is made of.
+use timestamp::Count;
+use timestamp::Tuple;
+use timestamp_order::Order;
+ghost use mathlib.Core.Path.{_≡_};
+ghost use Rattle.timestamp.specs.Value.{pairOf};
+ghost use Rattle.timestamp_order.specs.Order.{thenBy, numberOrder, pairOrder, byNumber};
+
+// The higher site is earlier; for the same site the lower count.
+pub fn compare_tuples(a: Tuple, b: Tuple) -> Order
+    ensures { λ r. ⌜ r ≡ pairOrder byNumber (pairOf a) (pairOf b) ⌝ }
+{
+    let by_site = number_order(b.site, a.site);
+    let x = a.count;
+    let y = b.count;
+    let by_count = compare_counts(x, y);
+    then_by(by_site, by_count)
+}
+
+// The lower count is earlier.
+pub fn compare_counts(a: Count, b: Count) -> Order
+    ensures { λ r. ⌜ r ≡ numberOrder (a .0) (b .0) ⌝ }
+{
+    number_order(a.0, b.0)
+}
+
+// The first comparison decides; where it finds no difference, the second.
+pub fn then_by(first: Order, second: Order) -> Order
+    ensures { λ r. ⌜ r ≡ thenBy first second ⌝ }
+{
+    match first {
+        Order::Earlier => Order::Earlier,
+        Order::Equal => second,
+        Order::Later => Order::Later,
+    }
+}
+
+// The lower number is earlier.
+pub fn number_order(m: u32, n: u32) -> Order
+    ensures { λ r. ⌜ r ≡ numberOrder m n ⌝ }
+{
+    if m < n {
+        return Order::Earlier;
+    }
+    if n < m {
+        return Order::Later;
+    }
+    Order::Equal
+}

@@ -1,0 +1,48 @@
+"""The compiled library as the stored cases ask it: through the Python module, with every place of a struct and every byte of a buffer looked at."""
+import ctypes
+import os
+import pathlib
+import sys
+
+ROOT = pathlib.Path(__file__).resolve().parent.parent
+sys.path.insert(0, os.environ.get("GEVROLEN_FOLDER", str(ROOT / "target" / "gevrolen")))
+import gevrolen  # noqa: E402
+
+EE = 0xEE
+
+
+def whole(answer):
+    """A record's site, timestamp and all eight places of its operations."""
+    return answer.site, answer.stamp.value(), [(one.kind, one.item, one.value) for one in answer.operations]
+
+
+class Library:
+    def __init__(self):
+        self.network = gevrolen.Network()
+
+    def __getattr__(self, name):
+        return getattr(self.network, name)
+
+    def words(self):
+        return bytes(self.network)
+
+    def poke(self, place, word):
+        self.network._words[place] = word
+
+    def export(self, size):
+        buffer, length = (ctypes.c_char * size).from_buffer(bytearray([EE]) * size) if size else ctypes.create_string_buffer(1), ctypes.c_size_t(EE)
+        number = gevrolen._library.export(self.network._words, buffer, size, ctypes.byref(length))
+        return number, length.value, bytes(buffer)[:size]
+
+    def read(self, data):
+        return gevrolen.read(data)
+
+    def record(self, data, k):
+        answer = gevrolen._Record()
+        number = gevrolen._library.record(data, len(data), k, ctypes.byref(answer))
+        return number, answer.count, whole(answer)
+
+    def record_from(self, part, place, sites, items):
+        answer, after = gevrolen._Record(), ctypes.c_size_t(EE)
+        number = gevrolen._library.record_from(part, len(part), place, sites, items, ctypes.byref(answer), ctypes.byref(after))
+        return number, after.value, answer.count, whole(answer)
