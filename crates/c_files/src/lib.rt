@@ -12,7 +12,7 @@ ghost use Rattle.timestamp.specs.Value.{stampOf};
 ghost use Rattle.timestamp_words.specs.InWords.{stampSize, stampWords};
 ghost use Rattle.site_operations.specs.InWords.{opsSize};
 ghost use Rattle.history_file.specs.File.{trailerSize};
-ghost use Rattle.history_file.specs.Promises.{Step, Gives, partAnswered};
+ghost use Rattle.history_file.specs.Promises.{Step, Gives};
 ghost use Rattle.c_files.specs.Laid.{RecordLaid};
 ghost use Rattle.c_files.specs.Asked.{ForRecord, InBuffer};
 
@@ -45,14 +45,7 @@ fn put_head(w: &mut [u32], site: u32, count: u32, stamp: Timestamp)
     words::store(w, 1, count);
 }
 
-// How long the part of a file is, and where in the buffer it starts; 0 where the file is refused.
-pub fn part_size(b: &[u8]) -> usize
-    ensures { λ r. ⌜ r ≡ length (partAnswered (now (b .entry))) ⌝ }
-{
-    let part = history::part(b);
-    part.len()
-}
-
+// Where in a buffer the part of a file of that size starts; 0 where the file is refused.
 pub fn part_start(number: u32, length: usize, size: usize) -> usize
     requires { ⌜ InBuffer number length size ⌝ }
     ensures { λ r. ⌜ r ≡ cond (eqb number 0) (length - trailerSize - size) 0 ⌝ }

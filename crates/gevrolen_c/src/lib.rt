@@ -182,11 +182,10 @@ pub extern "C" fn gevrolen_read(buffer: &[u8], answer: &mut [usize; 5]) -> u32
     ensures { λ r. ⌜ FileRead (now (buffer .entry)) r (now (answer .exit)) ⌝ }
 {
     let given = history::check(buffer);
-    let size = c_files::part_size(buffer);
-    let start = c_files::part_start(given.number, buffer.len(), size);
+    let start = c_files::part_start(given.number, buffer.len(), given.length);
     *answer = [
         start,
-        size,
+        given.length,
         words::wide(given.records),
         words::wide(given.sites),
         words::wide(given.items),

@@ -173,9 +173,9 @@ pub fn part(b: &[u8]) -> &[u8]
     part_numbered(b, number)
 }
 
-// The number of the file, and how many records, sites and items it has.
+// The number of the file, how many records, sites and items it has, and the length of its part.
 pub fn check(b: &[u8]) -> Checked
-    ensures { λ r. ⌜ (r .number ≡ fileNumber (now (b .entry))) × (r .records ≡ length (historyRead (now (b .entry)) .records)) × (r .sites ≡ historyRead (now (b .entry)) .sites) × (r .items ≡ historyRead (now (b .entry)) .items) ⌝ }
+    ensures { λ r. ⌜ (r .number ≡ fileNumber (now (b .entry))) × (r .records ≡ length (historyRead (now (b .entry)) .records)) × (r .sites ≡ historyRead (now (b .entry)) .sites) × (r .items ≡ historyRead (now (b .entry)) .items) × (r .length ≡ length (partAnswered (now (b .entry)))) ⌝ }
 {
     let number = file_number(b);
     if number != 0 {
@@ -184,13 +184,16 @@ pub fn check(b: &[u8]) -> Checked
             records: 0,
             sites: 0,
             items: 0,
+            length: 0,
         };
     }
+    let part = part_of(b);
     Checked {
         number: 0,
         records: records_said(b),
         sites: sites_said(b),
         items: items_said(b),
+        length: part.len(),
     }
 }
 

@@ -13,12 +13,13 @@ pub struct Exported {
     pub length: usize,
 }
 
-// What a file holds: the number for which it is refused, or 0; and how many records, sites and items, 0 where it is refused.
+// What a file holds: the number for which it is refused, or 0; how many records, sites and items, and how many bytes its records take, 0 where it is refused.
 pub struct Checked {
     pub number: u32,
     pub records: u32,
     pub sites: u32,
     pub items: u32,
+    pub length: usize,
 }
 
 // A record that was read: the number for which it was refused, or 0; its site, its timestamp, and its operations, which are the first
