@@ -21,8 +21,8 @@ pub record Within (block : List ℕ) (from end : ℕ) : Type 0 where
   pub ordered : from ≤ end
   pub there : end ≤ length block
 
--- what the end of a script adds
-pub record Ended (line : List ℕ) (r : Added) : Type 0 where
+-- what the end of a script adds to a line that is held
+pub record Completes (line : List ℕ) (r : Added) : Type 0 where
   pub there : r .count ≤ length (r .bytes)
   pub bytes-are : take (r .count) (r .bytes) ≡ ending line
 

@@ -5,7 +5,7 @@ ghost use Prim.Native.Nat.{_-_, min};
 ghost use lib.ListN.{take, drop};
 ghost use Rattle.decimal.specs.Decimal.{Printed};
 ghost use Rattle.console_notation.specs.Lines.{clipped};
-ghost use Rattle.console_held.specs.Held.{heldOf, Holding, Within, Ended, RoomFor};
+ghost use Rattle.console_held.specs.Held.{heldOf, Holding, Within, Completes, RoomFor};
 
 // The first bytes of a line that has not ended, `count` of them: all 513 where `count` is more. That a line is too long is told by 513.
 pub struct Held {
@@ -49,7 +49,7 @@ pub struct Added {
 }
 
 pub fn ending(held: Held) -> Added
-    ensures { λ r. ⌜ Ended (heldOf held) r ⌝ }
+    ensures { λ r. ⌜ Completes (heldOf held) r ⌝ }
 {
     if held.count == 0 {
         return Added {
