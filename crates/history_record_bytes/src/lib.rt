@@ -10,7 +10,8 @@ ghost use Rattle.network_layout.specs.InWords.{networkIn};
 ghost use Rattle.network_layout.specs.Lent.{Lent};
 ghost use Rattle.history_file.specs.Bytes.{joined};
 ghost use Rattle.history_file.specs.File.{opBytes, recordBytes};
-ghost use Rattle.history_record_bytes.specs.Asked.{recordAt, frontBytes, ForOps, ForFront, ForOpsOf, ForRecord, Counted, ForRecords};
+ghost use Rattle.history_record_bytes.specs.Asked.{frontBytes, ForOps, ForFront, ForOpsOf, ForRecord, Counted, ForRecords};
+ghost use Rattle.protocol.specs.Network.{nthRecord};
 
 // Where a record's words have its timestamp, and where that ends.
 const STAMP: usize = 2;
@@ -35,7 +36,7 @@ fn put_operations(b: &mut [u8], ops: &[u32], n: usize)
 // The words of record k's timestamp.
 fn stamp_at(state: &[u32], k: usize) -> &[u32]
     requires { ⌜ HasRecord (now state) k ⌝ }
-    ensures { λ r. ⌜ Lent stampSize stampIn (recordAt (now (state .entry)) k .stamp) (now r) ⌝ }
+    ensures { λ r. ⌜ Lent stampSize stampIn (nthRecord (networkIn (now (state .entry))) k .stamp) (now r) ⌝ }
 {
     let w = network_records::record_at(state, k);
     &w[STAMP..STAMP_END]
@@ -44,7 +45,7 @@ fn stamp_at(state: &[u32], k: usize) -> &[u32]
 // How many tuples its timestamp has.
 fn tuples(state: &[u32], k: usize) -> usize
     requires { ⌜ HasRecord (now state) k ⌝ }
-    ensures { λ r. ⌜ (r ≡ length (recordAt (now (state .entry)) k .stamp .tuples)) × (r ≤ room) ⌝ }
+    ensures { λ r. ⌜ (r ≡ length (nthRecord (networkIn (now (state .entry))) k .stamp .tuples)) × (r ≤ room) ⌝ }
 {
     history_tuple_bytes::tuple_count(stamp_at(state, k))
 }
@@ -52,7 +53,7 @@ fn tuples(state: &[u32], k: usize) -> usize
 // How many bytes it takes.
 fn size(state: &[u32], k: usize) -> usize
     requires { ⌜ HasRecord (now state) k ⌝ }
-    ensures { λ r. ⌜ (r ≡ length (recordBytes (recordAt (now (state .entry)) k))) × (r ≤ 136) ⌝ }
+    ensures { λ r. ⌜ (r ≡ length (recordBytes (nthRecord (networkIn (now (state .entry))) k))) × (r ≤ 136) ⌝ }
 {
     8 + 8 * tuples(state, k) + 8 * network_records::operation_count(state, k)
 }
@@ -60,7 +61,7 @@ fn size(state: &[u32], k: usize) -> usize
 // Its head and its n tuples; it has `count` operations.
 fn put_front(b: &mut [u8], state: &[u32], k: usize, n: usize, count: usize)
     requires { ⌜ ForFront (now b) (now state) k n count ⌝ }
-    ensures { λ r. ⌜ now (b .exit) ≡ frontBytes (recordAt (now (state .entry)) k) ⌝ }
+    ensures { λ r. ⌜ now (b .exit) ≡ frontBytes (nthRecord (networkIn (now (state .entry))) k) ⌝ }
 {
     let w = stamp_at(state, k);
     let site = network_records::record_site(state, k);
@@ -78,7 +79,7 @@ fn put_front(b: &mut [u8], state: &[u32], k: usize, n: usize, count: usize)
 // Its n operations.
 fn put_operations_of(b: &mut [u8], state: &[u32], k: usize, n: usize)
     requires { ⌜ ForOpsOf (now b) (now state) k n ⌝ }
-    ensures { λ r. ⌜ now (b .exit) ≡ joined opBytes (recordAt (now (state .entry)) k .ops) ⌝ }
+    ensures { λ r. ⌜ now (b .exit) ≡ joined opBytes (nthRecord (networkIn (now (state .entry))) k .ops) ⌝ }
 {
     let ops = network_records::record_ops(state, k);
     put_operations(b, &ops, n);
@@ -87,7 +88,7 @@ fn put_operations_of(b: &mut [u8], state: &[u32], k: usize, n: usize)
 // A record over exactly its bytes.
 fn put_record(b: &mut [u8], state: &[u32], k: usize)
     requires { ⌜ ForRecord (now b) (now state) k ⌝ }
-    ensures { λ r. ⌜ now (b .exit) ≡ recordBytes (recordAt (now (state .entry)) k) ⌝ }
+    ensures { λ r. ⌜ now (b .exit) ≡ recordBytes (nthRecord (networkIn (now (state .entry))) k) ⌝ }
 {
     let n = tuples(state, k);
     let count = network_records::operation_count(state, k);

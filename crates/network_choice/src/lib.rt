@@ -1,10 +1,8 @@
 // Which message a schedule takes: of the parents' oldest messages the earliest.
 use timestamp::Timestamp;
-use timestamp_order::Order;
 ghost use mathlib.Core.Path.{_≡_};
 ghost use Prim.Native.Nat.{_+_};
-ghost use Rattle.timestamp.specs.Value.{stampOf, PlainValue};
-ghost use Rattle.timestamp_order.specs.Order.{order, isEarlier};
+ghost use Rattle.timestamp.specs.Value.{PlainValue};
 ghost use Rattle.limits.specs.Limits.{sitesMost};
 ghost use Rattle.protocol.specs.Steps.{headStamp};
 ghost use Rattle.network_layout.specs.InWords.{networkIn};
@@ -46,20 +44,10 @@ fn better(state: &[u32], mask: u32, p: u32, j: u32, best: Head) -> Head
     if limits::SITES <= best.parent {
         return Head { parent: p, stamp };
     }
-    if earlier(stamp, best.stamp) {
+    if timestamp_comparison::earlier(stamp, best.stamp) {
         return Head { parent: p, stamp };
     }
     best
-}
-
-fn earlier(a: Timestamp, b: Timestamp) -> bool
-    ensures { λ r. ⌜ r ≡ isEarlier (order (stampOf a) (stampOf b)) ⌝ }
-{
-    match timestamp_comparison::compare(a, b) {
-        Order::Earlier => true,
-        Order::Equal => false,
-        Order::Later => false,
-    }
 }
 
 // The timestamp of the oldest message from a parent.

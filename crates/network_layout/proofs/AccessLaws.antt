@@ -2,7 +2,7 @@
 use mathlib.Core.Path.{_≡_, sym, ap, _∙_}
 use mathlib.Core.Bool.{true}
 use mathlib.Core.List.{List}
-use Prim.Native.Nat.{ℕ, _+_, _-_, _*_, _≤_, _<_, min}
+use Prim.Native.Nat.{ℕ, _+_, _-_, _*_, _≤_, min}
 use native.Mathlib.Omega.{arith}
 use lib.ListN.{length, getD, set}
 use Rattle.words.specs.Words.{part, put, Stepped}
@@ -15,10 +15,9 @@ use Rattle.site_operations.specs.InWords.{opsIn, opsSize}
 use Rattle.limits.specs.Limits.{opsMost, sitesMost}
 use Rattle.lines.specs.Lines.{Line, noLine}
 use Rattle.lines.specs.InWords.{lineIn, lineRange, lineSize}
-use Rattle.records.specs.Records.{Record}
 use Rattle.records.specs.InWords.{recordIn, recordSize, Written}
 use Rattle.records.proofs.Laws.{all-coded-same}
-use Rattle.protocol.specs.Network.{siteAt, withSite, withLine, withRecord, noRecord}
+use Rattle.protocol.specs.Network.{siteAt, withSite, withLine, withRecord, nthRecord}
 use Rattle.network_layout.specs.Layout.{siteCount, recordCount, sitesAt, linesAt, historyAt}
 use Rattle.network_layout.specs.InWords.{networkIn, inRange, SiteStep, LineStep, RecordStep}
 use Rattle.network_layout.specs.At.{AtSite, AtLine, AtRoom, HasLine, HasRecord}
@@ -51,7 +50,7 @@ module _ (w : List ℕ) (k : ℕ) where
         meant = ap lineIn (lent-part w (lineStart k) lineSize) ∙ sym (line-read w size k (h .few));
       }
 
-  pub record-lent : HasRecord w k → Lent recordSize recordIn (getD (networkIn w .history) k noRecord) (lent w (recordStart k) recordSize)
+  pub record-lent : HasRecord w k → Lent recordSize recordIn (nthRecord (networkIn w) k) (lent w (recordStart k) recordSize)
   record-lent h =
       let size = h .sized in
       record {

@@ -26,7 +26,7 @@ use Rattle.lines.specs.InWords.{lineIn, lineRange, lineSize}
 use Rattle.records.specs.Records.{Record}
 use Rattle.records.specs.InWords.{recordIn, recordRange, recordSize}
 use Rattle.network_layout.specs.Layout.{siteCount, itemCount, recordCount, itemsAt, itemsSize, sitesAt, sitesSize, linesAt, linesSize, historyAt, historySize, stateSize}
-use Rattle.protocol.specs.Network.{linesMost, Network, withSite, withLine, withLines, withRecord, noSite, noRecord}
+use Rattle.protocol.specs.Network.{linesMost, Network, withSite, withLine, withLines, withRecord, noSite, noRecord, nthRecord}
 use Rattle.network_layout.specs.InWords.{siteWords, lineWords, recordWords, networkIn, inRange}
 
 -- ---- the parts of a state: three counts, and the words of the placement, the sites, the lines, the history
@@ -266,7 +266,7 @@ module _ (w : List ℕ) (size : length w ≡ stateSize) where
 
   -- ---- one record
   module _ (k : ℕ) (b : k < recordCount w) (few : k < recordsMost) where
-    pub record-read : getD (networkIn w .history) k noRecord ≡ recordIn (part w (historyAt + k * recordSize) recordSize)
+    pub record-read : nthRecord (networkIn w) k ≡ recordIn (part w (historyAt + k * recordSize) recordSize)
     unfolding networkIn
     record-read =
         ap (getD (networkIn w .history) k) no-record

@@ -8,8 +8,8 @@ use Rattle.protocol.specs.Network.{Network}
 use Rattle.protocol.specs.Calls.{Call, setUp, Outcome, perform}
 use Rattle.network_layout.specs.InWords.{inRange, shaped, meaning}
 use Rattle.network_layout.specs.Promises.{Performed}
-use Rattle.protocol.specs.Agreement.{Known, nothingKnown, witnessed, learnedAll, Agreement, AgreedOrUnset, OneCopyAgreement, FromNothing}
-use Rattle.network_layout.specs.Played.{Event, Played, seenOf, witnessedAll, PlayedAgreement, PlayedFromNothing}
+use Rattle.protocol.specs.Agreement.{Known, nothingKnown, witnessed, learnedAll, Always, Agreement, AgreedOrUnset, OneCopyAgreement, FromNothing}
+use Rattle.network_layout.specs.Played.{Event, Played, seenOf, witnessedAll, leftAfter, PlayedAlways, PlayedAgreement, PlayedFromNothing}
 use Rattle.protocol.proofs.Theorem.{one-copy-agreement}
 use Rattle.protocol.proofs.Beside.{from-nothing}
 use Rattle.network_layout.specs.Layout.{stateSize}
@@ -29,16 +29,22 @@ witnessed-is w k (e ∷ es) s (p, ps) =
     witnessed-is (e .left) (witnessed k (e .call) (seenOf e)) es refl ps
     ∙ ap (λ (o : Outcome). learnedAll (witnessed k (e .call) o) (calls es)) same
 
-pub played-agreement : OneCopyAgreement → PlayedAgreement
-unfolding OneCopyAgreement PlayedAgreement
-played-agreement theorem w e es sites items primaries masks c z (p, ps) =
+-- what holds after every list of calls holds of those that the code answered
+pub played-always : (holdsOf : Known → Type 0) → Always holdsOf → PlayedAlways holdsOf
+played-always holdsOf theorem w e es sites items primaries masks c z (p, ps) =
     let start = nothingKnown (meaning w) in
     let asked : perform (meaning w) (setUp sites items primaries masks) .number ≡ 0 = ap (λ (x : Call). perform (meaning w) x .number) (sym c) ∙ sym (p .number-is) ∙ z in
-    subst Agreement (ap (λ (x : Call). learnedAll start (x ∷ calls es)) (sym c) ∙ sym (witnessed-is w start (e ∷ es) refl (p, ps)))
+    subst holdsOf (ap (λ (x : Call). learnedAll start (x ∷ calls es)) (sym c) ∙ sym (witnessed-is w start (e ∷ es) refl (p, ps)))
     (theorem (meaning w) sites items primaries masks asked (calls es))
 
 pub one-copy-played : PlayedAgreement
-one-copy-played = played-agreement one-copy-agreement
+unfolding OneCopyAgreement PlayedAgreement
+one-copy-played = played-always Agreement one-copy-agreement
+
+-- the state that is known then is what the words left mean
+pub state-left : (w : List ℕ) (k : Known) (es : List Event) → k .state ≡ meaning w → witnessedAll k es .state ≡ meaning (leftAfter w es)
+state-left w k [] s = s
+state-left w k (e ∷ es) s = state-left (e .left) (witnessed k (e .call) (seenOf e)) es refl
 
 pub played-from-nothing : PlayedFromNothing
 unfolding FromNothing PlayedFromNothing

@@ -32,11 +32,19 @@ abbrev pub witnessedAll : Known → List Event → Known
 witnessedAll k [] = k
 witnessedAll k (e ∷ es) = witnessedAll (witnessed k (e .call) (seenOf e)) es
 
+-- the words that the last one left
+abbrev pub leftAfter : List ℕ → List Event → List ℕ
+leftAfter w [] = w
+leftAfter w (e ∷ es) = leftAfter (e .left) es
+
 -- for all words whatever, a set-up accepted on them, and all calls after it that the code answers
-unfoldable pub PlayedAgreement : Type 0
-PlayedAgreement =
+abbrev pub PlayedAlways : (Known → Type 0) → Type 0
+PlayedAlways holdsOf =
     (w : List ℕ) (e : Event) (es : List Event) (sites items : ℕ) (primaries masks : List ℕ) → e .call ≡ setUp sites items primaries masks → e .number ≡ 0
-    → Played w (e ∷ es) → Agreement (witnessedAll (nothingKnown (meaning w)) (e ∷ es))
+    → Played w (e ∷ es) → holdsOf (witnessedAll (nothingKnown (meaning w)) (e ∷ es))
+
+unfoldable pub PlayedAgreement : Type 0
+PlayedAgreement = PlayedAlways Agreement
 
 -- for all words that mean no network, words of zeros among them, and all calls that the code answers
 unfoldable pub PlayedFromNothing : Type 0

@@ -6,13 +6,14 @@ use site_operations::OPERATIONS;
 use timestamp::Timestamp;
 ghost use mathlib.Core.Path.{_≡_};
 ghost use Prim.Native.Nat.{min, _≤_};
-ghost use lib.ListN.{length, getD};
+ghost use lib.ListN.{length};
 ghost use Rattle.timestamp.specs.Value.{stampOf, PlainValue};
+ghost use Rattle.site_operations.specs.Operations.{touches};
 ghost use Rattle.site_operations.specs.InWords.{opsIn, OpsLaid};
 ghost use Rattle.limits.specs.Limits.{opsMost};
 ghost use Rattle.records.specs.InWords.{recordIn, recordSize};
 ghost use Rattle.network_layout.specs.Layout.{stateSize, recordCount};
-ghost use Rattle.protocol.specs.Network.{noRecord};
+ghost use Rattle.protocol.specs.Network.{nthRecord};
 ghost use Rattle.network_layout.specs.InWords.{networkIn, RecordStep};
 ghost use Rattle.network_layout.specs.At.{AtRoom, HasRecord};
 ghost use Rattle.network_layout.specs.Lent.{Lent};
@@ -28,7 +29,7 @@ pub fn record_count(state: &[u32]) -> u32
 // The words of record k.
 pub fn record_at(state: &[u32], k: usize) -> &[u32]
     requires { ⌜ HasRecord (now state) k ⌝ }
-    ensures { λ r. ⌜ Lent recordSize recordIn (getD (networkIn (now (state .entry)) .history) k noRecord) (now r) ⌝ }
+    ensures { λ r. ⌜ Lent recordSize recordIn (nthRecord (networkIn (now (state .entry))) k) (now r) ⌝ }
 {
     let a = HISTORY + k * RECORD;
     let e = a + RECORD;
@@ -37,14 +38,14 @@ pub fn record_at(state: &[u32], k: usize) -> &[u32]
 
 pub fn record_site(state: &[u32], k: usize) -> u32
     requires { ⌜ HasRecord (now state) k ⌝ }
-    ensures { λ r. ⌜ r ≡ getD (networkIn (now (state .entry)) .history) k noRecord .site ⌝ }
+    ensures { λ r. ⌜ r ≡ nthRecord (networkIn (now (state .entry))) k .site ⌝ }
 {
     records::site(record_at(state, k))
 }
 
 pub fn record_stamp(state: &[u32], k: usize) -> Timestamp
     requires { ⌜ HasRecord (now state) k ⌝ }
-    ensures { λ r. ⌜ PlainValue (getD (networkIn (now (state .entry)) .history) k noRecord .stamp) r ⌝ }
+    ensures { λ r. ⌜ PlainValue (nthRecord (networkIn (now (state .entry))) k .stamp) r ⌝ }
 {
     records::stamp(record_at(state, k))
 }
@@ -63,7 +64,7 @@ pub fn add_record(state: &mut [u32], site: u32, n: u32, t: Timestamp, ops: &[u32
 
 pub fn operation_count(state: &[u32], k: usize) -> usize
     requires { ⌜ HasRecord (now state) k ⌝ }
-    ensures { λ r. ⌜ (r ≡ length (getD (networkIn (now (state .entry)) .history) k noRecord .ops)) × (r ≤ opsMost) ⌝ }
+    ensures { λ r. ⌜ (r ≡ length (nthRecord (networkIn (now (state .entry))) k .ops)) × (r ≤ opsMost) ⌝ }
 {
     records::count(record_at(state, k))
 }
@@ -71,7 +72,15 @@ pub fn operation_count(state: &[u32], k: usize) -> usize
 // A record's operations, three words each, 0 past the last.
 pub fn record_ops(state: &[u32], k: usize) -> [u32; OPERATIONS]
     requires { ⌜ HasRecord (now state) k ⌝ }
-    ensures { λ r. ⌜ OpsLaid (length (getD (networkIn (now (state .entry)) .history) k noRecord .ops)) (getD (networkIn (now (state .entry)) .history) k noRecord .ops) r ⌝ }
+    ensures { λ r. ⌜ OpsLaid (length (nthRecord (networkIn (now (state .entry))) k .ops)) (nthRecord (networkIn (now (state .entry))) k .ops) r ⌝ }
 {
     records::operations(record_at(state, k))
+}
+
+// Whether an operation of a record writes the item.
+pub fn record_touches(state: &[u32], k: usize, item: u32) -> bool
+    requires { ⌜ HasRecord (now state) k ⌝ }
+    ensures { λ r. ⌜ r ≡ touches item (nthRecord (networkIn (now (state .entry))) k .ops) ⌝ }
+{
+    records::writes(record_at(state, k), item)
 }

@@ -5,13 +5,13 @@ use timestamp::Timestamp;
 ghost use mathlib.Core.Path.{_≡_};
 ghost use mathlib.Core.List.{[], _∷_, _++_};
 ghost use Prim.Native.Nat.{_+_, _<_};
-ghost use lib.ListN.{length, getD};
+ghost use lib.ListN.{length};
 ghost use Rattle.lists.specs.Lists.{keep};
 ghost use Rattle.limits.specs.Limits.{opsMost};
 ghost use Rattle.timestamp.specs.Value.{stampOf};
 ghost use Rattle.site.specs.Site.{received};
 ghost use Rattle.site_operations.specs.InWords.{opAt, opsIn};
-ghost use Rattle.protocol.specs.Network.{noRecord};
+ghost use Rattle.protocol.specs.Network.{nthRecord};
 ghost use Rattle.protocol.specs.Steps.{head, wantedAt, writesFor};
 ghost use Rattle.network_layout.specs.Layout.{stateSize};
 ghost use Rattle.network_layout.specs.InWords.{networkIn, SiteStep};
@@ -113,7 +113,7 @@ fn head_writes(state: &[u32], p: u32, j: u32) -> Writes
 // Those of record k.
 fn record_writes(state: &[u32], k: usize, j: u32) -> Writes
     requires { ⌜ Recorded (now state) k ⌝ }
-    ensures { λ r. ⌜ Laid opsMost (r .count) (r .ops) (keep (wantedAt (networkIn (now (state .entry)) .items) j) (getD (networkIn (now (state .entry)) .history) k noRecord .ops)) ⌝ }
+    ensures { λ r. ⌜ Laid opsMost (r .count) (r .ops) (keep (wantedAt (networkIn (now (state .entry)) .items) j) (nthRecord (networkIn (now (state .entry))) k .ops)) ⌝ }
 {
     let n = network_records::operation_count(state, k);
     let ops = network_records::record_ops(state, k);

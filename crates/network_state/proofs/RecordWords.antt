@@ -10,20 +10,20 @@ use Rattle.words.proofs.Chunks.{chunks-at}
 use Rattle.limits.specs.Limits.{recordsMost}
 use Rattle.records.specs.InWords.{recordIn, recordSize}
 use Rattle.network_layout.specs.Layout.{recordCount, historyAt, historySize, stateSize}
-use Rattle.protocol.specs.Network.{noRecord}
+use Rattle.protocol.specs.Network.{noRecord, nthRecord}
 use Rattle.network_layout.specs.InWords.{recordWords, networkIn}
 use Rattle.network_layout.proofs.Assembled.{no-record}
 use Rattle.network_layout.proofs.Performs.{records-count}
 
 module _ (w : List ℕ) (k : ℕ) where
-  pub record-past : recordCount w ≤ k → noRecord ≡ getD (networkIn w .history) k noRecord
+  pub record-past : recordCount w ≤ k → noRecord ≡ nthRecord (networkIn w) k
   record-past h = sym (List·getD-eq-default (networkIn w .history) noRecord {n = k} (omega (arith, records-count w)))
 
-  record-chunk : k < recordCount w → getD (networkIn w .history) k noRecord ≡ recordIn (part (part w historyAt historySize) (k * recordSize) recordSize)
+  record-chunk : k < recordCount w → nthRecord (networkIn w) k ≡ recordIn (part (part w historyAt historySize) (k * recordSize) recordSize)
   unfolding networkIn
   record-chunk b = ap (getD (networkIn w .history) k) no-record ∙ List·getD-map recordIn (recordWords w) k [] ∙ ap recordIn (chunks-at recordSize (recordCount w) (part w historyAt historySize) k b)
 
-  pub record-beyond : length w ≡ stateSize → k < recordCount w → recordsMost ≤ k → noRecord ≡ getD (networkIn w .history) k noRecord
+  pub record-beyond : length w ≡ stateSize → k < recordCount w → recordsMost ≤ k → noRecord ≡ nthRecord (networkIn w) k
   record-beyond size b h =
       let long : length (part w historyAt historySize) ≡ historySize = part-length w historyAt historySize (omega arith) in
       let none : drop (k * recordSize) (part w historyAt historySize) ≡ [] = drop-of-length-le (part w historyAt historySize) {i = k * recordSize} (omega arith) in

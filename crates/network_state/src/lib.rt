@@ -5,9 +5,9 @@ use network_layout::Totals;
 use network_layout::WORDS;
 use site_operations::OPERATIONS;
 ghost use mathlib.Core.Path.{_≡_};
-ghost use lib.ListN.{length, getD};
+ghost use lib.ListN.{length};
 ghost use Rattle.network_layout.specs.Layout.{stateSize};
-ghost use Rattle.protocol.specs.Network.{noRecord};
+ghost use Rattle.protocol.specs.Network.{noRecord, nthRecord};
 ghost use Rattle.network_layout.specs.InWords.{networkIn, shaped as shapedWords};
 ghost use Rattle.network_layout.specs.At.{HasRecord};
 ghost use Rattle.network_layout.specs.Reading.{Entered};
@@ -32,14 +32,14 @@ pub fn holdings(state: &[u32; WORDS]) -> Totals
 
 // The record of a number, its operations' words 0 past the last; all zero where there is none.
 pub fn record(state: &[u32; WORDS], k: usize) -> Entry
-    ensures { λ r. ⌜ Entered (getD (networkIn (now (state .entry)) .history) k noRecord) r ⌝ }
+    ensures { λ r. ⌜ Entered (nthRecord (networkIn (now (state .entry))) k) r ⌝ }
 {
     record_in(state, k)
 }
 
 fn record_in(state: &[u32], k: usize) -> Entry
     requires { ⌜ length (now state) ≡ stateSize ⌝ }
-    ensures { λ r. ⌜ Entered (getD (networkIn (now (state .entry)) .history) k noRecord) r ⌝ }
+    ensures { λ r. ⌜ Entered (nthRecord (networkIn (now (state .entry))) k) r ⌝ }
 {
     if words::wide(network_records::record_count(state)) <= k {
         return no_entry();
@@ -52,7 +52,7 @@ fn record_in(state: &[u32], k: usize) -> Entry
 
 fn entry_in(state: &[u32], k: usize) -> Entry
     requires { ⌜ HasRecord (now state) k ⌝ }
-    ensures { λ r. ⌜ Entered (getD (networkIn (now (state .entry)) .history) k noRecord) r ⌝ }
+    ensures { λ r. ⌜ Entered (nthRecord (networkIn (now (state .entry))) k) r ⌝ }
 {
     Entry {
         site: network_records::record_site(state, k),

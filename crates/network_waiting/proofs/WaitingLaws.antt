@@ -12,12 +12,12 @@ use lib.Dec.{eqb, ltb}
 use borrow.Author.Tests.{lt-ltb, le-ltb, ltb-true, ltb-false, eq-eqb, ne-eqb, eqb-true, eqb-false}
 use Rattle.placement.specs.Masks.{bit}
 use Rattle.placement.specs.Placement.{Item, noItem, copies}
-use Rattle.lists.specs.Lists.{any, someBelow}
+use Rattle.lists.specs.Lists.{someBelow}
 use Rattle.limits.specs.Limits.{sitesMost, itemsMost, recordsMost}
 use Rattle.messages.specs.Messages.{Message, commit, dummy, nameOf}
 use Rattle.records.specs.Records.{Record}
-use Rattle.protocol.specs.Network.{Network, noRecord, messageOps}
-use Rattle.site_operations.specs.Operations.{writesItem}
+use Rattle.protocol.specs.Network.{Network, noRecord, messageOps, recordAt}
+use Rattle.site_operations.specs.Operations.{touches}
 use Rattle.protocol.specs.Waiting.{onLine, isWaiting, occurrences, EachOnce}
 use Rattle.network_waiting.specs.Collected.{Collected}
 use Rattle.network_layout.specs.InWords.{networkIn, inRange}
@@ -31,15 +31,15 @@ unfolding partsOf
 few-made w e = omega (arith, records-count w, range-parts w e .few-records)
 
 module _ (item : ℕ) (h : List Record) (few : length h ≤ recordsMost) (m : Message) (x : ℕ) (e : x ≡ nameOf m) where
-  ops-by-name : (m : Message) → messageOps h m ≡ getD h (nameOf m) noRecord .ops
+  ops-by-name : (m : Message) → messageOps h m ≡ recordAt h (nameOf m) .ops
   ops-by-name (commit k) = refl
   ops-by-name (dummy t) = sym (ap (λ (r : Record). r .ops) (List·getD-eq-default h noRecord {n = recordsMost} few))
 
-  pub message-none : length h ≤ x → false ≡ any (writesItem item) (messageOps h m)
-  message-none g = sym (ap (any (writesItem item)) (ops-by-name m ∙ ap (λ (r : Record). r .ops) (List·getD-eq-default h noRecord {n = nameOf m} (omega arith))))
+  pub message-none : length h ≤ x → false ≡ touches item (messageOps h m)
+  message-none g = sym (ap (touches item) (ops-by-name m ∙ ap (λ (r : Record). r .ops) (List·getD-eq-default h noRecord {n = nameOf m} (omega arith))))
 
-  pub message-some : x < length h → any (writesItem item) (getD h x noRecord .ops) ≡ any (writesItem item) (messageOps h m)
-  message-some g = ap (λ (k : ℕ). any (writesItem item) (getD h k noRecord .ops)) e ∙ sym (ap (any (writesItem item)) (ops-by-name m))
+  pub message-some : x < length h → touches item (recordAt h x .ops) ≡ touches item (messageOps h m)
+  message-some g = ap (λ (k : ℕ). touches item (recordAt h k .ops)) e ∙ sym (ap (touches item) (ops-by-name m))
 
 -- ---- an item, by the tests of the code
 module _ (n : Network) (i k : ℕ) where

@@ -4,9 +4,9 @@ use mathlib.Core.Bool.{Bool, cond}
 use mathlib.Core.List.{List, [], _∷_, _++_}
 use Prim.Native.Nat.{ℕ, _+_, _≤_, _<_}
 use lib.ListN.{length, getD, take, drop}
-use Rattle.lists.specs.Lists.{any, Filled}
+use Rattle.lists.specs.Lists.{Filled}
 use Rattle.limits.specs.Limits.{itemsMost}
-use Rattle.site_operations.specs.Operations.{writesItem}
+use Rattle.site_operations.specs.Operations.{touches}
 use Rattle.lines.specs.Lines.{noLine}
 use Rattle.messages.specs.Messages.{Message}
 use Rattle.protocol.specs.Network.{Network, messageOps}
@@ -19,7 +19,7 @@ abbrev pub onIt : List ℕ → ℕ → List Message
 onIt w k = getD (networkIn w .lines) k noLine .messages
 
 abbrev pub carries : List ℕ → ℕ → Message → Bool
-carries w item m = any (writesItem item) (messageOps (networkIn w .history) m)
+carries w item m = touches item (messageOps (networkIn w .history) m)
 
 -- ---- item k is asked for, after the `count` items that were found before it
 pub record Collecting (items w : List ℕ) (site count k : ℕ) : Type 0 where

@@ -6,13 +6,11 @@ use network_layout::WORDS;
 ghost use mathlib.Core.Path.{_≡_};
 ghost use lib.ListN.{length, getD};
 ghost use Rattle.lists.specs.Lists.{any};
-ghost use Rattle.site_operations.specs.Operations.{writesItem};
 ghost use Rattle.messages.specs.Messages.{commit};
-ghost use Rattle.protocol.specs.Network.{noRecord};
 ghost use Rattle.protocol.specs.Waiting.{isWaiting};
 ghost use Rattle.network_layout.specs.Layout.{stateSize};
 ghost use Rattle.network_layout.specs.InWords.{networkIn};
-ghost use Rattle.network_layout.specs.At.{AtSite, AtLine, HasRecord};
+ghost use Rattle.network_layout.specs.At.{AtSite, AtLine};
 ghost use Rattle.network_layout.specs.Promises.{Reported};
 ghost use Rattle.network_waiting.specs.Collected.{onIt, carries, Collecting, Collected, AllCollected};
 
@@ -113,13 +111,5 @@ fn in_message(state: &[u32], k: usize, i: usize, item: u32) -> bool
     if network_records::record_count(state) <= name {
         return false;
     }
-    record_writes(state, words::wide(name), item)
-}
-
-// Whether an operation of a record writes the item.
-fn record_writes(state: &[u32], k: usize, item: u32) -> bool
-    requires { ⌜ HasRecord (now state) k ⌝ }
-    ensures { λ r. ⌜ r ≡ any (writesItem item) (getD (networkIn (now (state .entry)) .history) k noRecord .ops) ⌝ }
-{
-    records::writes(network_records::record_at(state, k), item)
+    network_records::record_touches(state, words::wide(name), item)
 }

@@ -16,15 +16,16 @@ use Rattle.placement.specs.Placement.{Item, namesMissing, namesBelow, itemNumbe
 use Rattle.lists.specs.Numbers.{firstNumber, numberIf, outside}
 use Rattle.limits.specs.Limits.{sitesMost, itemsMost, recordsMost}
 use Rattle.protocol.specs.Network.{Network, noRecord, siteAt, lineAt}
-use Rattle.protocol.specs.Steps.{itemsOf, noSuchSite, countAtMost, someLineFull, opsOf, opNumber, due, wrongLists, setUpNumber, setUpNetwork, commitNumber, dummyNumber, epochNumber, deliverNumber, scheduleNumber}
+use Rattle.protocol.specs.Steps.{itemsOf, noSuchSite, countAtMost, someLineFull, opsOf, opNumber, due, wrongLists, setUpNumber, commitNumber, dummyNumber, epochNumber, deliverNumber, scheduleNumber}
 use Rattle.lists.specs.Lists.{someBelow}
 use Rattle.protocol.specs.Questions.{Question, waiting, table, stamp, line, askedSite, questionNumber}
-use Rattle.protocol.specs.Calls.{Call, setUp, commit, dummy, epoch, deliver, schedule, ask, Outcome, refused, perform}
+use Rattle.protocol.specs.Calls.{Call, setUp, commit, dummy, epoch, deliver, schedule, ask, refused, perform}
 use Rattle.protocol.specs.Agreement.{Known, nothingKnown, witnessed, learned, learnedAll, OneCopyAgreement, AgreedOrUnset, FromNothing, StampsDiffer, Never6}
 use Rattle.lists.proofs.Matched.{matched-length, matched-at}
 use Rattle.protocol.proofs.Alike.{Alike}
+use Rattle.protocol.proofs.Invariant.{stamps-apart}
 use Rattle.protocol.proofs.Follows.{Follows, always}
-use Rattle.protocol.proofs.Theorem.{stamps-apart, one-copy-agreement}
+use Rattle.protocol.proofs.Theorem.{one-copy-agreement}
 
 -- ---- timestamps
 differ : (k : Known) → Follows k → (a b : ℕ) → a < b → b < length (k .book .commits) → getD (k .book .commits) a noRecord .stamp ≡ getD (k .book .commits) b noRecord .stamp → ⊥

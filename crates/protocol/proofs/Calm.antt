@@ -15,16 +15,17 @@ use Rattle.placement.specs.Placement.{copies, isLine}
 use Rattle.lines.specs.Lines.{Line}
 use Rattle.messages.specs.Messages.{Message, commit}
 use Rattle.records.specs.Records.{Record}
-use Rattle.protocol.specs.Network.{Network, messageStamp, messageFits, wellShaped}
+use Rattle.protocol.specs.Network.{Network, messageStamp, messageFits, wellShaped, nthRecord}
 use Rattle.protocol.specs.Steps.{due}
 use Rattle.lists.specs.Lists.{keep}
+use Rattle.site_operations.specs.Operations.{touches}
 use Rattle.protocol.proofs.WellShaped.{shape-parts}
 use Rattle.protocol.specs.Agreement.{holds}
-use Rattle.protocol.proofs.Values.{touches, lastValue, agree}
+use Rattle.protocol.proofs.Values.{lastValue, agree}
 use Rattle.protocol.proofs.Times.{Times}
 use Rattle.protocol.proofs.Places.{placeAt, orderAt, Before, UpTo, timesAt}
 use Rattle.protocol.proofs.Added.{added-old, added-size, added-each, added-rise}
-use Rattle.protocol.proofs.Invariant.{stampAt, heardAt, tableAt, messagesAt, sentAt, nthRecord, Named, Sizes, Invariant, line-sites, stamp-made, record-below, record-site, message-fits, reaches, due-child}
+use Rattle.protocol.proofs.Invariant.{stampAt, heardAt, tableAt, messagesAt, sentAt, Named, Sizes, Invariant, line-sites, stamp-made, record-below, record-site, message-fits, reaches, due-child}
 
 abbrev pub changed : Network → List Site → List Line → List Record → Network
 changed n ss ls h = record { sites = ss; items = n .items; lines = ls; history = h }

@@ -13,24 +13,24 @@ use Rattle.lists.proofs.Every.{and-true}
 use Rattle.timestamp_order.specs.Timestamp.{Stamp}
 use Rattle.timestamp_order.specs.Order.{notLater, isEarlier}
 use Rattle.timestamp_order.specs.Made.{madeBy}
-use Rattle.site_operations.specs.Operations.{Op, reads, noOp}
+use Rattle.site_operations.specs.Operations.{Op, reads, noOp, touches}
 use Rattle.site.specs.Site.{Site, committed}
 use Rattle.placement.specs.Placement.{Item, owns, copies, isLine}
 use Rattle.lists.specs.Numbers.{firstNumber}
 use Rattle.messages.specs.Messages.{Message, commit, dummy}
 use Rattle.records.specs.Records.{Record}
-use Rattle.protocol.specs.Network.{Network, noRecord, siteAt, messageStamp, messageFits, wellShaped}
+use Rattle.protocol.specs.Network.{Network, noRecord, siteAt, messageStamp, messageFits, wellShaped, nthRecord}
 use Rattle.protocol.specs.Steps.{countAtMost, opNumber, due, commitNetwork, recordOf}
 use Rattle.lists.specs.Lists.{keep}
 use Rattle.protocol.proofs.Keeps.{raised-made, keeps-commit}
 use Rattle.protocol.specs.Agreement.{holds}
 use Rattle.lists.proofs.Chains.{keep-more}
-use Rattle.protocol.proofs.Values.{touches, wrote, lastFrom, lastValue, from-more, none-kept, agree}
+use Rattle.protocol.proofs.Values.{wrote, lastFrom, lastValue, from-more, none-kept, agree}
 use Rattle.protocol.proofs.Works.{worked-length, getD-worked, worked-size, worked-kinds, worked-reads, wrote-worked}
 use Rattle.protocol.proofs.Times.{Times}
 use Rattle.protocol.proofs.Places.{placeAt, orderAt, Before, UpTo, timesAt}
 use Rattle.protocol.proofs.Added.{added-size, added-old, added-new, added-each, added-rise}
-use Rattle.protocol.proofs.Invariant.{stampAt, heardAt, tableAt, messagesAt, nthRecord, Named, Invariant, holder, touch-item, touch-owns, due-child, shaped, line-up, stamp-made, record-below, record-site, reaches}
+use Rattle.protocol.proofs.Invariant.{stampAt, heardAt, tableAt, messagesAt, Named, Invariant, holder, touch-item, touch-owns, due-child, shaped, line-up, stamp-made, record-below, record-site, reaches}
 use Rattle.protocol.proofs.Calm.{changed, Calm, calm-past, calm-queue, calm-ahead, calm-behind, calm-heard, calm-owed, settled-value}
 use Rattle.protocol.proofs.Quiet.{moved, moved-each, moved-here, moved-many, mailed, mail-here, risen-before, risen-without, raise-calm}
 use Rattle.protocol.specs.Allowed.{CommitAllowed}

@@ -8,13 +8,13 @@ use native.Mathlib.Omega.{arith}
 use lib.IntN.{ℤ, pos}
 use lib.ListN.{length, getD}
 use lib.Dec.{eqb}
-use borrow.Author.Tests.{eqb-true}
+use borrow.Author.Tests.{eqb-true, eqb-false}
 use Rattle.lists.proofs.Every.{and-true, every-at}
 use Rattle.timestamp_order.specs.Timestamp.{Stamp}
 use Rattle.timestamp_order.specs.Order.{notLater, isEarlier, Below}
 use Rattle.timestamp_order.specs.Made.{madeBy}
 use Rattle.timestamp_order.proofs.Made.{without}
-use Rattle.site_operations.specs.Operations.{Op, reads, writes, noOp, writesItem}
+use Rattle.site_operations.specs.Operations.{Op, reads, writes, noOp, writesItem, touches}
 use Rattle.site.specs.InWords.{tableSize}
 use Rattle.placement.specs.Masks.{bit}
 use Rattle.placement.specs.Placement.{Item, noItem, owns, copies, isLine, hasParents}
@@ -22,14 +22,14 @@ use Rattle.limits.specs.Limits.{sitesMost}
 use Rattle.lists.proofs.Some.{some-at, some-index}
 use Rattle.messages.specs.Messages.{Message, commit}
 use Rattle.records.specs.Records.{Record}
-use Rattle.protocol.specs.Network.{linesMost, Network, siteAt, lineAt, lineNumber, messageStamp, messageFits, wellShaped}
+use Rattle.protocol.specs.Network.{linesMost, Network, siteAt, lineAt, lineNumber, messageStamp, messageFits, wellShaped, nthRecord}
 use Rattle.protocol.specs.Steps.{due}
 use Rattle.lists.specs.Lists.{keep}
 use Rattle.protocol.proofs.WellShaped.{Shape, shape-parts}
 use Rattle.protocol.proofs.Allowed.{OpAllowed}
 use Rattle.protocol.proofs.Chosen.{message-made}
 use Rattle.protocol.specs.Agreement.{holds}
-use Rattle.protocol.proofs.Values.{touches, lastValue, recordAt}
+use Rattle.protocol.proofs.Values.{lastValue}
 use Rattle.protocol.proofs.Times.{Times}
 use Rattle.protocol.proofs.Places.{line-rises, line-ends, placeAt, orderAt, Before, UpTo, timesAt}
 
@@ -52,9 +52,6 @@ messageAt n p j a = getD (messagesAt n p j) a (commit 0)
 
 abbrev pub sentAt : Network → ℕ → ℕ → ℕ → Stamp
 sentAt n p j a = messageStamp (n .history) (messageAt n p j a)
-
-abbrev pub nthRecord : Network → ℕ → Record
-nthRecord n k = recordAt (n .history) k
 
 -- a message of the list names commit k
 abbrev pub Named : List Message → ℕ → Type 0
@@ -151,7 +148,7 @@ module _ (xs : List Item) (i : ℕ) (os : List Op) (fits : (a : ℕ) → a < len
 
 -- ---- what holds in a network with the invariant
 module _ (n : Network) (inv : Invariant n) where
-  open Times (timesAt n) using (made-under)
+  open Times (timesAt n) using (made-under, never-before, made-apart)
 
   pub shaped : Shape n
   shaped = shape-parts n (inv .shape)
@@ -197,3 +194,21 @@ module _ (n : Network) (inv : Invariant n) where
   reaches k j x l t h =
       let fits = inv .allowed k l in
       holder (n .items) (nthRecord n k .site) j x (touch-item (n .items) (nthRecord n k .site) (nthRecord n k .ops) fits x t) (touch-owns (n .items) (nthRecord n k .site) (nthRecord n k .ops) fits x t) h
+
+  -- no two have one timestamp: those of one site rise, those of two end differently
+  pub stamps-apart : (k m : ℕ) → k < m → m < length (n .history) → nthRecord n k .stamp ≡ nthRecord n m .stamp → ⊥
+  stamps-apart k m l h e = go (eqb (nthRecord n k .site) (nthRecord n m .site)) refl
+    where
+      go : (b : Bool) → eqb (nthRecord n k .site) (nthRecord n m .site) ≡ b → ⊥
+      go true s =
+          never-before (nthRecord n m .stamp) (subst (λ (t : Stamp). Before n t (nthRecord n m .stamp)) e (inv .rise k m l h (eqb-true (nthRecord n k .site) (nthRecord n m .site) s)))
+      go false s =
+          made-apart (nthRecord n k .site) (nthRecord n m .site) (nthRecord n k .stamp) (nthRecord n m .stamp) (record-made k (omega arith)) (record-made m h)
+          (eqb-false (nthRecord n k .site) (nthRecord n m .site) s) e
+
+  -- those that write an item are its owner's, and rise
+  pub writers-rise : (x k m : ℕ) → k < m → m < length (n .history) → touches x (nthRecord n k .ops) ≡ true → touches x (nthRecord n m .ops) ≡ true → Before n (nthRecord n k .stamp) (nthRecord n m .stamp)
+  writers-rise x k m l h t u =
+      let owner : (a : ℕ) → a < length (n .history) → touches x (nthRecord n a .ops) ≡ true → owns (n .items) (nthRecord n a .site) x ≡ true
+      = λ a b. touch-owns (n .items) (nthRecord n a .site) (nthRecord n a .ops) (inv .allowed a b) x in
+      inv .rise k m l h (one-owner (n .items) (nthRecord n k .site) (nthRecord n m .site) x (owner k (omega arith) t) (owner m h u))

@@ -10,15 +10,16 @@ use lib.ListN.{length, getD, length-replicate, getD-replicate}
 use lib.Dec.{eqb}
 use Rattle.timestamp_order.specs.Timestamp.{Stamp}
 use Rattle.timestamp_order.specs.Order.{orderBy, notLater, isEarlier, IsEarlier}
-use Rattle.site_operations.specs.Operations.{Op, reads, recorded, worked, noOp}
+use Rattle.site_operations.specs.Operations.{Op, reads, recorded, worked, noOp, touches}
 use Rattle.site.specs.InWords.{tableSize}
 use Rattle.site_operations.proofs.Laws.{work-ops}
 use Rattle.records.specs.Records.{Record}
 use Rattle.lists.specs.Lists.{keep, upTo}
 use Rattle.lists.specs.Sorting.{sorted}
 use Rattle.protocol.specs.Run.{Turn, numbered, comesFirst, inTurn, after, run, startTable, find, shown, valueAt}
+use Rattle.protocol.specs.Network.{recordAt}
 use Rattle.protocol.proofs.Times.{Times, times}
-use Rattle.protocol.proofs.Values.{touches, wrote, lastFrom, lastValue, recordAt, untouched}
+use Rattle.protocol.proofs.Values.{wrote, lastFrom, lastValue, untouched}
 use Rattle.protocol.proofs.Works.{worked-length, getD-worked, recorded-other}
 use Rattle.lists.proofs.Chains.{Chain, each-implied, chain-keep, keep-none, keep-turn, map-keep}
 use Rattle.lists.proofs.Sorting.{chain-sorted, sorted-same, keep-sorted, InOrder}

@@ -16,23 +16,23 @@ use Rattle.timestamp_order.specs.Order.{notLater}
 use Rattle.timestamp_order.specs.Made.{madeBy}
 use Rattle.timestamp_order.proofs.Made.{without}
 use Rattle.timestamp_order.proofs.OrderLaws.{append-later}
-use Rattle.site_operations.specs.Operations.{Op, writes, writesItem}
+use Rattle.site_operations.specs.Operations.{Op, writes, writesItem, touches}
 use Rattle.site.specs.Site.{Site, received}
 use Rattle.placement.specs.Placement.{Item, copies, isLine}
 use Rattle.limits.specs.Limits.{sitesMost}
 use Rattle.lines.specs.Lines.{Line, noLine, taken}
 use Rattle.messages.specs.Messages.{Message, commit, dummy}
 use Rattle.records.specs.Records.{Record}
-use Rattle.protocol.specs.Network.{Network, noSite, siteAt, lineAt, lineNumber, messageStamp, messageFits, wellShaped}
+use Rattle.protocol.specs.Network.{Network, noSite, siteAt, lineAt, lineNumber, messageStamp, messageFits, wellShaped, nthRecord}
 use Rattle.protocol.specs.Steps.{due, head, headStamp, headEarlier, earlierOf, earliest, chosen, writesFor, scheduleNumber, scheduleNetwork}
 use Rattle.lists.specs.Lists.{keep}
 use Rattle.protocol.proofs.Chosen.{earliest-site, chosen-line, chosen-rises, head-made, parent-held, received-stamp, received-made, keeps-schedule}
 use Rattle.protocol.specs.Agreement.{holds}
-use Rattle.protocol.proofs.Values.{touches, wrote, lastValue, agree, joined-commit}
+use Rattle.protocol.proofs.Values.{wrote, lastValue, agree, joined-commit}
 use Rattle.protocol.proofs.Works.{worked-length, getD-worked}
 use Rattle.protocol.proofs.Times.{Times, without-appended}
 use Rattle.protocol.proofs.Places.{placeAt, orderAt, Before, UpTo, timesAt}
-use Rattle.protocol.proofs.Invariant.{stampAt, heardAt, tableAt, messagesAt, messageAt, sentAt, nthRecord, Named, Invariant, one-owner, touch-owns, touch-due, due-child, shaped, line-sites, line-number, stamp-made, record-site, record-below, sent-made, sent-below, message-fits, reaches}
+use Rattle.protocol.proofs.Invariant.{stampAt, heardAt, tableAt, messagesAt, messageAt, sentAt, Named, Invariant, one-owner, touch-owns, touch-due, due-child, shaped, line-sites, line-number, stamp-made, record-site, record-below, sent-made, sent-below, message-fits, reaches}
 use Rattle.protocol.proofs.Calm.{changed, EachSent, RisesSent}
 use Rattle.protocol.proofs.Quiet.{moved, moved-many, moved-here, moved-sizes, moved-grows}
 

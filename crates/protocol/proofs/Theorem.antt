@@ -1,52 +1,27 @@
 -- One-copy agreement.
-use mathlib.Core.Path.{_≡_, refl, ap, sym, subst, _∙_}
-use mathlib.Core.Bool.{Bool, true, false}
+use mathlib.Core.Path.{_≡_, ap, sym, _∙_}
+use mathlib.Core.Bool.{true}
 use mathlib.Core.List.{List}
 use Prim.Native.Nat.{ℕ, _<_}
 use native.Mathlib.Omega.{arith}
 use lib.IntN.{pos}
 use lib.ListN.{length, getD, length-map}
-use lib.Dec.{eqb}
-use borrow.Author.Tests.{eqb-true, eqb-false}
-use Rattle.timestamp_order.specs.Timestamp.{Stamp}
 use Rattle.site.specs.Site.{Site}
-use Rattle.placement.specs.Placement.{Item, owns}
+use Rattle.placement.specs.Placement.{Item}
 use Rattle.protocol.specs.Network.{Network, placeOf}
 use Rattle.protocol.specs.Run.{startTable, shown, valueAt}
 use Rattle.protocol.specs.Agreement.{Known, holds, Agreement, OneCopyAgreement}
-use Rattle.protocol.proofs.Values.{touches}
 use Rattle.protocol.proofs.Runs.{run-value, run-shows}
 use Rattle.protocol.proofs.Alike.{alike-shown, alike-value}
-use Rattle.protocol.proofs.Times.{Times}
-use Rattle.protocol.proofs.Places.{places-apart, placeAt, Before, timesAt}
-use Rattle.protocol.proofs.Invariant.{stampAt, tableAt, nthRecord, Invariant, one-owner, touch-owns, record-made}
+use Rattle.protocol.proofs.Places.{places-apart, placeAt}
+use Rattle.protocol.proofs.Invariant.{stampAt, tableAt, Invariant, stamps-apart, writers-rise}
 use Rattle.protocol.proofs.Follows.{readsOf, Follows, always}
 
 -- ---- the commits of a network
 module _ (n : Network) (inv : Invariant n) where
-  open Times (timesAt n) using (never-before, made-apart)
-
-  -- no two have one timestamp: those of one site rise, those of two end differently
-  pub stamps-apart : (k m : ℕ) → k < m → m < length (n .history) → nthRecord n k .stamp ≡ nthRecord n m .stamp → ⊥
-  stamps-apart k m l h e = go (eqb (nthRecord n k .site) (nthRecord n m .site)) refl
-    where
-      go : (b : Bool) → eqb (nthRecord n k .site) (nthRecord n m .site) ≡ b → ⊥
-      go true s =
-          never-before (nthRecord n m .stamp) (subst (λ (t : Stamp). Before n t (nthRecord n m .stamp)) e (inv .rise k m l h (eqb-true (nthRecord n k .site) (nthRecord n m .site) s)))
-      go false s =
-          made-apart (nthRecord n k .site) (nthRecord n m .site) (nthRecord n k .stamp) (nthRecord n m .stamp) (record-made n inv k (omega arith)) (record-made n inv m h)
-          (eqb-false (nthRecord n k .site) (nthRecord n m .site) s) e
-
-  -- those that write an item are its owner's, and rise
-  writers-rise : (x k m : ℕ) → k < m → m < length (n .history) → touches x (nthRecord n k .ops) ≡ true → touches x (nthRecord n m .ops) ≡ true → Before n (nthRecord n k .stamp) (nthRecord n m .stamp)
-  writers-rise x k m l h t u =
-      let owner : (a : ℕ) → a < length (n .history) → touches x (nthRecord n a .ops) ≡ true → owns (n .items) (nthRecord n a .site) x ≡ true
-      = λ a b. touch-owns (n .items) (nthRecord n a .site) (nthRecord n a .ops) (inv .allowed a b) x in
-      inv .rise k m l h (one-owner (n .items) (nthRecord n k .site) (nthRecord n m .site) x (owner k (omega arith) t) (owner m h u))
-
   run-history : n .history ≡ shown (placeAt n) startTable (n .history)
   run-history =
-      run-shows (placeAt n) (places-apart (n .items)) (n .history) stamps-apart writers-rise
+      run-shows (placeAt n) (places-apart (n .items)) (n .history) (stamps-apart n inv) (writers-rise n inv)
       (λ k a l b e. let item = inv .allowed k l a b .item in (omega (arith, inv .sizes .items), inv .read k l a b e))
 
 -- ---- what follows from the calls agrees with the run

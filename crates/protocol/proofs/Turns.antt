@@ -16,7 +16,7 @@ use Rattle.lists.specs.Sorting.{sorted, insert}
 use Rattle.lists.proofs.Chains.{Each, Chain}
 use Rattle.lists.proofs.Sorting.{each-sorted, any-sorted}
 use Rattle.protocol.specs.Run.{Turn, numbered, comesFirst, inTurn, find}
-use Rattle.protocol.proofs.Values.{recordAt}
+use Rattle.protocol.specs.Network.{recordAt}
 
 -- ---- by rising timestamp, equal ones in the order made
 module _ (place : ℕ → ℕ) (apart : (a b : ℕ) → place a ≡ place b → a ≡ b) where

@@ -5,16 +5,12 @@ use mathlib.Core.List.{List, [], _∷_, _++_}
 use Prim.Native.Nat.{ℕ, zero, suc, _<_}
 use native.Mathlib.Omega.{arith}
 use lib.IntN.{ℤ, pos}
-use lib.ListN.{length, getD}
-use Rattle.site_operations.specs.Operations.{Op, writesItem}
-use Rattle.lists.specs.Lists.{any, keep}
+use lib.ListN.{length}
+use Rattle.site_operations.specs.Operations.{Op, writesItem, touches}
+use Rattle.lists.specs.Lists.{keep}
 use Rattle.records.specs.Records.{Record}
-use Rattle.protocol.specs.Network.{noRecord}
+use Rattle.protocol.specs.Network.{recordAt}
 use Rattle.lists.proofs.Numbers.{or-false}
-
--- some operation writes the item
-abbrev pub touches : ℕ → List Op → Bool
-touches x os = any (writesItem x) os
 
 -- the item's value after operations, from the value before
 abbrev pub wrote : ℕ → ℤ → List Op → ℤ
@@ -29,9 +25,6 @@ lastFrom x v (r ∷ rs) = lastFrom x (wrote x v (r .ops)) rs
 -- starting at 0
 abbrev pub lastValue : ℕ → List Record → ℤ
 lastValue x rs = lastFrom x (pos 0) rs
-
-abbrev pub recordAt : List Record → ℕ → Record
-recordAt h k = getD h k noRecord
 
 -- operations that do not write the item leave its value
 pub untouched : (x : ℕ) (v : ℤ) (os : List Op) → touches x os ≡ false → wrote x v os ≡ v

@@ -12,7 +12,7 @@ use Rattle.timestamp_order.specs.Timestamp.{Stamp}
 use Rattle.site_operations.specs.Operations.{valuesRead}
 use Rattle.placement.specs.Placement.{Item, owns, copies}
 use Rattle.records.specs.Records.{Record}
-use Rattle.protocol.specs.Network.{Network, noRecord, siteAt, placeOf}
+use Rattle.protocol.specs.Network.{Network, recordAt, siteAt, placeOf}
 use Rattle.protocol.specs.Steps.{itemsOf}
 use Rattle.protocol.specs.Calls.{Call, setUp, commit, dummy, epoch, deliver, schedule, ask, Outcome, perform}
 use Rattle.protocol.specs.Book.{Book, noBook, bookStamp, notedIf}
@@ -128,7 +128,7 @@ FromNothing = (calls : List Call) → AgreedOrUnset (learnedAll (nothingKnown no
 -- no two commits of the book have one timestamp
 unfoldable pub StampsDiffer : Type 0
 StampsDiffer =
-    Always (λ k. (a b : ℕ) → a < b → b < length (k .book .commits) → getD (k .book .commits) a noRecord .stamp ≡ getD (k .book .commits) b noRecord .stamp → ⊥)
+    Always (λ k. (a b : ℕ) → a < b → b < length (k .book .commits) → recordAt (k .book .commits) a .stamp ≡ recordAt (k .book .commits) b .stamp → ⊥)
 
 -- no further call, whatever it is, finds the state not well shaped or never set up
 unfoldable pub Never6 : Type 0

@@ -29,6 +29,13 @@ noSite = record { table = []; stamp = noStamp }
 abbrev pub noRecord : Record
 noRecord = record { site = 0; stamp = noStamp; ops = [] }
 
+-- the record of a number, from 0 on in the order made
+abbrev pub recordAt : List Record → ℕ → Record
+recordAt h k = getD h k noRecord
+
+abbrev pub nthRecord : Network → ℕ → Record
+nthRecord n k = recordAt (n .history) k
+
 abbrev pub siteAt : Network → ℕ → Site
 siteAt n i = getD (n .sites) i noSite
 
@@ -58,11 +65,11 @@ withRecord n r = record { sites = n .sites; items = n .items; lines = n .lines; 
 
 -- ---- what a message carries
 abbrev pub messageStamp : List Record → Message → Stamp
-messageStamp h (commit k) = getD h k noRecord .stamp
+messageStamp h (commit k) = recordAt h k .stamp
 messageStamp h (dummy t) = t
 
 abbrev pub messageOps : List Record → Message → List Op
-messageOps h (commit k) = getD h k noRecord .ops
+messageOps h (commit k) = recordAt h k .ops
 messageOps h (dummy t) = []
 
 -- ---- the order of sites
@@ -73,7 +80,7 @@ placeOf xs k = k
 -- ---- well shaped
 -- a message on a line from p names a recorded commit of p, or is a dummy that p made
 abbrev pub messageFits : (ℕ → ℕ) → List Record → ℕ → Message → Bool
-messageFits place h p (commit k) = ltb k (length h) && eqb (getD h k noRecord .site) p
+messageFits place h p (commit k) = ltb k (length h) && eqb (recordAt h k .site) p
 messageFits place h p (dummy t) = madeBy place p t
 
 -- the line of a number: arrived not above held, nothing held where the placement gives no line, and every message fits

@@ -4,7 +4,7 @@ use mathlib.Core.Bool.{Bool, cond, _&&_}
 use mathlib.Core.List.{List, [], _∷_}
 use Prim.Native.Nat.{ℕ, _+_}
 use lib.Dec.{eqb}
-use Rattle.site_operations.specs.Operations.{writesItem}
+use Rattle.site_operations.specs.Operations.{touches}
 use Rattle.lists.specs.Lists.{any, someBelow}
 use Rattle.placement.specs.Placement.{copies}
 use Rattle.limits.specs.Limits.{sitesMost}
@@ -13,7 +13,7 @@ use Rattle.protocol.specs.Network.{Network, lineAt, messageOps}
 
 -- a message on the line from p to site i writes item k
 abbrev pub onLine : Network → ℕ → ℕ → ℕ → Bool
-onLine n i k p = any (λ (m : Message). any (writesItem k) (messageOps (n .history) m)) (lineAt n p i .messages)
+onLine n i k p = any (λ (m : Message). touches k (messageOps (n .history) m)) (lineAt n p i .messages)
 
 -- site i has a copy of item k, and a message on some line into it writes it
 unfoldable pub isWaiting : Network → ℕ → ℕ → Bool

@@ -9,10 +9,9 @@ ghost use mathlib.Core.Bool.{_&&_};
 ghost use Prim.Native.Nat.{_≤_};
 ghost use lib.ListN.{length};
 ghost use lib.Dec.{eqb};
-ghost use Rattle.lists.specs.Lists.{any};
 ghost use Rattle.timestamp.specs.Value.{stampOf, PlainValue};
 ghost use Rattle.timestamp_order.specs.Order.{byNumber};
-ghost use Rattle.site_operations.specs.Operations.{writesItem};
+ghost use Rattle.site_operations.specs.Operations.{touches};
 ghost use Rattle.site_operations.specs.InWords.{OpsLaid};
 ghost use Rattle.limits.specs.Limits.{opsMost};
 ghost use Rattle.records.specs.Records.{recordFits};
@@ -85,7 +84,7 @@ pub fn operations(w: &[u32]) -> [u32; site_operations::OPERATIONS]
 
 // Whether an operation of a record writes the item.
 pub fn writes(w: &[u32], item: u32) -> bool
-    ensures { λ r. ⌜ r ≡ any (writesItem item) (recordIn (now (w .entry)) .ops) ⌝ }
+    ensures { λ r. ⌜ r ≡ touches item (recordIn (now (w .entry)) .ops) ⌝ }
 {
     let n = count(w);
     let mut i = 0;

@@ -5,6 +5,7 @@ use Prim.Native.Nat.{ℕ}
 use lib.IntN.{ℤ, pos}
 use lib.ListN.{set, getD}
 use lib.Dec.{eqb}
+use Rattle.lists.specs.Lists.{any}
 
 -- an operation: kind 0 reads, kind 1 writes
 pub record Op : Type 0 where
@@ -25,6 +26,10 @@ writes o = eqb (o .kind) 1
 -- the operation writes item k
 abbrev pub writesItem : ℕ → Op → Bool
 writesItem k o = writes o && eqb (o .item) k
+
+-- some operation writes item k
+abbrev pub touches : ℕ → List Op → Bool
+touches k os = any (writesItem k) os
 
 -- the value that a read gives: that of the table before the commit
 abbrev pub readValue : List ℤ → List ℤ → Op → ℤ

@@ -8,7 +8,7 @@ use tuple_comparison::number_order;
 use tuple_comparison::then_by;
 ghost use mathlib.Core.Path.{_≡_};
 ghost use Rattle.timestamp.specs.Value.{stampOf};
-ghost use Rattle.timestamp_order.specs.Order.{numberOrder, tuplesOrder, order, byNumber};
+ghost use Rattle.timestamp_order.specs.Order.{numberOrder, tuplesOrder, order, isEarlier, byNumber};
 
 // The lower epoch is earlier; with equal epochs the tuples decide.
 pub fn compare(a: Timestamp, b: Timestamp) -> Order
@@ -19,6 +19,17 @@ pub fn compare(a: Timestamp, b: Timestamp) -> Order
     let by_epoch = compare_epochs(x, y);
     let by_tuples = tuples_order(a, b);
     then_by(by_epoch, by_tuples)
+}
+
+// Whether the first is earlier than the second.
+pub fn earlier(a: Timestamp, b: Timestamp) -> bool
+    ensures { λ r. ⌜ r ≡ isEarlier (order (stampOf a) (stampOf b)) ⌝ }
+{
+    match compare(a, b) {
+        Order::Earlier => true,
+        Order::Equal => false,
+        Order::Later => false,
+    }
 }
 
 // The lower epoch is earlier.

@@ -8,10 +8,11 @@ use Rattle.timestamp_words.specs.InWords.{stampIn}
 use Rattle.history_file.specs.Bytes.{unitSize, unit, joined}
 use Rattle.history_file.specs.File.{pairBytes}
 use Rattle.history_file.proofs.Written.{both-written, unit-length}
-use Rattle.history_record_bytes.specs.Asked.{recordAt}
 use borrow.Author.Needs.{needs}
 use Rattle.history_record_bytes.proofs.put_front.Statement.{statement}
 use Rattle.history_record_bytes.proofs.put_front.Tie as tie
+use Rattle.protocol.specs.Network.{nthRecord}
+use Rattle.network_layout.specs.InWords.{networkIn}
 
 stamp-at-requires : tie.Need-stamp-at-requires
 stamp-at-requires c κs = search needs
@@ -74,7 +75,7 @@ returns c =
     let lent = sited .before .stamp-at .ensures in
     let start = sited .before .before .before .before in
     let A = start .args in
-    let r = recordAt (A .state .now) (A .k) in
+    let r = nthRecord (networkIn (A .state .now)) (A .k) in
     let u = headed .put-unit .last .0 in
     let tuples-are = shorts .before .short .ensures ∙ start .pre .tuples in
     let ops-are = shorts .short2 .ensures ∙ start .pre .ops in

@@ -8,16 +8,18 @@ use Rattle.records.specs.Records.{Record}
 use Rattle.history_file.specs.Bytes.{unitSize, unit, joined}
 use Rattle.history_file.specs.File.{pairBytes}
 use Rattle.history_file.proofs.Written.{front-length, both-written, unit-length, pairs-size, record-size, record-parts}
-use Rattle.history_record_bytes.specs.Asked.{recordAt, frontBytes}
+use Rattle.history_record_bytes.specs.Asked.{frontBytes}
 use borrow.Author.Needs.{needs}
 use Rattle.history_record_bytes.proofs.put_record.Statement.{statement}
 use Rattle.history_record_bytes.proofs.put_record.Tie as tie
+use Rattle.protocol.specs.Network.{nthRecord}
+use Rattle.network_layout.specs.InWords.{networkIn}
 
 -- the bytes lent, and those of the front
 all-size : (c : tie.After-operation-count) → length (c .before .before .before .before .args .b .now) ≡ unitSize + unitSize * c .before .tuples .result + unitSize * c .operation-count .result
 all-size c =
     let start = c .before .before .before .before in
-    omega (arith, start .pre .sized, record-size (recordAt (start .args .state .now) (start .args .k)), c .before .tuples .ensures .0, c .operation-count .ensures .0)
+    omega (arith, start .pre .sized, record-size (nthRecord (networkIn (start .args .state .now)) (start .args .k)), c .before .tuples .ensures .0, c .operation-count .ensures .0)
 
 front-size : (r : Record) → length (frontBytes r) ≡ unitSize + unitSize * length (r .stamp .tuples)
 front-size r =
@@ -28,7 +30,7 @@ front-sized : (c : tie.After-put-front) → length (c .put-front .last .0) ≡ u
 front-sized c =
     let tupled = c .before .before .before in
     let start = tupled .before .before .before in
-    ap length (c .put-front .ensures) ∙ front-size (recordAt (start .args .state .now) (start .args .k)) ∙ ap (λ (k : ℕ). unitSize + unitSize * k) (sym (tupled .tuples .ensures .0))
+    ap length (c .put-front .ensures) ∙ front-size (nthRecord (networkIn (start .args .state .now)) (start .args .k)) ∙ ap (λ (k : ℕ). unitSize + unitSize * k) (sym (tupled .tuples .ensures .0))
 
 tuples-requires : tie.Need-tuples-requires
 tuples-requires c κs = search needs
@@ -87,7 +89,7 @@ returns c =
     let counted = put .before .before in
     let tupled = counted .before in
     let start = tupled .before .before .before in
-    let r = recordAt (start .args .state .now) (start .args .k) in
+    let r = nthRecord (networkIn (start .args .state .now)) (start .args .k) in
     both-written (start .args .b .now) (put .put-front .last .0) (unitSize + unitSize * tupled .tuples .result) (unitSize * counted .operation-count .result) (unitSize + unitSize * tupled .tuples .result - 0) (all-size counted) (front-sized put) (omega arith) (last .put-operations-of .last .0)
     ∙ (λ t. put .put-front .ensures t ++ last .put-operations-of .ensures t)
     ∙ record-parts r

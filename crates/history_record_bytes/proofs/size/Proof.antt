@@ -1,10 +1,11 @@
 -- `size` is eight bytes for the head, for each tuple and for each operation.
 use native.Mathlib.Omega.{arith}
 use Rattle.history_file.proofs.Written.{record-size}
-use Rattle.history_record_bytes.specs.Asked.{recordAt}
 use borrow.Author.Needs.{needs}
 use Rattle.history_record_bytes.proofs.size.Statement.{statement}
 use Rattle.history_record_bytes.proofs.size.Tie as tie
+use Rattle.protocol.specs.Network.{nthRecord}
+use Rattle.network_layout.specs.InWords.{networkIn}
 
 tuples-requires : tie.Need-tuples-requires
 tuples-requires c κs = search needs
@@ -29,7 +30,7 @@ returns c =
     let tuples = c .before .tuples in
     let ops = c .operation-count in
     let A = c .before .before .before .args in
-    (omega (arith, record-size (recordAt (A .state .now) (A .k)), tuples .ensures .0, ops .ensures .0), omega (arith, tuples .ensures .1, ops .ensures .1))
+    (omega (arith, record-size (nthRecord (networkIn (A .state .now)) (A .k)), tuples .ensures .0, ops .ensures .0), omega (arith, tuples .ensures .1, ops .ensures .1))
 
 pub size-spec : {M : Type 1} → statement M
 size-spec =

@@ -1,7 +1,6 @@
 -- `record_writes` reads the operations of a record and takes those that are wanted.
 use mathlib.Core.Path.{refl}
-use lib.ListN.{getD}
-use Rattle.protocol.specs.Network.{noRecord}
+use Rattle.protocol.specs.Network.{nthRecord}
 use Rattle.network_layout.specs.InWords.{networkIn}
 use Rattle.network_layout.specs.At.{HasRecord}
 use Rattle.network_layout.proofs.OnNetwork.{at-record}
@@ -37,7 +36,7 @@ returns c =
     let counted = read .before in
     let A = counted .before .before .args in
     let n = networkIn (A .state .now) in
-    laid-record (wantedAt (n .items) (A .j)) (getD (n .history) (A .k) noRecord .ops) (counted .operation-count .result) (read .record-ops .result) (counted .operation-count .ensures) (read .record-ops .ensures .ops-are) (c .wanted .result .count) (c .wanted .result .ops) (c .wanted .ensures)
+    laid-record (wantedAt (n .items) (A .j)) (nthRecord n (A .k) .ops) (counted .operation-count .result) (read .record-ops .result) (counted .operation-count .ensures) (read .record-ops .ensures .ops-are) (c .wanted .result .count) (c .wanted .result .ops) (c .wanted .ensures)
 
 pub record-writes-spec : {M : Type 1} → statement M
 record-writes-spec =

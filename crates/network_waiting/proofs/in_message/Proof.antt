@@ -3,11 +3,10 @@ use mathlib.Core.Path.{ap, _∙_}
 use Prim.Native.Nat.{ℕ}
 use native.Mathlib.Omega.{arith}
 use lib.ListN.{getD}
-use Rattle.lists.specs.Lists.{any}
-use Rattle.site_operations.specs.Operations.{writesItem}
+use Rattle.site_operations.specs.Operations.{touches}
 use Rattle.lines.specs.Lines.{Line}
 use Rattle.messages.specs.Messages.{commit, nameOf}
-use Rattle.protocol.specs.Network.{noRecord}
+use Rattle.protocol.specs.Network.{recordAt}
 use Rattle.network_layout.specs.InWords.{networkIn}
 use Rattle.network_layout.proofs.Performs.{records-count}
 use Rattle.network_waiting.specs.Collected.{onIt}
@@ -36,8 +35,8 @@ returns c =
 wide-requires : tie.Need-wide-requires
 wide-requires c κs = search needs
 
-record-writes-requires : tie.Need-record-writes-requires
-record-writes-requires c κs =
+record-touches-requires : tie.Need-record-touches-requires
+record-touches-requires c κs =
     let s = c .before .before .before .before .before .before in
     let w = s .args .state .now in
     let made = c .before .before .record-count .ensures in
@@ -54,8 +53,8 @@ returns-2 c =
     let w = s .args .state .now in
     let h = networkIn w .history in
     let named = read .name .ensures ∙ ap (λ (l : Line). nameOf (getD (l .messages) (s .args .i) (commit 0))) (read .before .line-at .ensures .meant) in
-    c .record-writes .ensures
-    ∙ ap (λ (k : ℕ). any (writesItem (s .args .item)) (getD h k noRecord .ops)) (c .before .wide .ensures)
+    c .record-touches .ensures
+    ∙ ap (λ (k : ℕ). touches (s .args .item) (recordAt h k .ops)) (c .before .wide .ensures)
     ∙ message-some (s .args .item) h (few-made w (s .pre .ranged)) (getD (onIt w (s .args .k)) (s .args .i) (commit 0)) (read .name .result) named (omega (arith, records-count w, c .before .before .before .record-count .ensures, c .before .before .if1 .left))
 
 pub in-message-spec : {M : Type 1} → statement M
@@ -67,5 +66,5 @@ in-message-spec =
     record-count-requires
     returns
     wide-requires
-    record-writes-requires
+    record-touches-requires
     returns-2)

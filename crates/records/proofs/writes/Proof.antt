@@ -3,9 +3,8 @@ use mathlib.Core.Path.{_≡_, refl, sym, ap, _∙_}
 use Prim.Native.Nat.{_≤_, _<_, _-_}
 use native.Mathlib.Omega.{arith}
 use lib.ListN.{length, drop}
-use Rattle.lists.specs.Lists.{any}
 use Rattle.lists.proofs.Some.{some-true, some-next, some-done}
-use Rattle.site_operations.specs.Operations.{writesItem, noOp}
+use Rattle.site_operations.specs.Operations.{writesItem, noOp, touches}
 use borrow.Author.Needs.{needs}
 use Rattle.records.specs.InWords.{recordIn}
 use Rattle.records.proofs.Laws.{op-at}
@@ -13,7 +12,7 @@ use Rattle.records.proofs.writes.Statement.{statement}
 use Rattle.records.proofs.writes.Tie as tie
 
 abbrev Inv-loop : tie.InvT-loop
-Inv-loop w item n i₀ i = (i ≤ n) × (any (writesItem item) (recordIn w .ops) ≡ any (writesItem item) (drop i (recordIn w .ops)))
+Inv-loop w item n i₀ i = (i ≤ n) × (touches item (recordIn w .ops) ≡ touches item (drop i (recordIn w .ops)))
 
 abbrev μ-loop : tie.MeasureT-loop
 μ-loop w item n i₀ i = n - i

@@ -2,8 +2,8 @@
 use mathlib.Core.Path.{sym, ap, _∙_}
 use Rattle.timestamp_order.specs.Order.{isEarlier}
 use borrow.Author.Needs.{needs}
-use Rattle.network_choice.proofs.earlier.Statement.{statement}
-use Rattle.network_choice.proofs.earlier.Tie as tie
+use Rattle.timestamp_comparison.proofs.earlier.Statement.{statement}
+use Rattle.timestamp_comparison.proofs.earlier.Tie as tie
 
 compare-requires : tie.Need-compare-requires
 compare-requires c κs = search needs
