@@ -8,12 +8,12 @@ static uint32_t state[GEVROLEN_WORDS];
 static uint8_t file[GEVROLEN_FILE_BYTES];
 static size_t length;
 
-static uint32_t commit_at(uint32_t site, uint32_t first, size_t count)
+static uint32_t commit_at(uint32_t kind, uint32_t site, uint32_t first, size_t count)
 {
     struct gevrolen_operation operations[GEVROLEN_OPERATIONS];
     struct gevrolen_committed answer;
     for (size_t k = 0; k < count; k++)
-        operations[k] = (struct gevrolen_operation){GEVROLEN_WRITE, first + 8 * (uint32_t)k, 1};
+        operations[k] = (struct gevrolen_operation){kind, first + 8 * (uint32_t)k, 1};
     return gevrolen_commit(state, site, operations, count, &answer);
 }
 
@@ -24,15 +24,16 @@ static uint64_t schedule_at(uint32_t site)
     return number ? number : answer.stamp.tuples[answer.stamp.length - 1].count;
 }
 
-/* Steps of three bytes: a letter as in a script, and two digits. `c` writes item b at site a, `w` all eight items of site a; the new epoch of `e` is the round's number.
-   Summed are every number and the own count of each timestamp that a schedule took. */
+/* Steps of three bytes: a letter as in a script, and two digits. `c` writes item b at site a, `w` all eight items of site a, `r` reads them; the new epoch of `e` is the
+   round's number. Summed are every number and the own count of each timestamp that a schedule took. */
 static uint64_t step(const char *text, uint32_t round)
 {
     uint32_t a = text[1] - '0', b = text[2] - '0';
     struct gevrolen_stamp stamp;
     switch (text[0]) {
-    case 'c': return commit_at(a, b, 1);
-    case 'w': return commit_at(a, a, GEVROLEN_OPERATIONS);
+    case 'c': return commit_at(GEVROLEN_WRITE, a, b, 1);
+    case 'w': return commit_at(GEVROLEN_WRITE, a, a, GEVROLEN_OPERATIONS);
+    case 'r': return commit_at(GEVROLEN_READ, a, a, GEVROLEN_OPERATIONS);
     case 'd': return gevrolen_dummy(state, a, &stamp);
     case 'e': return gevrolen_epoch(state, a, round);
     case 'l': return gevrolen_deliver(state, a, b);
@@ -62,8 +63,8 @@ static uint64_t almost_empty(void)
     return sum;
 }
 
-/* Item k has its primary at site k % 8 and a copy at every site above it; 256 records of eight operations, 16 messages on each of the 28 lines, one from each parent
-   arrived at site 7. */
+/* Item k has its primary at site k % 8 and a copy at every site above it; 256 records of eight operations, the last one's reads, 16 messages on each of the 28 lines, one
+   from each parent arrived at site 7. */
 static void fill(void)
 {
     uint32_t primaries[GEVROLEN_ITEMS];
@@ -74,7 +75,8 @@ static void fill(void)
     }
     gevrolen_set_up(state, GEVROLEN_SITES, GEVROLEN_ITEMS, primaries, GEVROLEN_ITEMS, masks, GEVROLEN_ITEMS);
     rounds("w00w10w20w30w40w50w60w70", 16);
-    rounds("w70", 128);
+    rounds("w70", 127);
+    rounds("r70", 1);
     rounds("l07l17l27l37l47l57l67", 1);
 }
 
@@ -94,6 +96,14 @@ static uint64_t waiting(void)
     for (uint32_t k = 0; k < report.count; k++)
         sum += report.items[k];
     return sum;
+}
+
+/* Of a read in the last record, whose item 143 others write. */
+static uint64_t origin(void)
+{
+    struct gevrolen_origin answer;
+    gevrolen_origin(state, 255, 0, &answer);
+    return answer.record;
 }
 
 static uint64_t checked(void)
@@ -141,6 +151,7 @@ static uint64_t once(char letter)
     case 'f': return full();
     case 'h': return gevrolen_deliver(state, 8, 8) == GEVROLEN_NO_SUCH_SITE;
     case 'w': return waiting();
+    case 'o': return origin();
     case 'x': gevrolen_export(state, file, sizeof file, &length); return length;
     case 'k': return checked();
     case 'r': return following();

@@ -51,6 +51,8 @@ def compare_names():
         expect("GEVROLEN_%s" % number.name, defined.get(number.name), number.value)
     for name in SIZES + ["READ", "WRITE"]:
         expect("%s of the module" % name, getattr(gevrolen, name), defined.get(name))
+    for kind, name in enumerate(gevrolen._ORIGINS[1:], 1):
+        expect("kind %s of the module" % name, kind, defined.get(name.upper()))
 
     refusals = re.findall(r'^    (\d+) (\w+) "(.*)"$', (ROOT / "bindings" / "rust" / "src" / "refusal.rs").read_text(), re.M)
     expected = [(str(n.value), camel(n.name), gevrolen.explain(n)) for n in gevrolen.Number if n]
@@ -71,6 +73,8 @@ def check_arguments():
         lambda: network.dummy(2**32),
         lambda: network.dummy(-1),
         lambda: network.epoch(0, 2**32),
+        lambda: network.origin(2**32, 0),
+        lambda: network.origin(0, -1),
         lambda: network.set_up(3, 2, [0, 2**32], [6, 4]),
         lambda: network.set_up(3, 2, [0, 1], [256, 4]),
         lambda: network.commit(0, [(1, 0, 2**31)]),
@@ -84,6 +88,7 @@ def check_arguments():
     wrong_type = [
         lambda: network.dummy("0"),
         lambda: network.dummy(0.0),
+        lambda: network.origin(0, None),
         lambda: network.set_up(3, 2, [0, "1"], [6, 4]),
         lambda: network.commit(0, [(1, 0, None)]),
         lambda: network.script("d 0"),

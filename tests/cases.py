@@ -9,6 +9,7 @@
 
     # ..                        a comment, answered as it is
     w SITE                      waiting report: the number, how many items, the items in rising order
+    t NUMBER OPERATION          origin of a read, by its record and operation: the number, the kind (1 start, 2 commit; 0 where refused), the commit's record number
     k PLACE WORD                a word of the state set by hand, answered as it is
     o SITE KIND                 commit by two records: a read of item 0, and an operation of that kind on item 1 with the value -1
     u SITE KINDS ITEMS VALUES   commit by separate lists of so many entries, writes of item 0
@@ -56,6 +57,10 @@ class Model:
         self.laid[place] = word
         self.engine.take(layout.load(self.laid))
 
+    def origin(self, k, a):
+        number, kind, record = self.engine.origin(k, a)
+        return number, ("", "start", "commit").index(kind), record
+
     def export(self, size):
         number, made = self.engine.export(size)
         return number, len(made), made + bytes([EE]) * (size - len(made))
@@ -98,7 +103,7 @@ class Calls:
         letter, text = line[:1].decode(), line[2:].decode()
         plain = {"#": lambda: line.decode(), "b": self.file.hex, "h": self.read, "a": self.sums, "f": self.check}
         named = {"=": lambda: self.put(b"", text), "+": lambda: self.put(self.file, text)}
-        numbered = {"w": self.waiting, "k": self.poke, "o": self.records, "u": self.lists, "x": self.export, "r": self.record, "@": self.record_from}
+        numbered = {"w": self.waiting, "t": self.origin, "k": self.poke, "o": self.records, "u": self.lists, "x": self.export, "r": self.record, "@": self.record_from}
         if letter in numbered:
             return numbered[letter](*[int(field) for field in text.split(" ")])
         return {**plain, **named}.get(letter, lambda: self.step(lambda: self.side.script(line).decode()))()
@@ -111,6 +116,9 @@ class Calls:
     def waiting(self, site):
         number, items = self.side.waiting(site)
         return joined([number, len(items)] + sorted(items))
+
+    def origin(self, k, a):
+        return joined(self.side.origin(k, a))
 
     def poke(self, place, word):
         self.side.poke(place, word)

@@ -12,7 +12,7 @@ from limits import HELD, ITEMS, OPERATIONS, RECORDS, SITES, U32
 
 # How often each call stands in a list. A run takes one of these by chance: what it does most decides which corners it reaches.
 BALANCED = dict(
-    commit=8, commit_lists=2, dummy=4, epoch=1, deliver=14, schedule=12, waiting=2, table=2, stamp=2, line=2,
+    commit=8, commit_lists=2, dummy=4, epoch=1, deliver=14, schedule=12, waiting=2, table=2, stamp=2, line=2, origin=2,
     export=1, script=4, run=1, poke=2, copy=1, set_up=1, state=0.2, noise=0.1, file=2, record_from=1, compare=2,
 )
 MOODS = [
@@ -24,6 +24,7 @@ MOODS = [
     dict(BALANCED, file=20, record_from=10),
     dict(BALANCED, script=20, run=5),
     dict(BALANCED, set_up=20),
+    dict(BALANCED, origin=20, state=3),
 ]
 
 EDGES = [0, 1, 2, 7, 8, 9, 15, 16, 17, 63, 64, 65, 255, 256, 257, 2**31 - 1, 2**31, U32 - 1, U32]
@@ -94,6 +95,17 @@ def faulty(rng, sites, items, primaries, masks):
 
 
 # ---- states that no set-up need lead to
+def history(rng, count, sites, items):
+    """So many records, whose timestamps need not rise, and of which some have that of another."""
+    made = []
+    for _ in range(count):
+        site, own, ops = record(rng, sites, items)
+        if made and rng.random() < 0.3:
+            site, own, _ = rng.choice(made)
+        made.append((site, own, ops))
+    return made
+
+
 def network(seed, records, held):
     """A network of at most so many records and messages on a line; well shaped, but for a flaw that some have."""
     rng = random.Random(seed)
@@ -101,7 +113,7 @@ def network(seed, records, held):
     engine = model.Engine()
     engine.set_up(sites, items, primaries, masks)
     n = engine.network
-    n.history = [record(rng, sites, items) for _ in range(records)]
+    n.history = history(rng, records, sites, items)
     n.stamps = [stamp(rng, i) for i in range(sites)]
     n.tables = [[value(rng) for _ in range(items)] for _ in range(sites)]
     made = [[k for k, one in enumerate(n.history) if one[0] == i] for i in range(sites)]
@@ -335,6 +347,11 @@ class Chooser:
 
     def line(self, engine):
         return ("line",) + self.pair(engine)
+
+    def origin(self, engine):
+        made = engine.network.history if engine.network else []
+        reads = [(k, a) for k, (_, _, ops) in enumerate(made) for a, (kind, _, _) in enumerate(ops) if kind == 0]
+        return ("origin",) + self.likely(reads, (below(self.rng, len(made), 0.3), self.rng.choice([*range(10), U32])))
 
     def export(self, engine):
         length = len(engine.export(10**6)[1])

@@ -5,8 +5,9 @@
     differential.py play FILE           the calls of a file, one to a line as a failure prints them
 
 Compared are: every field of every answer; every byte of the struct or buffer that was lent for it, unused places too; after a call that was refused or only looks, every
-word of the state; after the others, what the words mean. The first difference is printed with its seed and a list of calls that is as short as could be found; the exit
-status is then 1. The module is taken from target/gevrolen, where bindings/build puts it, or from GEVROLEN_FOLDER.
+word of the state; after the others, what the words mean. Where calls alone led from a set-up to the state, an origin must also have the value read. The first
+difference is printed with its seed and a list of calls that is as short as could be found; the exit status is then 1. The module is taken from target/gevrolen, where
+bindings/build puts it, or from GEVROLEN_FOLDER.
 """
 import array
 import ast
@@ -28,7 +29,7 @@ sys.path.insert(0, os.environ.get("GEVROLEN_FOLDER", str(ROOT / "target" / "gevr
 import gevrolen  # noqa: E402
 
 SHRINKING = 30  # seconds
-LOOKS = {"waiting", "table", "stamp", "line", "export", "read", "record", "records", "record_from", "compare"}
+LOOKS = {"waiting", "table", "stamp", "line", "origin", "export", "read", "record", "records", "record_from", "compare"}
 POISON = 0xEE
 GUARD = bytes([POISON]) * 64
 
@@ -54,7 +55,7 @@ def poisoned_buffer(size):
     return Lent.buffer
 
 
-for answer in ["_Stamp", "_Committed", "_Scheduled", "_Report", "_Table", "_Line", "_File", "_Record"]:
+for answer in ["_Stamp", "_Committed", "_Scheduled", "_Report", "_Table", "_Line", "_Origin", "_File", "_Record"]:
     setattr(gevrolen, answer, poisoned(getattr(gevrolen, answer)))
 gevrolen._buffer = poisoned_buffer
 gevrolen._ANSWERS = 1000  # a run of some lines takes several calls then
@@ -77,6 +78,7 @@ STRUCTS = {
     "table": lambda number, values: [len(values)] + padded(values, layout.ITEMS),
     "stamp": lambda number, stamp: stamp_words(stamp),
     "line": lambda number, held, arrived: [held, arrived],
+    "origin": lambda number, kind, record: [("", "start", "commit").index(kind), record],
     "read": lambda number, *fields: [half for n in fields for half in (n, n >> 32)],
     "record": lambda number, site, stamp, ops: [site, len(ops)] + stamp_words(stamp) + padded([n for o in ops for n in o], 3 * layout.OPERATIONS),
 }
@@ -85,6 +87,26 @@ STRUCTS["commit_lists"] = STRUCTS["commit"]
 
 def struct_bytes(name, fields):
     return array.array("I", [n % 2**32 for n in STRUCTS[name](*fields)]).tobytes()
+
+
+# ---- what origins have to show: a plainer rule would answer otherwise
+def shown(n, k, a, named):
+    """How the commit named, or None, stands to operation a of record k, a read, and to the writers of its item."""
+    _, item, read = n.history[k][2][a]
+    wrote = [dict(n.writes(i)).get(item) for i in range(len(n.history))]
+    stamps = [stamp for _, stamp, _ in n.history]
+    writers = [i for i, value in enumerate(wrote) if value is not None]
+    return {
+        "the start value": named is None,
+        "one made after the reader": named is not None and named > k,
+        "not the last made before the reader": named != max((i for i in writers if i < k), default=None),
+        "the last made of equal timestamps": named is not None and any(i < named and stamps[i] == stamps[named] for i in writers),
+        "one made before the reader with its timestamp": named is not None and stamps[named] == stamps[k],
+        "not one made after the reader with its timestamp": any(i > k and stamps[i] == stamps[k] for i in writers),
+        "not the reader, which writes the item": k in writers,
+        "a 0 that was written": named is not None and read == 0,
+        "another value than was read": named is not None and wrote[named] != read,
+    }
 
 
 # ---- one state in the library and in the model
@@ -106,6 +128,8 @@ class Pair:
         self.network = gevrolen.Network()
         self.engine = model.Engine()
         self.seen = collections.Counter()  # how many calls of each name had each number
+        self.shown = collections.Counter()  # how many origins showed what
+        self.reached = False  # whether calls alone led here from a set-up
 
     def words(self):
         return array.array("I", bytes(self.network))
@@ -118,11 +142,13 @@ class Pair:
         """Makes a call on both and compares; the meaning of the words after an accepted step only where that is asked for."""
         name, arguments = call[0], call[1:]
         if name in ("poke", "state", "noise", "copy"):
+            self.reached = self.reached and name == "copy"
             return self.load(getattr(self, name)(*arguments))
         before = bytes(self.network)
         answer, expected = getattr(self, name, self.plain)(name, *arguments)
         number = expected[0] if isinstance(expected, tuple) else 0
         self.seen[name, number] += 1
+        self.reached = self.reached or name == "set_up" and number == 0
         expect("answer", answer, expected)
         if name in STRUCTS:
             expect("struct", bytes(Lent.struct), struct_bytes(name, answer))
@@ -166,6 +192,20 @@ class Pair:
             # the order is left open
             expected = (expected[0], answer[1])
         return answer, expected
+
+    def origin(self, name, k, a):
+        answer, expected = self.plain(name, k, a)
+        if answer == expected and answer[0] == 0:
+            self.trace(k, a, answer[2] if answer[1] == "commit" else None)
+        return answer, expected
+
+    def trace(self, k, a, named):
+        """Notes what an origin shows. From a set-up on, the last write of the item in the commit named has the value read, and a start value read is 0."""
+        n = self.engine.network
+        _, item, read = n.history[k][2][a]
+        self.shown.update(shown(n, k, a, named))
+        if self.reached:
+            expect("value of the origin", 0 if named is None else dict(n.writes(named))[item], read)
 
     def export(self, name, room):
         answer, expected = self.plain(name, room)
@@ -313,7 +353,7 @@ def run(seed, pair, journal):
 def runs(seconds, seed, path):
     """Runs until the time is up. What differs is told in words, else nothing; the last run's seed and calls stand in the file."""
     until = time.monotonic() + seconds
-    seen, first = collections.Counter(), seed
+    seen, origins, first = collections.Counter(), collections.Counter(), seed
     while time.monotonic() < until:
         pair = Pair()
         with open(path, "w") as journal:
@@ -323,11 +363,15 @@ def runs(seconds, seed, path):
             except Difference as difference:
                 return str(difference)
         seen += pair.seen
+        origins.update(pair.shown)
         seed += 1
     print("%d calls in %d runs: the library and the model agree" % (sum(seen.values()), seed - first), flush=True)
-    missing = set(range(26)) - {number for _, number in seen}
+    missing = sorted(set(range(27)) - {number for _, number in seen})
     if missing and seconds >= 30:
-        return "no call answered %s: the runs do not reach what they should" % sorted(missing)
+        return "no call answered %s: the runs do not reach what they should" % missing
+    unseen = [what for what, times in origins.items() if not times] if origins else ["an origin"]
+    if unseen and seconds >= 30:
+        return "no origin showed %s: the runs do not reach what they should" % unseen
     return None
 
 

@@ -29,6 +29,11 @@ class Library:
     def poke(self, place, word):
         self.network._words[place] = word
 
+    def origin(self, k, a):
+        answer = gevrolen._Origin(EE, EE)
+        number = gevrolen._library.origin(self.network._words, k, a, ctypes.byref(answer))
+        return number, answer.kind, answer.record
+
     def export(self, size):
         buffer, length = (ctypes.c_char * size).from_buffer(bytearray([EE]) * size) if size else ctypes.create_string_buffer(1), ctypes.c_size_t(EE)
         number = gevrolen._library.export(self.network._words, buffer, size, ctypes.byref(length))

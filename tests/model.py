@@ -278,6 +278,17 @@ class Engine:
         refuse(17, (p, c) not in n.lines)
         return len(n.held[p, c]), n.arrived[p, c]
 
+    @call("", 0)
+    def origin(self, k, a):
+        """Where the value of operation a of record k came from: "commit" and its record number, or "start" and 0."""
+        n = self.shaped()
+        refuse(26, k >= len(n.history) or a >= len(n.history[k][2]) or n.history[k][2][a][0] != 0)
+        item = n.history[k][2][a][1]
+        # sorting leaves equal timestamps in the order made
+        rising = sorted(range(len(n.history)), key=functools.cmp_to_key(lambda i, j: order(n.history[i][1], n.history[j][1])))
+        writers = [i for i in rising[: rising.index(k)] if item in dict(n.writes(i))]
+        return ("commit", writers[-1]) if writers else ("start", 0)
+
     @call(b"")
     def export(self, room):
         """The file, for a buffer of so many bytes."""

@@ -44,6 +44,11 @@ extern "C" {
 #define GEVROLEN_READ 0
 #define GEVROLEN_WRITE 1
 
+/* ---- kinds of origins; 0, as where a call is refused, is neither */
+
+#define GEVROLEN_START 1  /* the start value, which is 0 */
+#define GEVROLEN_COMMIT 2 /* a commit's write */
+
 /* ---- numbers, and what to do about each; gevrolen_explain gives the same in words */
 
 #define GEVROLEN_ACCEPTED 0            /* it was done */
@@ -72,6 +77,7 @@ extern "C" {
 #define GEVROLEN_INVALID_FILE 23       /* the part is no valid file: it is damaged, take another copy */
 #define GEVROLEN_NO_SUCH_RECORD 24     /* the file has no record of that number: the records are at their end */
 #define GEVROLEN_BUFFER_TOO_SHORT 25   /* the file does not fit the buffer: lend one of GEVROLEN_FILE_BYTES */
+#define GEVROLEN_NO_SUCH_READ 26       /* no such commit or operation in the history, or the operation is no read: correct the numbers */
 
 /* ---- what calls take and answer */
 
@@ -124,6 +130,12 @@ struct gevrolen_table {
 struct gevrolen_line {
     uint32_t held;
     uint32_t arrived;
+};
+
+/* Where the value of a read came from: the kind of origin, and the record number of the commit, 0 where it is the start value. */
+struct gevrolen_origin {
+    uint32_t kind;
+    uint32_t record;
 };
 
 /* A history file: where its records stand in the buffer, how many bytes they take, and how many records, sites and items it has. */
@@ -202,6 +214,10 @@ uint32_t gevrolen_stamp(const uint32_t state[GEVROLEN_WORDS], uint32_t site, str
 /* The line from parent to child. 6, 7, 17. */
 uint32_t gevrolen_line(const uint32_t state[GEVROLEN_WORDS], uint32_t parent, uint32_t child, struct gevrolen_line *answer);
 
+/* Where the value of a read in the history came from: the last commit before the reader in timestamp order that writes the item, equal timestamps in the order made; the
+   start value where there is none. The read is named by its commit's record number and the number of the operation in it, both from 0. 6, 26. */
+uint32_t gevrolen_origin(const uint32_t state[GEVROLEN_WORDS], uint32_t record, uint32_t operation, struct gevrolen_origin *answer);
+
 /* Two timestamps: -1 where the first is earlier, 0 where they are equal, 1 where it is later. */
 int32_t gevrolen_compare(const struct gevrolen_stamp *first, const struct gevrolen_stamp *second);
 
@@ -271,6 +287,7 @@ static inline const char *gevrolen_explain(uint32_t number)
         "The part is no valid file: it is damaged, take another copy.",
         "There is no such record: the file has fewer.",
         "The buffer is too short for the file: lend a longer one.",
+        "There is no such commit or operation in the history, or it is no read: correct the numbers.",
     };
     return number < sizeof sentences / sizeof sentences[0] ? sentences[number] : NULL;
 }

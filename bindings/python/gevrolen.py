@@ -39,6 +39,7 @@ FILE_BYTES = 34832  # the longest history file
 READ, WRITE = 0, 1
 
 _ANSWER, _ANSWERS = 512, 65536  # the bytes lent for a line's answer, and for those of many lines
+_ORIGINS = ("", "start", "commit")  # the kinds of origins by their numbers
 
 _CAUSES = [
     ("ACCEPTED", "It was accepted."),
@@ -67,6 +68,7 @@ _CAUSES = [
     ("INVALID_FILE", "The part is no valid file: it is damaged, take another copy."),
     ("NO_SUCH_RECORD", "There is no such record: the file has fewer."),
     ("BUFFER_TOO_SHORT", "The buffer is too short for the file: lend a longer one."),
+    ("NO_SUCH_READ", "There is no such commit or operation in the history, or it is no read: correct the numbers."),
 ]
 
 Number = enum.IntEnum("Number", [(name, k) for k, (name, _) in enumerate(_CAUSES)])
@@ -96,6 +98,7 @@ Report = namedtuple("Report", "number items")
 Table = namedtuple("Table", "number values")
 Stamped = namedtuple("Stamped", "number stamp")
 Line = namedtuple("Line", "number held arrived")
+Origin = namedtuple("Origin", "number kind record")
 Exported = namedtuple("Exported", "number data")
 File = namedtuple("File", "number start length records sites items")
 Record = namedtuple("Record", "number site stamp operations")
@@ -134,6 +137,10 @@ class _Line(ctypes.Structure):
     _fields_ = [("held", ctypes.c_uint32), ("arrived", ctypes.c_uint32)]
 
 
+class _Origin(ctypes.Structure):
+    _fields_ = [("kind", ctypes.c_uint32), ("record", ctypes.c_uint32)]
+
+
 class _File(ctypes.Structure):
     _fields_ = [(name, ctypes.c_size_t) for name in ("start", "length", "records", "sites", "items")]
 
@@ -166,6 +173,7 @@ _FUNCTIONS = {
     "table": (_U32, [_POINTER, _U32, _POINTER]),
     "stamp": (_U32, [_POINTER, _U32, _POINTER]),
     "line": (_U32, [_POINTER, _U32, _U32, _POINTER]),
+    "origin": (_U32, [_POINTER, _U32, _U32, _POINTER]),
     "compare": (ctypes.c_int32, [_POINTER, _POINTER]),
     "export": (_U32, [_POINTER] + _LIST + [_POINTER]),
     "read": (_U32, _LIST + [_POINTER]),
@@ -333,6 +341,14 @@ class Network:
         answer = _Line()
         number = _library.line(self._words, _word(parent), _word(child), _byref(answer))
         return Line(number, answer.held, answer.arrived)
+
+    def origin(self, record, operation):
+        """Where the value of a read in the history came from, by its commit's record number and the number of the operation in it, both from 0: 'commit' and the record
+        number of the last commit before the reader in timestamp order that writes the item, equal timestamps in the order made; 'start' and 0 where there is none. 6, 26.
+        """
+        answer = _Origin()
+        number = _library.origin(self._words, _word(record), _word(operation), _byref(answer))
+        return Origin(number, _ORIGINS[answer.kind], answer.record)
 
     def export(self, room=None):
         """The history as a file; a buffer of `room` bytes is lent for it, or one that is long enough. 6, 25."""

@@ -11,13 +11,19 @@ fn number<T>(answer: Answer<T>) -> u64 {
     answer.err().map_or(0, |cause: Cause| cause as u64)
 }
 
-/// Steps of three bytes: a letter as in a script, and two digits. `c` writes item b at site a, `w` all eight items of site a; the new epoch of `e`
-/// is the round's number. What they answer is summed: every number, and the own count of each timestamp that a schedule took.
+/// An operation of a kind on each item of site a.
+fn eight(kind: u8, a: u32) -> [Op; 8] {
+    std::array::from_fn(|k| Op { kind, item: a % 8 + 8 * k as u32, value: 1 })
+}
+
+/// Steps of three bytes: a letter as in a script, and two digits. `c` writes item b at site a, `w` all eight items of site a, `r` reads them; the
+/// new epoch of `e` is the round's number. What they answer is summed: every number, and the own count of each timestamp that a schedule took.
 fn step(state: &mut Network, step: &[u8], r: u32) -> u64 {
     let (a, b) = (step[1] as u32 % 16, step[2] as u32 % 16);
     match step[0] {
         b'c' => number(state.commit(a, &[Op { kind: 1, item: b, value: 1 }])),
-        b'w' => number(state.commit(a, &std::array::from_fn::<Op, 8, _>(|k| Op { kind: 1, item: a % 8 + 8 * k as u32, value: 1 }))),
+        b'w' => number(state.commit(a, &eight(1, a))),
+        b'r' => number(state.commit(a, &eight(0, a))),
         b'd' => number(state.dummy(a)),
         b'e' => number(state.epoch(a, r)),
         b'l' => number(state.deliver(a, b)),
@@ -42,14 +48,15 @@ fn almost_empty(state: &mut Network) -> u64 {
         .sum()
 }
 
-/// Item k has its primary at site k % 8 and a copy at every site above it; 256 records of eight writes; each line holds 16; from each
-/// of its parents one message has arrived at site 7.
+/// Item k has its primary at site k % 8 and a copy at every site above it; 256 records of eight writes, the last of eight reads; each line
+/// holds 16; from each of its parents one message has arrived at site 7.
 fn fill(state: &mut Network) {
     let primaries: [u32; ITEMS] = std::array::from_fn(|k| k as u32 % 8);
     let masks: [u8; ITEMS] = std::array::from_fn(|k| [254, 252, 248, 240, 224, 192, 128, 0][k % 8]);
     let _ = state.set_up(8, 64, &primaries, &masks);
     rounds(state, b"w00w10w20w30w40w50w60w70", 16);
-    rounds(state, b"w70", 128);
+    rounds(state, b"w70", 127);
+    rounds(state, b"r70", 1);
     rounds(state, b"l07l17l27l37l47l57l67", 1);
 }
 
@@ -72,6 +79,7 @@ fn once(letter: &str, state: &mut Network, buffer: &mut [u8]) -> u64 {
         "f" => full(state),
         "h" => black_box(&*state).well_shaped() as u64,
         "w" => bits(black_box(&*state).waiting(7).unwrap_or(0)).map(|item| item as u64).sum(),
+        "o" => black_box(&*state).origin(255, 0).ok().flatten().unwrap_or(0) as u64,
         "x" => black_box(&*state).export(buffer).unwrap_or(0) as u64,
         "k" => file::read(black_box(&*buffer)).map_or(0, |f| f.records as u64),
         "r" => file::read(black_box(&*buffer)).map_or(0, |f| f.records().map(|r| digest(black_box(&r))).sum()),

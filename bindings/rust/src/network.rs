@@ -1,7 +1,7 @@
 //! A network that owns its state, and every call on it.
 use crate::raw;
 use crate::refusal::answered;
-use crate::{Committed, Line, Operation, Refusal, Scheduled, Stamp};
+use crate::{Committed, Line, Operation, Origin, Refusal, Scheduled, Stamp};
 use crate::{ANSWERS, FILE_BYTES, ITEMS, SITES, WORDS};
 use std::fmt;
 
@@ -140,6 +140,27 @@ impl Network {
         let mut answer = raw::Line::default();
         let number = unsafe { raw::gevrolen_line(&*self.words, parent, child, &mut answer) };
         answered(number, || Line { held: answer.held, arrived: answer.arrived })
+    }
+
+    /// Where the value of a read in the history came from: the last commit before the reader in timestamp order that writes the item, equal timestamps in the order
+    /// made; the start value where there is none. The read is named by its commit's record number and the number of the operation in it, both from 0. 6, 26.
+    ///
+    /// ```
+    /// # use gevrolen::{Network, Operation, Origin};
+    /// # fn main() -> Result<(), gevrolen::Refusal> {
+    /// let mut network = Network::new();
+    /// network.set_up(1, 2, &[0, 0], &[0, 0])?;
+    /// network.commit(0, &[Operation::write(0, 5)])?;
+    /// network.commit(0, &[Operation::read(0), Operation::read(1)])?;
+    /// assert_eq!(network.origin(1, 0)?, Origin::Commit(0));
+    /// assert_eq!(network.origin(1, 1)?, Origin::Start);
+    /// # Ok(())
+    /// # }
+    /// ```
+    pub fn origin(&self, record: u32, operation: u32) -> Result<Origin, Refusal> {
+        let mut answer = raw::Origin::default();
+        let number = unsafe { raw::gevrolen_origin(&*self.words, record, operation, &mut answer) };
+        answered(number, || Origin::of(&answer))
     }
 
     /// The history as a file. 6.

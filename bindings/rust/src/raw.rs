@@ -60,6 +60,13 @@ pub struct Line {
 
 #[repr(C)]
 #[derive(Default)]
+pub struct Origin {
+    pub kind: u32,
+    pub record: u32,
+}
+
+#[repr(C)]
+#[derive(Default)]
 pub struct File {
     pub start: usize,
     pub length: usize,
@@ -110,6 +117,7 @@ extern "C" {
     pub fn gevrolen_table(state: *const State, site: u32, answer: *mut Table) -> u32;
     pub fn gevrolen_stamp(state: *const State, site: u32, answer: *mut Stamp) -> u32;
     pub fn gevrolen_line(state: *const State, parent: u32, child: u32, answer: *mut Line) -> u32;
+    pub fn gevrolen_origin(state: *const State, record: u32, operation: u32, answer: *mut Origin) -> u32;
     pub fn gevrolen_compare(first: *const Stamp, second: *const Stamp) -> i32;
     pub fn gevrolen_export(state: *const State, buffer: *mut u8, room: usize, length: *mut usize) -> u32;
     pub fn gevrolen_read(buffer: *const u8, length: usize, answer: *mut File) -> u32;

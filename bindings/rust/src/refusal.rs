@@ -66,6 +66,7 @@ refusals! {
     23 InvalidFile "The part is no valid file: it is damaged, take another copy."
     24 NoSuchRecord "There is no such record: the file has fewer."
     25 BufferTooShort "The buffer is too short for the file: lend a longer one."
+    26 NoSuchRead "There is no such commit or operation in the history, or it is no read: correct the numbers."
 }
 
 impl Refusal {

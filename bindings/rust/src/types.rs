@@ -173,6 +173,25 @@ pub struct Line {
     pub arrived: u32,
 }
 
+/// Where the value of a read came from.
+#[derive(Clone, Copy, Debug, PartialEq, Eq, Hash)]
+#[non_exhaustive]
+pub enum Origin {
+    /// No commit before the reader writes the item: it is the start value.
+    Start,
+    /// The commit of this record number is the last before the reader that writes the item.
+    Commit(u32),
+}
+
+impl Origin {
+    pub(crate) fn of(raw: &raw::Origin) -> Origin {
+        match raw.kind {
+            1 => Origin::Start,
+            _ => Origin::Commit(raw.record),
+        }
+    }
+}
+
 /// A record of a history. It displays as a line: site, epoch, tuples, operations, a read with the value that it gave.
 #[derive(Clone, Debug, PartialEq, Eq)]
 pub struct Record {

@@ -1,5 +1,5 @@
 //! Every call once accepted, and refused where it can be; what the words are then.
-use gevrolen::{compare, read, record, records, Kind, Line, Network, Operation, Record, Refusal, Stamp, WORDS};
+use gevrolen::{compare, read, record, records, Kind, Line, Network, Operation, Origin, Record, Refusal, Stamp, WORDS};
 use std::cmp::Ordering;
 
 fn stamp(tuples: &[(u32, u32)]) -> Stamp {
@@ -33,6 +33,11 @@ fn the_worked_example() {
     assert_eq!(network.stamp(2).unwrap(), stamp(&[(0, 1), (2, 1)]));
     assert_eq!(network.line(1, 2).unwrap(), Line { held: 1, arrived: 1 });
     assert_eq!(network.waiting(2).unwrap(), [1]);
+    // site 2 read item 1 at a timestamp before that of site 1's commit, which was made before
+    assert_eq!([(1, 0), (2, 0), (2, 1)].map(|(k, a)| network.origin(k, a)), [Ok(Origin::Commit(0)), Ok(Origin::Commit(0)), Ok(Origin::Start)]);
+    for (k, a) in [(0, 0), (1, 1), (1, 2), (1, u32::MAX), (3, 0), (u32::MAX, 0)] {
+        assert_eq!(network.origin(k, a), Err(Refusal::NoSuchRead));
+    }
 
     let file = network.export().unwrap();
     let lines: Vec<String> = records(&file).unwrap().map(|record| record.to_string()).collect();
@@ -65,6 +70,7 @@ fn refusals_leave_the_words() {
         (network.table(3).unwrap_err(), 7),
         (network.stamp(3).unwrap_err(), 7),
         (network.waiting(3).unwrap_err(), 7),
+        (network.origin(0, 0).unwrap_err(), 26),
         (network.export_to(&mut [0; 15]).unwrap_err(), 25),
     ];
     for (refusal, number) in refusals {
@@ -73,7 +79,7 @@ fn refusals_leave_the_words() {
     }
     assert_eq!(network.as_words(), before.as_words());
     assert_eq!(Refusal::from_number(0), None);
-    assert_eq!(Refusal::from_number(26), None);
+    assert_eq!(Refusal::from_number(27), None);
 }
 
 #[test]
@@ -101,6 +107,7 @@ fn saved_and_loaded() {
     assert_eq!(network.stamp(0).unwrap().epoch(), 0);
     words[0] = 9;
     assert_eq!(Network::from_words(&words).table(0), Err(Refusal::NoState));
+    assert_eq!(Network::from_words(&words).origin(0, 0), Err(Refusal::NoState));
     assert_eq!(Network::from_words(&[u32::MAX; WORDS]).export(), Err(Refusal::NoState));
 }
 

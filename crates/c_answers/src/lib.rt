@@ -1,6 +1,7 @@
 // The network's answers laid into words, as C lends them: one function for each struct of the header, those of a few fields from c_fields.
 pub use c_fields::few;
 pub use c_fields::put_line;
+pub use c_fields::put_origin;
 pub use c_fields::put_scheduled;
 pub use c_fields::put_stamp;
 use network_layout::Committed;

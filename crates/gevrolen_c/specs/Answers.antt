@@ -11,9 +11,11 @@ use Rattle.timestamp_words.specs.InWords.{stampWords}
 use Rattle.protocol.specs.Calls.{Call, Outcome, perform}
 use Rattle.network_layout.specs.InWords.{meaning}
 use Rattle.network_readers.specs.Readers.{tableAnswer, heldAnswer, arrivedAnswer}
+use Rattle.network_origin.specs.Answer.{originIn}
 use Rattle.script_notation.specs.Fields.{position}
 use Rattle.console_notation.specs.Lines.{newline, used}
 use Rattle.console_lines.specs.Promises.{Walked}
+use Rattle.c_fields.specs.Fields.{originWords}
 use Rattle.c_answers.specs.Answers.{listed, valueWords}
 use Rattle.history_file.specs.File.{trailerSize}
 use Rattle.history_file.specs.Reading.{fileNumber, historyRead}
@@ -42,6 +44,9 @@ tableWords site w = listed itemsMost (valueWords (tableAnswer site w))
 
 abbrev pub lineWords : ℕ → ℕ → List ℕ → List ℕ
 lineWords parent child w = heldAnswer parent child w ∷ (arrivedAnswer parent child w ∷ [])
+
+abbrev pub originLaid : ℕ → ℕ → List ℕ → List ℕ
+originLaid reader operation w = originWords (originIn (meaning w) reader operation)
 
 -- ---- the history file
 -- where its part starts in the buffer: before the trailer, as far as it is long

@@ -7,7 +7,7 @@ ghost use lib.ListN.{getD, drop};
 ghost use Rattle.timestamp_words.specs.InWords.{stampIn, stampWords};
 ghost use Rattle.timestamp_order.specs.Order.{order};
 ghost use Rattle.protocol.specs.Network.{noStamp};
-ghost use Rattle.protocol.specs.Questions.{table as tableOf, stamp as stampOf, line as lineOf};
+ghost use Rattle.protocol.specs.Questions.{table as tableOf, stamp as stampOf, line as lineOf, origin};
 ghost use Rattle.protocol.specs.Calls.{setUp, commit, dummy, epoch, deliver, schedule, ask};
 ghost use Rattle.network_layout.specs.InWords.{meaning};
 ghost use Rattle.network_layout.specs.Promises.{Performed, Reported};
@@ -19,7 +19,7 @@ ghost use Rattle.script_notation.specs.Answers.{Replied};
 ghost use Rattle.c_answers.specs.Answers.{orderNumber};
 ghost use Rattle.c_files.specs.Laid.{RecordLaid};
 ghost use Rattle.c_operations.specs.Operations.{operationOf};
-ghost use Rattle.gevrolen_c.specs.Answers.{committedWords, dummiedWords, scheduledWords, Answered, tableWords, lineWords, FileRead, LinesRun};
+ghost use Rattle.gevrolen_c.specs.Answers.{committedWords, dummiedWords, scheduledWords, Answered, tableWords, lineWords, originLaid, FileRead, LinesRun};
 
 // The words of the header's structs.
 const STAMP: usize = timestamp_words::WORDS;
@@ -151,6 +151,18 @@ pub extern "C" fn gevrolen_line(
     ensures { λ r. ⌜ Performed (ask (lineOf parent child)) (now (state .entry)) (now (state .entry)) r 0 noStamp [] × (now (answer .exit) ≡ lineWords parent child (now (state .entry))) ⌝ }
 {
     c_answers::put_line(answer, network::line(state, parent, child))
+}
+
+#[no_mangle]
+pub extern "C" fn gevrolen_origin(
+    state: &[u32; WORDS],
+    reader: u32,
+    operation: u32,
+    answer: &mut [u32; 2],
+) -> u32
+    ensures { λ r. ⌜ Performed (ask (origin reader operation)) (now (state .entry)) (now (state .entry)) r 0 noStamp [] × (now (answer .exit) ≡ originLaid reader operation (now (state .entry))) ⌝ }
+{
+    c_answers::put_origin(answer, network::origin(state, reader, operation))
 }
 
 // -1, 0 or 1, where the first timestamp is earlier, the same or later.

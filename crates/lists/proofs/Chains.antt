@@ -26,6 +26,10 @@ module _ {A : Type 0} where
   each-implied P Q f [] h = tt
   each-implied P Q f (x ∷ xs) h = (f x (h .0), each-implied P Q f xs (h .1))
 
+  pub chain-implied : (R S : A → A → Type 0) → ((x y : A) → R x y → S x y) → (xs : List A) → Chain R xs → Chain S xs
+  chain-implied R S f [] h = tt
+  chain-implied R S f (x ∷ xs) h = (each-implied (R x) (S x) (f x) xs (h .0), chain-implied R S f xs (h .1))
+
   -- ---- of those that pass a test
   module _ (p : A → Bool) where
     pub each-keep : (P : A → Type 0) (xs : List A) → Each (λ x. p x ≡ true → P x) xs → Each P (keep p xs)

@@ -4,5 +4,6 @@ pub mod Every
 pub mod Some
 pub mod Numbers
 pub mod Chains
+pub mod Last
 pub mod Sorting
 pub mod Matched

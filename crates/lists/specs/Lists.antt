@@ -2,6 +2,7 @@
 use mathlib.Core.Path.{_≡_}
 use mathlib.Core.Bool.{Bool, true, false, cond, _&&_, _||_}
 use mathlib.Core.List.{List, [], _∷_}
+use mathlib.Core.Option.{Option, none, some}
 use Prim.Native.Nat.{ℕ, zero, suc, _-_, _≤_}
 use lib.ListN.{length, getD, drop, replicate}
 
@@ -33,6 +34,21 @@ someBelow f (suc k) = f k || someBelow f k
 abbrev pub keep : {A : Type 0} → (A → Bool) → List A → List A
 keep p [] = []
 keep p (x ∷ xs) = cond (p x) (x ∷ keep p xs) (keep p xs)
+
+-- the elements before the first that passes the test
+abbrev pub beforeFirst : {A : Type 0} → (A → Bool) → List A → List A
+beforeFirst p [] = []
+beforeFirst p (x ∷ xs) = cond (p x) [] (x ∷ beforeFirst p xs)
+
+-- the first where there is one, else the second
+abbrev pub orElse : {A : Type 0} → Option A → Option A → Option A
+orElse none other = other
+orElse (some x) other = some x
+
+-- the last element that passes the test, where there is one
+abbrev pub lastOf : {A : Type 0} → (A → Bool) → List A → Option A
+lastOf p [] = none
+lastOf p (x ∷ xs) = orElse (lastOf p xs) (cond (p x) (some x) none)
 
 -- n numbers from k on
 abbrev pub upTo : ℕ → ℕ → List ℕ

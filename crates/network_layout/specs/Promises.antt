@@ -15,6 +15,8 @@ use Rattle.protocol.specs.Waiting.{EachOnce}
 use Rattle.network_layout.specs.declared.Committed.{Committed}
 use Rattle.network_layout.specs.declared.Dummied.{Dummied}
 use Rattle.network_layout.specs.declared.Scheduled.{Scheduled}
+use Rattle.network_layout.specs.declared.Origin.{Origin}
+use Rattle.network_layout.specs.declared.Origin.the-variants.{Refused, Start, Commit}
 use Rattle.network_layout.specs.InWords.{networkIn, meaning}
 
 pub record Performed (call : Call) (entry exit : List ℕ) (number parent : ℕ) (stamp : Stamp) (values : List ℤ) : Type 0 where
@@ -47,3 +49,9 @@ pub record Reported (site : ℕ) (entry : List ℕ) (number count : ℕ) (items 
   pub each-once : number ≡ 0 → EachOnce (networkIn entry) site (take count items)
   pub none-refused : (number ≡ 0 → ⊥) → count ≡ 0
   pub filled : Filled 0 itemsMost count items
+
+-- the number that the answer about an origin has: 0 where it is not refused
+abbrev pub originNumber : Origin → ℕ
+originNumber (Refused number) = number
+originNumber Start = 0
+originNumber (Commit k) = 0

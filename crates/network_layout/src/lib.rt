@@ -60,6 +60,13 @@ pub struct Lined {
     pub arrived: usize,
 }
 
+// Where the value of a read came from: the write of a commit, named by its record number, or the start value; or the number for which the call is refused.
+pub enum Origin {
+    Refused(u32),
+    Start,
+    Commit(u32),
+}
+
 // How many sites, items and records a state holds.
 pub struct Totals {
     pub sites: u32,

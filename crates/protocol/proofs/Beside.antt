@@ -18,7 +18,7 @@ use Rattle.limits.specs.Limits.{sitesMost, itemsMost, recordsMost}
 use Rattle.protocol.specs.Network.{Network, noRecord, siteAt, lineAt}
 use Rattle.protocol.specs.Steps.{itemsOf, noSuchSite, countAtMost, someLineFull, opsOf, opNumber, due, wrongLists, setUpNumber, commitNumber, dummyNumber, epochNumber, deliverNumber, scheduleNumber}
 use Rattle.lists.specs.Lists.{someBelow}
-use Rattle.protocol.specs.Questions.{Question, waiting, table, stamp, line, askedSite, questionNumber}
+use Rattle.protocol.specs.Questions.{Question, waiting, table, stamp, line, origin, noSuchRead, askedSite, questionNumber}
 use Rattle.protocol.specs.Calls.{Call, setUp, commit, dummy, epoch, deliver, schedule, ask, refused, perform}
 use Rattle.protocol.specs.Agreement.{Known, nothingKnown, witnessed, learned, learnedAll, OneCopyAgreement, AgreedOrUnset, FromNothing, StampsDiffer, Never6}
 use Rattle.lists.proofs.Matched.{matched-length, matched-at}
@@ -128,6 +128,7 @@ module _ (n : Network) where
   question-not6 (table i) = site-not6 i
   question-not6 (stamp i) = site-not6 i
   question-not6 (line p c) = when-not6 (noSuchSite n p || noSuchSite n c) 7 refl (when-not6 (not (isLine (n .items) p c)) 17 refl zero-not6)
+  question-not6 (origin k a) = either-not6 (noSuchRead n k a) (record { differs = refl }) zero-not6
 
   call-not6 : (c : Call) → Not6 (perform (some n) c .number)
   unfolding perform

@@ -82,7 +82,7 @@ each-numbered : (j n : ℕ) (h : List Record) → j < n → Each (λ (c : Turn).
 each-numbered j n [] l = tt
 each-numbered j n (r ∷ h) l = (l, each-numbered j (suc n) h (omega arith))
 
-chain-numbered : (j : ℕ) (h : List Record) → Chain (λ (c d : Turn). c .number < d .number) (numbered j h)
+pub chain-numbered : (j : ℕ) (h : List Record) → Chain (λ (c d : Turn). c .number < d .number) (numbered j h)
 chain-numbered j [] = tt
 chain-numbered j (r ∷ h) = (each-numbered j (suc j) h (omega arith), chain-numbered (suc j) h)
 

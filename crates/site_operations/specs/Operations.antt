@@ -1,11 +1,12 @@
 -- The operations of a commit: what each reads, and what they do to a table.
 use mathlib.Core.Bool.{Bool, cond, _&&_}
 use mathlib.Core.List.{List, [], _∷_}
+use mathlib.Core.Option.{Option, Option·map}
 use Prim.Native.Nat.{ℕ}
 use lib.IntN.{ℤ, pos}
 use lib.ListN.{set, getD}
 use lib.Dec.{eqb}
-use Rattle.lists.specs.Lists.{any}
+use Rattle.lists.specs.Lists.{any, lastOf}
 
 -- an operation: kind 0 reads, kind 1 writes
 pub record Op : Type 0 where
@@ -30,6 +31,10 @@ writesItem k o = writes o && eqb (o .item) k
 -- some operation writes item k
 abbrev pub touches : ℕ → List Op → Bool
 touches k os = any (writesItem k) os
+
+-- the value of the last write of item k, where there is one
+abbrev pub lastWritten : ℕ → List Op → Option ℤ
+lastWritten k os = Option·map (λ (o : Op). o .value) (lastOf (writesItem k) os)
 
 -- the value that a read gives: that of the table before the commit
 abbrev pub readValue : List ℤ → List ℤ → Op → ℤ

@@ -8,7 +8,7 @@ use tuple_comparison::number_order;
 use tuple_comparison::then_by;
 ghost use mathlib.Core.Path.{_≡_};
 ghost use Rattle.timestamp.specs.Value.{stampOf};
-ghost use Rattle.timestamp_order.specs.Order.{numberOrder, tuplesOrder, order, isEarlier, byNumber};
+ghost use Rattle.timestamp_order.specs.Order.{numberOrder, tuplesOrder, order, notLater, isEarlier, byNumber};
 
 // The lower epoch is earlier; with equal epochs the tuples decide.
 pub fn compare(a: Timestamp, b: Timestamp) -> Order
@@ -28,6 +28,17 @@ pub fn earlier(a: Timestamp, b: Timestamp) -> bool
     match compare(a, b) {
         Order::Earlier => true,
         Order::Equal => false,
+        Order::Later => false,
+    }
+}
+
+// Whether the first is not later than the second.
+pub fn not_later(a: Timestamp, b: Timestamp) -> bool
+    ensures { λ r. ⌜ r ≡ notLater (order (stampOf a) (stampOf b)) ⌝ }
+{
+    match compare(a, b) {
+        Order::Earlier => true,
+        Order::Equal => true,
         Order::Later => false,
     }
 }

@@ -1,0 +1,2 @@
+pub mod OriginLaws
+pub mod Played

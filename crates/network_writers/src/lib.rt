@@ -1,0 +1,117 @@
+// A read found in the history, and the last commit before it that writes its item.
+use limits::RECORDS;
+use site_operations::READ;
+use timestamp::Timestamp;
+ghost use mathlib.Core.Path.{_≡_};
+ghost use Prim.Native.Nat.{_+_};
+ghost use lib.ListN.{length};
+ghost use Rattle.timestamp_order.specs.Order.{byNumber};
+ghost use Rattle.timestamp.specs.Value.{stampOf};
+ghost use Rattle.origins.specs.Statements.{precedesBy};
+ghost use Rattle.network_layout.specs.InWords.{networkIn};
+ghost use Rattle.network_layout.specs.At.{AtNetwork, HasRecord};
+ghost use Rattle.network_writers.specs.Writers.{SoughtIs, OnRecord, LastSoFar, LastStamped, LookingAt};
+
+// A read that was looked for: 0 and its item, or the number for which it is refused and 0.
+pub struct Sought {
+    pub number: u32,
+    pub item: u32,
+}
+
+// An operation of a record: refused with 26 where there is none, or where it is no read.
+pub fn find_read(state: &[u32], k: u32, a: u32) -> Sought
+    requires { ⌜ AtNetwork (now state) ⌝ }
+    ensures { λ r. ⌜ SoughtIs (networkIn (now (state .entry))) k a (r .number) (r .item) ⌝ }
+{
+    if network_records::record_count(state) <= k {
+        return no_read();
+    }
+    find_operation(state, words::wide(k), words::wide(a))
+}
+
+fn find_operation(state: &[u32], k: usize, a: usize) -> Sought
+    requires { ⌜ HasRecord (now state) k ⌝ }
+    ensures { λ r. ⌜ SoughtIs (networkIn (now (state .entry))) k a (r .number) (r .item) ⌝ }
+{
+    if network_records::operation_count(state, k) <= a {
+        return no_read();
+    }
+    let ops = network_records::record_ops(state, k);
+    if site_operations::kind(&ops, a) != READ {
+        return no_read();
+    }
+    Sought {
+        number: 0,
+        item: site_operations::item(&ops, a),
+    }
+}
+
+fn no_read() -> Sought
+    ensures { λ r. ⌜ (r .number ≡ 26) × (r .item ≡ 0) ⌝ }
+{
+    Sought {
+        number: 26,
+        item: 0,
+    }
+}
+
+// A record's number and timestamp; the number is RECORDS where there is none.
+struct Turn {
+    number: u32,
+    stamp: Timestamp,
+}
+
+// The last commit before record k that writes the item; RECORDS where there is none.
+pub fn last_writer(state: &[u32], k: u32, item: u32) -> u32
+    requires { ⌜ OnRecord (now state) k ⌝ }
+    ensures { λ r. ⌜ LastSoFar (networkIn (now (state .entry))) k item (length (networkIn (now (state .entry)) .history)) r ⌝ }
+{
+    let made = network_records::record_count(state);
+    let stamp = network_records::record_stamp(state, words::wide(k));
+    let reader = Turn { number: k, stamp };
+    let mut best = Turn {
+        number: RECORDS,
+        stamp,
+    };
+    let mut j = 0;
+    while j < made {
+        best = later_writer(state, reader, item, j, best);
+        j += 1;
+    }
+    best.number
+}
+
+// Record j, where it writes the item before the reader and not before the best so far; else that one.
+fn later_writer(state: &[u32], reader: Turn, item: u32, j: u32, best: Turn) -> Turn
+    requires { ⌜ LookingAt (now state) (reader .number) (reader .stamp) item j (best .number) (best .stamp) ⌝ }
+    ensures { λ r. ⌜ LastStamped (networkIn (now (state .entry))) (reader .number) item (j + 1) (r .number) (r .stamp) ⌝ }
+{
+    let at = words::wide(j);
+    if !network_records::record_touches(state, at, item) {
+        return best;
+    }
+    let next = Turn {
+        number: j,
+        stamp: network_records::record_stamp(state, at),
+    };
+    if !precedes(next, reader) {
+        return best;
+    }
+    if RECORDS <= best.number {
+        return next;
+    }
+    if precedes(best, next) {
+        return next;
+    }
+    best
+}
+
+// Whether the first comes before the second: by timestamp, equal ones in the order made.
+fn precedes(first: Turn, second: Turn) -> bool
+    ensures { λ r. ⌜ r ≡ precedesBy byNumber (first .number) (stampOf (first .stamp)) (second .number) (stampOf (second .stamp)) ⌝ }
+{
+    if first.number < second.number {
+        return timestamp_comparison::not_later(first.stamp, second.stamp);
+    }
+    timestamp_comparison::earlier(first.stamp, second.stamp)
+}

@@ -1,0 +1,5 @@
+pub mod Precedes
+pub mod Found
+pub mod Turns
+pub mod Last
+pub mod Traced

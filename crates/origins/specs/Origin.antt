@@ -1,0 +1,23 @@
+-- Where the value of a read came from: the last commit before the reader in timestamp order that writes the item.
+use mathlib.Core.List.{List}
+use mathlib.Core.Option.{Option, Option·map}
+use Prim.Native.Nat.{ℕ}
+use lib.Dec.{eqb}
+use Rattle.lists.specs.Lists.{beforeFirst, lastOf}
+use Rattle.site_operations.specs.Operations.{touches}
+use Rattle.records.specs.Records.{Record}
+use Rattle.protocol.specs.Network.{Network, placeOf}
+use Rattle.protocol.specs.Run.{Turn, inTurn}
+use Rattle.protocol.specs.Questions.{nthOp}
+
+-- the commits before commit k in timestamp order: equal timestamps stand in the order made, as in the run
+abbrev pub turnsBefore : (ℕ → ℕ) → List Record → ℕ → List Turn
+turnsBefore place h k = beforeFirst (λ (c : Turn). eqb (c .number) k) (inTurn place h)
+
+-- the last of them that writes item x, where there is one
+abbrev pub lastWriter : (ℕ → ℕ) → List Record → ℕ → ℕ → Option Turn
+lastWriter place h k x = lastOf (λ (c : Turn). touches x (c .commit .ops)) (turnsBefore place h k)
+
+-- of operation a of commit k the record number of that commit, or none for the start value
+unfoldable pub originOf : Network → ℕ → ℕ → Option ℕ
+originOf n k a = Option·map (λ (c : Turn). c .number) (lastWriter (placeOf (n .items)) (n .history) k (nthOp n k a .item))
