@@ -40,37 +40,40 @@ module _ (place : ℕ → ℕ) (apart : (a b : ℕ) → place a ≡ place b → 
       go false = before-test (stampOf c) (stampOf d) e
 
   -- ---- and to them
-  strict-or-lower : (c d : Turn) → precedes place c d ≡ true → (Before c d) ⊎ (c .number < d .number)
-  strict-or-lower c d = go (ltb (c .number) (d .number)) refl
+  -- earlier, or made first and not later
+  abbrev Cases : Turn → Turn → Type 0
+  Cases c d = (Before c d) ⊎ ((c .number < d .number) × UpTo c d)
+
+  cases : (c d : Turn) → precedes place c d ≡ true → Cases c d
+  cases c d = go (ltb (c .number) (d .number)) refl
     where
-      go : (b : Bool) → ltb (c .number) (d .number) ≡ b
-          → cond b (notLater (orderBy place (stampOf c) (stampOf d))) (isEarlier (orderBy place (stampOf c) (stampOf d))) ≡ true → (Before c d) ⊎ (c .number < d .number)
-      go true l e = inr (ltb-true (c .number) (d .number) l)
+      go : (b : Bool) → ltb (c .number) (d .number) ≡ b → cond b (notLater (orderBy place (stampOf c) (stampOf d))) (isEarlier (orderBy place (stampOf c) (stampOf d))) ≡ true → Cases c d
+      go true l e = inr (ltb-true (c .number) (d .number) l, e)
       go false l e = inl (test-before (stampOf c) (stampOf d) e)
 
+  case-upto : (c d : Turn) → Cases c d → UpTo c d
+  case-upto c d (inl s) = upto-before (stampOf c) (stampOf d) s
+  case-upto c d (inr l) = l .1
+
   pub precedes-upto : (c d : Turn) → precedes place c d ≡ true → UpTo c d
-  precedes-upto c d = go (ltb (c .number) (d .number))
-    where
-      go : (b : Bool) → cond b (notLater (orderBy place (stampOf c) (stampOf d))) (isEarlier (orderBy place (stampOf c) (stampOf d))) ≡ true → UpTo c d
-      go true e = e
-      go false e = upto-before (stampOf c) (stampOf d) (test-before (stampOf c) (stampOf d) e)
+  precedes-upto c d p = case-upto c d (cases c d p)
 
   -- ---- a strict order
   pub precedes-trans : (c d e : Turn) → precedes place c d ≡ true → precedes place d e ≡ true → precedes place c e ≡ true
-  precedes-trans c d e p q = go (strict-or-lower c d p) (strict-or-lower d e q)
+  precedes-trans c d e p q = go (cases c d p) (cases d e q)
     where
-      go : (Before c d) ⊎ (c .number < d .number) → (Before d e) ⊎ (d .number < e .number) → precedes place c e ≡ true
-      go (inl s) r = before-precedes c e (before-upto (stampOf c) (stampOf d) (stampOf e) s (precedes-upto d e q))
-      go (inr l) (inl t) = before-precedes c e (upto-then (stampOf c) (stampOf d) (stampOf e) (precedes-upto c d p) t)
-      go (inr l) (inr m) = lower-precedes c e (omega arith) (upto-trans (stampOf c) (stampOf d) (stampOf e) (precedes-upto c d p) (precedes-upto d e q))
+      go : Cases c d → Cases d e → precedes place c e ≡ true
+      go (inl s) r = before-precedes c e (before-upto (stampOf c) (stampOf d) (stampOf e) s (case-upto d e r))
+      go (inr l) (inl t) = before-precedes c e (upto-then (stampOf c) (stampOf d) (stampOf e) (l .1) t)
+      go (inr l) (inr m) = lower-precedes c e (omega (arith, l .0, m .0)) (upto-trans (stampOf c) (stampOf d) (stampOf e) (l .1) (m .1))
 
   pub precedes-one-way : (c d : Turn) → precedes place c d ≡ true → precedes place d c ≡ true → ⊥
-  precedes-one-way c d p q = go (strict-or-lower c d p) (strict-or-lower d c q)
+  precedes-one-way c d p q = go (cases c d p) (cases d c q)
     where
-      go : (Before c d) ⊎ (c .number < d .number) → (Before d c) ⊎ (d .number < c .number) → ⊥
-      go (inl s) r = never-before (stampOf c) (before-upto (stampOf c) (stampOf d) (stampOf c) s (precedes-upto d c q))
-      go (inr l) (inl t) = never-before (stampOf d) (before-upto (stampOf d) (stampOf c) (stampOf d) t (precedes-upto c d p))
-      go (inr l) (inr m) = omega arith
+      go : Cases c d → Cases d c → ⊥
+      go (inl s) r = never-before (stampOf c) (before-upto (stampOf c) (stampOf d) (stampOf c) s (case-upto d c r))
+      go (inr l) (inl t) = never-before (stampOf d) (before-upto (stampOf d) (stampOf c) (stampOf d) t (l .1))
+      go (inr l) (inr m) = omega (arith, l .0, m .0)
 
   -- of two one comes before the other
   pub precedes-turned : (c d : Turn) → c .number < d .number → precedes place c d ≡ false → precedes place d c ≡ true
