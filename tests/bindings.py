@@ -6,7 +6,7 @@
 - Names, numbers, sentences and sizes are the same in the header, the Python module, the Rust crate and the table of docs/USING.md.
 - The Python module raises for numbers that do not fit and for wrong types, before any call.
 - The Python sessions of the module, of README.md and of docs/USING.md answer as they say; so do the programs in C and Rust, where a block of text follows them.
-- The C example answers as the worked example's script, and 100,000 steps on each of two networks what their rounds add up to.
+- The C example answers as the worked example's script, and ends with status 0; 100,000 steps on each of two networks answer what their rounds add up to.
 """
 import doctest
 import os

@@ -293,13 +293,16 @@ class Chooser:
         held = [x for x in range(items) if n and site < n.sites and n.has(site, x)] or [0]
         owned = [x for x in held if n and n.items[x][0] == site]
         ops = []
+        # some commits keep to few items, so that reads stand before, between and behind writes of theirs
+        few = rng.choice([1, 2, ITEMS])
+        held, owned = [rng.sample(some, min(few, len(some))) for some in (held, owned)]
         for _ in range(count):
             if rng.random() < 0.02:
                 ops.append((rng.choice([0, 1, 2, 255, 256, U32]), below(rng, items, 0.5), value(rng)))
             elif owned and rng.random() < 0.6:
                 ops.append((1, rng.choice(owned), value(rng)))
             else:
-                ops.append((0, rng.choice(held), value(rng)))
+                ops.append((0, rng.choice(held + owned), value(rng)))
         return ("commit", site, tuple(ops))
 
     def commit_lists(self, engine):

@@ -29,6 +29,7 @@ sys.path.insert(0, os.environ.get("GEVROLEN_FOLDER", str(ROOT / "target" / "gevr
 import gevrolen  # noqa: E402
 
 SHRINKING = 30  # seconds
+SHOWN = ("read", "origin")  # what has cases that the runs must show
 LOOKS = {"waiting", "table", "stamp", "line", "origin", "export", "read", "record", "records", "record_from", "compare"}
 POISON = 0xEE
 GUARD = bytes([POISON]) * 64
@@ -89,23 +90,43 @@ def struct_bytes(name, fields):
     return array.array("I", [n % 2**32 for n in STRUCTS[name](*fields)]).tobytes()
 
 
-# ---- what origins have to show: a plainer rule would answer otherwise
-def shown(n, k, a, named):
+# ---- what reads and origins have to show: a plainer rule would answer otherwise
+def shown_by_read(table, ops, a):
+    """How the value that operation a of a commit gave, a read, stands to the table before the commit and to the commit's writes."""
+    _, item, value = ops[a]
+    before, behind = model.values_written(item, ops[:a]), model.values_written(item, ops[a:])
+    last = [v for kind, _, v in ops[:a] if kind == 1][-1:]
+    return {
+        "a value written before it, not the table's": before != [] and value != table[item],
+        "the table's value, not one written behind it": before == [] and behind != [] and value != behind[-1],
+        "a value written before it, not one written behind it": before != [] and behind != [] and value != behind[-1],
+        "the latest value written before it, not the first": before != [] and value != before[0],
+        "not the value last written before it, to another item": last != [] and value != last[0],
+    }
+
+
+def shown_by_origin(n, k, a, named):
     """How the commit named, or None, stands to operation a of record k, a read, and to the writers of its item."""
-    _, item, read = n.history[k][2][a]
-    wrote = [dict(n.writes(i)).get(item) for i in range(len(n.history))]
+    ops = n.history[k][2]
+    _, item, read = ops[a]
+    wrote = [model.values_written(item, some) for _, _, some in n.history]
     stamps = [stamp for _, stamp, _ in n.history]
-    writers = [i for i, value in enumerate(wrote) if value is not None]
+    writers = [i for i, values in enumerate(wrote) if values]
+    own, other = named == k, named not in (None, k)
     return {
         "the start value": named is None,
-        "one made after the reader": named is not None and named > k,
-        "not the last made before the reader": named != max((i for i in writers if i < k), default=None),
-        "the last made of equal timestamps": named is not None and any(i < named and stamps[i] == stamps[named] for i in writers),
-        "one made before the reader with its timestamp": named is not None and stamps[named] == stamps[k],
-        "not one made after the reader with its timestamp": any(i > k and stamps[i] == stamps[k] for i in writers),
-        "not the reader, which writes the item": k in writers,
-        "a 0 that was written": named is not None and read == 0,
-        "another value than was read": named is not None and wrote[named] != read,
+        "one made after the reader": other and named > k,
+        "not the last made before the reader": not own and named != max((i for i in writers if i < k), default=None),
+        "the last made of equal timestamps": other and any(i < named and stamps[i] == stamps[named] for i in writers),
+        "one made before the reader with its timestamp": other and named < k and stamps[named] == stamps[k],
+        "not one made after the reader with its timestamp": not own and any(i > k and i != named and stamps[i] == stamps[k] for i in writers),
+        "a 0 that was written": other and read == 0,
+        "another value than was read": other and wrote[named][-1] != read,
+        "the reader": own,
+        "the reader, though it wrote another value than was read": own and read not in wrote[k],
+        "not the reader, which writes the item behind the read": not own and k in writers,
+        "not the reader, which writes another item before the read": not own and any(kind == 1 for kind, _, _ in ops[:a]),
+        "not the reader, which reads the item before": not own and any(x == item for _, x, _ in ops[:a]),
     }
 
 
@@ -128,7 +149,7 @@ class Pair:
         self.network = gevrolen.Network()
         self.engine = model.Engine()
         self.seen = collections.Counter()  # how many calls of each name had each number
-        self.shown = collections.Counter()  # how many origins showed what
+        self.shown = {what: collections.Counter() for what in SHOWN}  # how many reads and origins showed what
         self.reached = False  # whether calls alone led here from a set-up
 
     def words(self):
@@ -193,6 +214,18 @@ class Pair:
             expected = (expected[0], answer[1])
         return answer, expected
 
+    def commit(self, name, site, *given):
+        n = self.engine.network
+        table = list(n.tables[site]) if n and site < n.sites else []
+        answer, expected = self.plain(name, site, *given)
+        if answer == expected and answer[0] == 0:
+            ops = n.history[-1][2]
+            for a in [a for a, (kind, _, _) in enumerate(ops) if kind == 0]:
+                self.shown["read"].update(shown_by_read(table, ops, a))
+        return answer, expected
+
+    commit_lists = commit
+
     def origin(self, name, k, a):
         answer, expected = self.plain(name, k, a)
         if answer == expected and answer[0] == 0:
@@ -200,12 +233,16 @@ class Pair:
         return answer, expected
 
     def trace(self, k, a, named):
-        """Notes what an origin shows. From a set-up on, the last write of the item in the commit named has the value read, and a start value read is 0."""
+        """Notes what an origin shows. From a set-up on, the last write of the item in the commit named, in the reader's own the last before the read, has the value read,
+        and a start value read is 0.
+        """
         n = self.engine.network
-        _, item, read = n.history[k][2][a]
-        self.shown.update(shown(n, k, a, named))
+        ops = n.history[k][2]
+        _, item, read = ops[a]
+        self.shown["origin"].update(shown_by_origin(n, k, a, named))
         if self.reached:
-            expect("value of the origin", 0 if named is None else dict(n.writes(named))[item], read)
+            wrote = [0] if named is None else model.values_written(item, ops[:a] if named == k else n.history[named][2])
+            expect("value of the origin", wrote[-1:], [read])
 
     def export(self, name, room):
         answer, expected = self.plain(name, room)
@@ -353,7 +390,7 @@ def run(seed, pair, journal):
 def runs(seconds, seed, path):
     """Runs until the time is up. What differs is told in words, else nothing; the last run's seed and calls stand in the file."""
     until = time.monotonic() + seconds
-    seen, origins, first = collections.Counter(), collections.Counter(), seed
+    seen, shown, first = collections.Counter(), {what: collections.Counter() for what in SHOWN}, seed
     while time.monotonic() < until:
         pair = Pair()
         with open(path, "w") as journal:
@@ -363,15 +400,17 @@ def runs(seconds, seed, path):
             except Difference as difference:
                 return str(difference)
         seen += pair.seen
-        origins.update(pair.shown)
+        for what, cases in pair.shown.items():
+            shown[what].update(cases)
         seed += 1
     print("%d calls in %d runs: the library and the model agree" % (sum(seen.values()), seed - first), flush=True)
     missing = sorted(set(range(27)) - {number for _, number in seen})
     if missing and seconds >= 30:
         return "no call answered %s: the runs do not reach what they should" % missing
-    unseen = [what for what, times in origins.items() if not times] if origins else ["an origin"]
-    if unseen and seconds >= 30:
-        return "no origin showed %s: the runs do not reach what they should" % unseen
+    for what, cases in shown.items():
+        unseen = [case for case, times in cases.items() if not times] if cases else ["anything"]
+        if unseen and seconds >= 30:
+            return "no %s showed %s: the runs do not reach what they should" % (what, unseen)
     return None
 
 

@@ -64,6 +64,19 @@ def call(*blank):
     return wrap
 
 
+# ---- operations
+def values_written(item, ops):
+    """The values that operations write to an item, in list order."""
+    return [v for kind, x, v in ops if kind == 1 and x == item]
+
+
+def read_value(table, ops, a):
+    """What a read, operation a of a commit, gives: the latest value written to its item before it there, or else the table's before the commit."""
+    item = ops[a][1]
+    own = values_written(item, ops[:a])
+    return own[-1] if own else table[item]
+
+
 # ---- networks
 class Network:
     """How many sites; primary and mask of each item; timestamp and table of each site; on each line the messages held and how many arrived; the history."""
@@ -197,7 +210,7 @@ class Engine:
         due = [c for c in n.children(i) if any(n.items[item][1] >> c & 1 for item in written)]
         refuse(13, n.full(i, due))
         refuse(14, n.own_count(i) == U32)
-        done = tuple((kind, item, n.tables[i][item] if kind == 0 else v) for kind, item, v in ops)
+        done = tuple((kind, item, read_value(n.tables[i], ops, a) if kind == 0 else v) for a, (kind, item, v) in enumerate(ops))
         for kind, item, v in done:
             if kind == 1:
                 n.tables[i][item] = v
@@ -284,9 +297,11 @@ class Engine:
         n = self.shaped()
         refuse(26, k >= len(n.history) or a >= len(n.history[k][2]) or n.history[k][2][a][0] != 0)
         item = n.history[k][2][a][1]
+        if values_written(item, n.history[k][2][:a]):
+            return "commit", k
         # sorting leaves equal timestamps in the order made
         rising = sorted(range(len(n.history)), key=functools.cmp_to_key(lambda i, j: order(n.history[i][1], n.history[j][1])))
-        writers = [i for i in rising[: rising.index(k)] if item in dict(n.writes(i))]
+        writers = [i for i in rising[: rising.index(k)] if values_written(item, n.history[i][2])]
         return ("commit", writers[-1]) if writers else ("start", 0)
 
     @call(b"")

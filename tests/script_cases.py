@@ -50,6 +50,14 @@ STEPS = [
 
 VALUES = ["c 0 w0=-2147483648 r0", "c 0 r0 w0=2147483647", "c 0 r0", "c 0 w0=0 w0=-1", "c 0 r0"]
 
+# reads before, between and behind writes of their items in the same commit, and of other items; then copies beside own writes, and what the copies come to
+OWN_WRITES = [
+    "p 2 4 0 2 0 2 1 0 0 0", "c 0 w0=7 w1=8", "c 0 r0 w0=5 r0", "c 0 r0", "c 0 w0=1 r0 w0=2 r0", "c 0 w0=5 r1", "c 0 w0=3 r1 r0 r1 w0=4",
+    "c 0 r0 w0=9", "c 0 w0=6 w0=1 r0", "c 0 w0=2 w1=3 r0 r1", "c 0 r1 w1=4 r0 w0=5 r1 r0", "c 0 r0 w0=11 r0 w0=12 r0 w0=13 w0=14 r0",
+    "c 0 w3=21 r0 r1 r0 w0=22 r1 r0 r3", "c 0 w0=0 r0", "c 0 w0=-2147483648 r0 w0=2147483647 r0", "l 0 1", "s 1", "c 1 r0 w2=5 r0 r2 r1",
+    "l 0 1", "s 1", "c 1 r0", "l 0 1", "s 1", "c 1 r0 w2=6 r2", "c 1 w2=9 r2 r3", "c 1 r2",
+]
+
 # as many operations and items as a line holds; lines of 512 and 513 bytes and more
 LONGEST = [
     "c 0" + " r0" * 169, "c 0" + " r0" * 168 + " w1=1", "c 0" + " r0" * 168 + " w1=12", "p 2 2" + " 0 0" * 126,
@@ -61,6 +69,6 @@ FULL_LINE = ["p 2 2 0 2 1 0"] + ["d 0"] * 17 + ["c 0 w0=1", "c 0 r0", "l 0 1", "
 FULL_HISTORY = ["p 1 1 0 0"] + ["c 0 w0=%d" % i for i in range(257)] + ["c 0 r0", "d 0", "p 8 1 0 0", "d 7", "d 8"]
 
 TEXT = [line.encode() for line in UNSET + SET_UPS + MALFORMED]
-REST = [line.encode() for line in WORKED + STEPS + VALUES + LONGEST + FULL_LINE + FULL_HISTORY]
+REST = [line.encode() for line in WORKED + STEPS + VALUES + LONGEST + OWN_WRITES + FULL_LINE + FULL_HISTORY]
 
 sys.stdout.buffer.write(b"\n".join(TEXT + BYTES + REST) + b"\nc 0 w0=5 r0")

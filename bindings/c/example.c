@@ -1,4 +1,4 @@
-/* The ten lines of the worked example by calls, each answer printed as a script would print it. */
+/* The ten lines of the worked example by calls, each answer printed as a script would print it; then two sales in one commit, which the exit status judges. */
 #include <inttypes.h>
 #include <stdio.h>
 
@@ -47,6 +47,21 @@ static void schedule(uint32_t site)
     printf("\n");
 }
 
+/* Two sales in one commit, and what is left read before, between and after them: whether the reads gave that, and the later two came from this commit. */
+static int sold_twice(void)
+{
+    const struct gevrolen_operation operations[] = {
+        {GEVROLEN_READ, 0, 0}, {GEVROLEN_WRITE, 0, 4}, {GEVROLEN_READ, 0, 0}, {GEVROLEN_WRITE, 0, 3}, {GEVROLEN_READ, 0, 0},
+    };
+    struct gevrolen_committed answer;
+    struct gevrolen_origin before, between, after;
+    return gevrolen_commit(state, 0, operations, 5, &answer) == GEVROLEN_ACCEPTED
+        && answer.count == 3 && answer.values[0] == 5 && answer.values[1] == 4 && answer.values[2] == 3
+        && gevrolen_origin(state, 3, 0, &before) == GEVROLEN_ACCEPTED && before.kind == GEVROLEN_COMMIT && before.record == 0
+        && gevrolen_origin(state, 3, 2, &between) == GEVROLEN_ACCEPTED && between.kind == GEVROLEN_COMMIT && between.record == 3
+        && gevrolen_origin(state, 3, 4, &after) == GEVROLEN_ACCEPTED && after.kind == GEVROLEN_COMMIT && after.record == 3;
+}
+
 int main(void)
 {
     const uint32_t primaries[] = {0, 1};
@@ -66,5 +81,5 @@ int main(void)
     deliver(0, 2);
     schedule(2);
     commit(2, seen, 2);
-    return 0;
+    return sold_twice() ? 0 : 1;
 }

@@ -41,8 +41,8 @@ extern "C" {
 
 /* ---- kinds of operations */
 
-#define GEVROLEN_READ 0
-#define GEVROLEN_WRITE 1
+#define GEVROLEN_READ 0  /* gives the latest value written to the item before it in the commit, else the value from before the commit */
+#define GEVROLEN_WRITE 1 /* sets the item's value */
 
 /* ---- kinds of origins; 0, as where a call is refused, is neither */
 
@@ -172,7 +172,8 @@ uint32_t gevrolen_set_up(
     const uint32_t *primaries, size_t primary_count,
     const uint8_t *masks, size_t mask_count);
 
-/* A commit of 1 to 8 operations at a site: reads give the values from before the commit, then the writes go in, in list order. 6 to 14. */
+/* A commit of 1 to 8 operations at a site, in list order: a read that follows a write of the same item gives the value written, the latest where there are more; every
+   other read gives the value from before the commit. 6 to 14. */
 uint32_t gevrolen_commit(
     uint32_t state[GEVROLEN_WORDS],
     uint32_t site,
@@ -214,8 +215,9 @@ uint32_t gevrolen_stamp(const uint32_t state[GEVROLEN_WORDS], uint32_t site, str
 /* The line from parent to child. 6, 7, 17. */
 uint32_t gevrolen_line(const uint32_t state[GEVROLEN_WORDS], uint32_t parent, uint32_t child, struct gevrolen_line *answer);
 
-/* Where the value of a read in the history came from: the last commit before the reader in timestamp order that writes the item, equal timestamps in the order made; the
-   start value where there is none. The read is named by its commit's record number and the number of the operation in it, both from 0. 6, 26. */
+/* Where the value of a read in the history came from: its own commit where it follows a write of the item there; else the last commit before that in timestamp order that
+   writes the item, equal timestamps in the order made; the start value where there is none. The read is named by its commit's record number and the number of the operation
+   in it, both from 0. 6, 26. */
 uint32_t gevrolen_origin(const uint32_t state[GEVROLEN_WORDS], uint32_t record, uint32_t operation, struct gevrolen_origin *answer);
 
 /* Two timestamps: -1 where the first is earlier, 0 where they are equal, 1 where it is later. */

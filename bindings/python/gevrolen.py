@@ -15,6 +15,10 @@ A house (here: a site) owns some items and keeps copies of others'. It commits o
     (5, 0)
     >>> network.commit(1, [(READ, 0, 0), (WRITE, 1, 7)]).values
     (5,)
+    >>> network.commit(1, [(READ, 1, 0), (WRITE, 1, 6), (READ, 1, 0)]).values    # before the write, and after it
+    (7, 6)
+    >>> network.origin(2, 0).record, network.origin(2, 2).record
+    (1, 2)
     >>> answer = network.schedule(2)
     >>> answer.number == Number.PARENT_SILENT
     True
@@ -283,7 +287,9 @@ class Network:
         return Answer(_library.set_up(self._words, _word(sites), _word(items), owners_at, len(owners), copies_at, len(copies)))
 
     def commit(self, site, operations):
-        """A commit of 1 to 8 operations (kind, item, value); a read's value is ignored. 6 to 14."""
+        """A commit of 1 to 8 operations (kind, item, value), in list order; a read's value is ignored. A read that follows a write of the same item gives the value written,
+        the latest where there are more; every other read gives the value from before the commit. 6 to 14.
+        """
         operations = list(operations)
         answer = _Committed()
         number = _library.commit(self._words, _word(site), _operations(operations), len(operations), _byref(answer))
@@ -344,7 +350,8 @@ class Network:
 
     def origin(self, record, operation):
         """Where the value of a read in the history came from, by its commit's record number and the number of the operation in it, both from 0: 'commit' and the record
-        number of the last commit before the reader in timestamp order that writes the item, equal timestamps in the order made; 'start' and 0 where there is none. 6, 26.
+        number of its own commit where it follows a write of the item there, else of the last commit before that in timestamp order that writes the item, equal timestamps
+        in the order made; 'start' and 0 where there is none. 6, 26.
         """
         answer = _Origin()
         number = _library.origin(self._words, _word(record), _word(operation), _byref(answer))

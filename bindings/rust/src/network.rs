@@ -60,7 +60,20 @@ impl Network {
         answered(number, || ())
     }
 
-    /// A commit of 1 to 8 operations at a site: reads give the values from before it, then the writes go in, in list order. 6 to 14.
+    /// A commit of 1 to 8 operations at a site, in list order: a read that follows a write of the same item gives the value written, the latest where there are more;
+    /// every other read gives the value from before the commit. 6 to 14.
+    ///
+    /// ```
+    /// # use gevrolen::{Network, Operation};
+    /// # fn main() -> Result<(), gevrolen::Refusal> {
+    /// let mut network = Network::new();
+    /// network.set_up(1, 1, &[0], &[0])?;
+    /// network.commit(0, &[Operation::write(0, 5)])?;
+    /// let answer = network.commit(0, &[Operation::read(0), Operation::write(0, 4), Operation::read(0)])?;
+    /// assert_eq!(answer.values, [5, 4]);
+    /// # Ok(())
+    /// # }
+    /// ```
     pub fn commit(&mut self, site: u32, operations: &[Operation]) -> Result<Committed, Refusal> {
         let lent: Vec<raw::Operation> = operations.iter().map(Operation::raw).collect();
         let mut answer = raw::Committed::default();
@@ -142,8 +155,9 @@ impl Network {
         answered(number, || Line { held: answer.held, arrived: answer.arrived })
     }
 
-    /// Where the value of a read in the history came from: the last commit before the reader in timestamp order that writes the item, equal timestamps in the order
-    /// made; the start value where there is none. The read is named by its commit's record number and the number of the operation in it, both from 0. 6, 26.
+    /// Where the value of a read in the history came from: its own commit where it follows a write of the item there; else the last commit before that in timestamp
+    /// order that writes the item, equal timestamps in the order made; the start value where there is none. The read is named by its commit's record number and the
+    /// number of the operation in it, both from 0. 6, 26.
     ///
     /// ```
     /// # use gevrolen::{Network, Operation, Origin};
@@ -151,9 +165,10 @@ impl Network {
     /// let mut network = Network::new();
     /// network.set_up(1, 2, &[0, 0], &[0, 0])?;
     /// network.commit(0, &[Operation::write(0, 5)])?;
-    /// network.commit(0, &[Operation::read(0), Operation::read(1)])?;
+    /// network.commit(0, &[Operation::read(0), Operation::read(1), Operation::write(0, 4), Operation::read(0)])?;
     /// assert_eq!(network.origin(1, 0)?, Origin::Commit(0));
     /// assert_eq!(network.origin(1, 1)?, Origin::Start);
+    /// assert_eq!(network.origin(1, 3)?, Origin::Commit(1));
     /// # Ok(())
     /// # }
     /// ```

@@ -81,7 +81,7 @@ pub fn compare(first: &Stamp, second: &Stamp) -> Ordering {
 /// What an operation does.
 #[derive(Clone, Copy, Debug, PartialEq, Eq, Hash)]
 pub enum Kind {
-    /// Gives the item's value from before the commit.
+    /// Gives the latest value written to the item before it in the commit, else the value from before the commit.
     Read,
     /// Sets the item's value.
     Write,
@@ -177,9 +177,9 @@ pub struct Line {
 #[derive(Clone, Copy, Debug, PartialEq, Eq, Hash)]
 #[non_exhaustive]
 pub enum Origin {
-    /// No commit before the reader writes the item: it is the start value.
+    /// Neither its own commit before it nor a commit before that writes the item: it is the start value.
     Start,
-    /// The commit of this record number is the last before the reader that writes the item.
+    /// The commit of this record number: its own where it follows a write of the item there, else the last before that which writes the item.
     Commit(u32),
 }
 

@@ -45,6 +45,23 @@ fn the_worked_example() {
 }
 
 #[test]
+fn reads_beside_own_writes() {
+    let mut network = worked();
+    let (read, write) = (Operation::read, Operation::write);
+    network.commit(1, &[write(1, 9)]).unwrap();
+    // before the write, between two, after both, and of a copy
+    let second = network.commit(1, &[read(1), write(1, 8), read(1), read(0), write(1, 7), read(1)]).unwrap();
+    assert_eq!(second.values, [9, 8, 0, 7]);
+    assert_eq!(network.table(1).unwrap(), [0, 7]);
+    let origins = [0, 2, 3, 5].map(|a| network.origin(1, a).unwrap());
+    assert_eq!(origins, [Origin::Commit(0), Origin::Commit(1), Origin::Start, Origin::Commit(1)]);
+    // the same by lists
+    let third = network.commit_lists(1, &[1, 0, 1, 0, 0], &[1, 1, 1, 1, 0], &[6, 0, 5, 0, 0]).unwrap();
+    assert_eq!(third.values, [6, 5, 0]);
+    assert_eq!(record(&network.export().unwrap(), 2).unwrap().to_string(), "1 0 1.3 w1=6 r1=6 w1=5 r1=5 r0=0");
+}
+
+#[test]
 fn refusals_leave_the_words() {
     let mut network = worked();
     let before = network.clone();

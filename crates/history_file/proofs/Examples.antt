@@ -3,7 +3,7 @@ use mathlib.Core.Path.{_≡_, refl}
 use Rattle.words.specs.Words.{chunks}
 use Rattle.timestamp_order.specs.Made.{rising, madeBy}
 use Rattle.records.specs.Records.{recordFits}
-use Rattle.site_operations.specs.Operations.{work}
+use Rattle.site_operations.specs.Operations.{worked}
 use Rattle.timestamp_order.specs.Timestamp.{raisedOrSame}
 use Rattle.placement.specs.Placement.{itemNumber, isLine}
 use Rattle.protocol.specs.Steps.{setUpNumber, setUpNetwork, commitNumber, commitNetwork}
@@ -14,7 +14,7 @@ use Rattle.history_file.specs.Reading.{sizeRead, recordRead, recordValid
 use Rattle.history_file.specs.Example.{exampleState, fileAfter, exampleBytes}
 
 pub example-bytes : fileAfter exampleState ≡ exampleBytes
-unfolding work raisedOrSame itemNumber isLine setUpNumber setUpNetwork commitNumber commitNetwork perform unit recordBytes trailer fileOf
+unfolding worked raisedOrSame itemNumber isLine setUpNumber setUpNetwork commitNumber commitNetwork perform unit recordBytes trailer fileOf
 example-bytes = refl
 
 pub example-accepted : fileNumber exampleBytes ≡ 0

@@ -1,17 +1,17 @@
 -- The origin of a read: refused, or what was found.
 use mathlib.Core.Path.{_≡_, refl, sym, ap, _∙_}
-use mathlib.Core.Bool.{false}
+use mathlib.Core.Bool.{true, false, true≢false}
 use mathlib.Core.List.{List}
 use mathlib.Core.Option.{Option, none, some}
 use Prim.Native.Nat.{ℕ}
 use lib.ListN.{length}
 use borrow.Author.Tests.{ne-eqb}
 use Rattle.protocol.specs.Questions.{origin, nthOp, askedRead, questionNumber}
-use Rattle.origins.specs.Origin.{originOf}
-use Rattle.origins.specs.Statements.{OriginLast}
+use Rattle.origins.specs.Origin.{ownWrite, originOf}
+use Rattle.origins.specs.Statements.{FoundFor, OriginLast}
 use Rattle.origins.proofs.Last.{read-there, origin-last}
 use Rattle.network_layout.specs.declared.Origin.{Origin}
-use Rattle.network_layout.specs.declared.Origin.the-variants.{Refused}
+use Rattle.network_layout.specs.declared.Origin.the-variants.{Refused, Commit}
 use Rattle.network_layout.specs.InWords.{networkIn, shaped, meaning}
 use Rattle.network_layout.specs.At.{AtNetwork}
 use Rattle.network_layout.specs.Promises.{originNumber}
@@ -45,9 +45,15 @@ module _ (w : List ℕ) (k a : ℕ) where
       unfolding questionNumber
       reader-there = record { net = net; there = read-there (networkIn w) k a z .commit }
 
-      pub origin-found : (b : ℕ) → LastSoFar (networkIn w) k (nthOp (networkIn w) k a .item) (length (networkIn w .history)) b → OriginAnswered k a w (named (writerOf b))
+      -- an origin that is right for the read is what is answered
+      by-origin : (o : Option ℕ) → FoundFor (networkIn w) k a o → OriginAnswered k a w (named o)
       unfolding meaning questionNumber OriginLast
-      origin-found b f =
-          let o = writerOf b in
-          let is : o ≡ originOf (networkIn w) k a = origin-last (networkIn w) k a z .alone o (f .found) in
+      by-origin o f =
+          let is : o ≡ originOf (networkIn w) k a = origin-last (networkIn w) k a z .alone o f in
           by-number (named o) 0 (sym z) (named-accepted o) (rw (net .formed, z) (ap named is))
+
+      pub origin-own : ownWrite (networkIn w) k a ≡ true → OriginAnswered k a w (Commit k)
+      origin-own e = by-origin (some k) (record { own = λ t. refl; other = λ t. absurd (true≢false (sym e ∙ t)) })
+
+      pub origin-found : ownWrite (networkIn w) k a ≡ false → (b : ℕ) → LastSoFar (networkIn w) k (nthOp (networkIn w) k a .item) (length (networkIn w .history)) b → OriginAnswered k a w (named (writerOf b))
+      origin-found e b f = by-origin (writerOf b) (record { own = λ t. absurd (true≢false (sym t ∙ e)); other = λ t. f .found })

@@ -12,7 +12,7 @@ use Rattle.network_layout.specs.InWords.{meaning}
 use Rattle.network_layout.specs.Played.{Event, Played, leftAfter}
 use Rattle.network_origin.specs.Answer.{OriginAnswered}
 
--- a refusal has 26; a start value read is 0; the last write of the item in the commit named has the value read
+-- a refusal has 26; a start value read is 0; the last write of the item in the commit named, in the read's own commit the last before it, has the value read
 abbrev pub Told : Network → ℕ → ℕ → Origin → Type 0
 Told n k a (Refused number) = number ≡ 26
 Told n k a Start = Traced n k a none

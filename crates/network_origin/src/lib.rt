@@ -9,8 +9,8 @@ ghost use Rattle.network_layout.specs.At.{AtNetwork};
 ghost use Rattle.network_writers.specs.Writers.{writerOf};
 ghost use Rattle.network_origin.specs.Answer.{named as namedIn, OriginAnswered};
 
-// The origin of a read, by the number of its record and of the operation in it. It answers the record number of the last commit before the reader in timestamp
-// order that writes the item, or that the value is the start value.
+// The origin of a read, by the number of its record and of the operation in it. It answers the record's own number where an operation before the read writes the
+// item; else that of the last commit before the reader in timestamp order that writes it, or that the value is the start value.
 pub fn origin(state: &[u32; WORDS], reader: u32, operation: u32) -> Origin
     ensures { λ r. ⌜ OriginAnswered reader operation (now (state .entry)) r ⌝ }
 {
@@ -35,6 +35,9 @@ fn origin_on(state: &[u32], reader: u32, operation: u32) -> Origin
     let read = network_writers::find_read(state, reader, operation);
     if read.number != 0 {
         return Origin::Refused(read.number);
+    }
+    if network_writers::own_write(state, reader, read.item, operation) {
+        return Origin::Commit(reader);
     }
     named(network_writers::last_writer(state, reader, read.item))
 }

@@ -6,7 +6,7 @@ use site_operations::OPERATIONS;
 use timestamp::Timestamp;
 ghost use mathlib.Core.Path.{_≡_};
 ghost use Prim.Native.Nat.{min, _≤_};
-ghost use lib.ListN.{length};
+ghost use lib.ListN.{length, take};
 ghost use Rattle.timestamp.specs.Value.{stampOf, PlainValue};
 ghost use Rattle.site_operations.specs.Operations.{touches};
 ghost use Rattle.site_operations.specs.InWords.{opsIn, OpsLaid};
@@ -83,4 +83,12 @@ pub fn record_touches(state: &[u32], k: usize, item: u32) -> bool
     ensures { λ r. ⌜ r ≡ touches item (nthRecord (networkIn (now (state .entry))) k .ops) ⌝ }
 {
     records::writes(record_at(state, k), item)
+}
+
+// Whether one before operation `a` does.
+pub fn record_touches_before(state: &[u32], k: usize, item: u32, a: usize) -> bool
+    requires { ⌜ HasRecord (now state) k ⌝ }
+    ensures { λ r. ⌜ r ≡ touches item (take a (nthRecord (networkIn (now (state .entry))) k .ops)) ⌝ }
+{
+    records::writes_before(record_at(state, k), item, a)
 }

@@ -1,4 +1,4 @@
-// A read found in the history, and the last commit before it that writes its item.
+// A read found in the history; whether its own commit writes the item before it; and the last commit before its own that does.
 use limits::RECORDS;
 use site_operations::READ;
 use timestamp::Timestamp;
@@ -7,6 +7,8 @@ ghost use Prim.Native.Nat.{_+_};
 ghost use lib.ListN.{length};
 ghost use Rattle.timestamp_order.specs.Order.{byNumber};
 ghost use Rattle.timestamp.specs.Value.{stampOf};
+ghost use Rattle.site_operations.specs.Operations.{touches};
+ghost use Rattle.origins.specs.Origin.{opsBefore};
 ghost use Rattle.origins.specs.Statements.{precedesBy};
 ghost use Rattle.network_layout.specs.InWords.{networkIn};
 ghost use Rattle.network_layout.specs.At.{AtNetwork, HasRecord};
@@ -53,6 +55,14 @@ fn no_read() -> Sought
         number: 26,
         item: 0,
     }
+}
+
+// Whether an operation of record k before operation `a` writes the item.
+pub fn own_write(state: &[u32], k: u32, item: u32, a: u32) -> bool
+    requires { ⌜ OnRecord (now state) k ⌝ }
+    ensures { λ r. ⌜ r ≡ touches item (opsBefore (networkIn (now (state .entry))) k a) ⌝ }
+{
+    network_records::record_touches_before(state, words::wide(k), item, words::wide(a))
 }
 
 // A record's number and timestamp; the number is RECORDS where there is none.

@@ -1,6 +1,6 @@
--- On every history the origin of a read is the last writer before it, and nothing else is.
-use mathlib.Core.Path.{_≡_, ap, sym, subst, _∙_}
-use mathlib.Core.Bool.{Bool, true, false, not, true≢false, _||_}
+-- On every history the origin of a read is its own commit after a write of the item there, else the last writer before it, and nothing else is.
+use mathlib.Core.Path.{_≡_, refl, ap, sym, subst, _∙_}
+use mathlib.Core.Bool.{Bool, true, false, cond, not, true≢false, _||_}
 use mathlib.Core.List.{List, []}
 use mathlib.Core.Logic.{_⊎_, inl, inr}
 use mathlib.Core.Option.{Option, none, some, Option·map}
@@ -18,8 +18,8 @@ use Rattle.protocol.specs.Network.{Network, nthRecord, placeOf}
 use Rattle.protocol.specs.Run.{Turn, inTurn}
 use Rattle.protocol.specs.Questions.{origin, nthOp, noSuchRead, questionNumber}
 use Rattle.protocol.proofs.Places.{places-apart}
-use Rattle.origins.specs.Origin.{turnsBefore, lastWriter, originOf}
-use Rattle.origins.specs.Statements.{turnAt, precedes, writesBefore, FoundBelow, OriginLast}
+use Rattle.origins.specs.Origin.{turnsBefore, lastWriter, ownWrite, originOf}
+use Rattle.origins.specs.Statements.{turnAt, precedes, writesBefore, FoundBelow, FoundFor, OriginLast}
 use Rattle.origins.proofs.Found.{found-alone}
 use Rattle.origins.proofs.Turns.{Of, each-at, turns-of, turns-chain, before-precedes-it, all-before}
 
@@ -82,13 +82,32 @@ read-there n k a z =
     let rest = or-false (leb (length ops) a) (not (reads (nthOp n k a))) (first .1) in
     record { commit = leb-false (length (n .history)) k (first .0); operation = leb-false (length ops) a (rest .0); reading = not-false (reads (nthOp n k a)) (rest .1) }
 
+-- ---- its origin
+module _ (n : Network) (k a : ℕ) (there : k < length (n .history)) where
+  abbrev x : ℕ
+  x = nthOp n k a .item
+
+  -- the last writer before its commit
+  abbrev writer : Option ℕ
+  writer = Option·map (λ (c : Turn). c .number) (lastWriter (placeOf (n .items)) (n .history) k x)
+
+  last-found : FoundBelow (placeOf (n .items)) (n .history) k x (length (n .history)) writer
+  last-found = writer-found (placeOf (n .items)) (places-apart (n .items)) (n .history) k x there
+
+  origin-by : (b : Bool) → ownWrite n k a ≡ b → originOf n k a ≡ cond b (some k) writer
+  unfolding originOf
+  origin-by b e = ap (λ (c : Bool). cond c (some k) writer) e
+
+  origin-found : FoundFor n k a (originOf n k a)
+  origin-found = record { own = origin-by true; other = λ e. subst (FoundBelow (placeOf (n .items)) (n .history) k x (length (n .history))) (sym (origin-by false e)) last-found }
+
+  origin-alone : (o : Option ℕ) → FoundFor n k a o → o ≡ originOf n k a
+  origin-alone o f = go (ownWrite n k a) refl
+    where
+      go : (b : Bool) → ownWrite n k a ≡ b → o ≡ originOf n k a
+      go true e = f .own e ∙ sym (origin-by true e)
+      go false e = found-alone (placeOf (n .items)) (places-apart (n .items)) (n .history) k x (length (n .history)) o writer (f .other e) last-found ∙ sym (origin-by false e)
+
 pub origin-last : OriginLast
-unfolding OriginLast originOf
-origin-last n k a z =
-    let place = placeOf (n .items) in
-    let x = nthOp n k a .item in
-    let found = writer-found place (places-apart (n .items)) (n .history) k x (read-there n k a z .commit) in
-    record {
-      found = found;
-      alone = λ o f. found-alone place (places-apart (n .items)) (n .history) k x (length (n .history)) o (originOf n k a) f found;
-    }
+unfolding OriginLast
+origin-last n k a z = let there = read-there n k a z .commit in record { found = origin-found n k a there; alone = origin-alone n k a there }

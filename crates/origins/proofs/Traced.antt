@@ -1,6 +1,6 @@
--- In every network that a set-up leads to, the last write of the item in the commit named has the value read, and a start value read is 0.
+-- In every network that a set-up leads to, the last write of the item in the commit named, in the read's own commit the last before it, has the value read, and a start value read is 0.
 use mathlib.Core.Path.{_≡_, refl, ap, sym, subst, _∙_}
-use mathlib.Core.Bool.{Bool, true, false}
+use mathlib.Core.Bool.{Bool, true, false, cond}
 use mathlib.Core.List.{List}
 use mathlib.Core.Logic.{_⊎_, inl, inr}
 use mathlib.Core.Option.{Option, none, some, Option·some-injective}
@@ -8,23 +8,24 @@ use Prim.Native.Nat.{ℕ, _<_}
 use native.Mathlib.Omega.{arith}
 use lib.IntN.{ℤ, pos}
 use lib.ListN.{length}
-use lib.Dec.{ltb}
-use borrow.Author.Tests.{ltb-true, ltb-false}
+use lib.Dec.{eqb, ltb}
+use borrow.Author.Tests.{ltb-true, ltb-false, eq-eqb, ne-eqb}
 use Rattle.lists.specs.Lists.{keep}
 use Rattle.lists.proofs.Every.{and-true}
 use Rattle.timestamp_order.specs.Order.{isEarlier}
-use Rattle.site_operations.specs.Operations.{touches}
+use Rattle.site_operations.specs.Operations.{touches, lastWritten}
 use Rattle.records.specs.Records.{Record}
 use Rattle.protocol.specs.Network.{Network, nthRecord}
 use Rattle.protocol.specs.Questions.{nthOp}
 use Rattle.protocol.specs.Agreement.{Known}
-use Rattle.protocol.proofs.Values.{wrote, wrote-last, lastValue, none-kept, joined-commit}
+use Rattle.site_operations.proofs.Works.{wrote, untouched, wrote-last}
+use Rattle.protocol.proofs.Values.{lastValue, none-kept, joined-commit}
 use Rattle.protocol.proofs.Times.{Times}
 use Rattle.protocol.proofs.Places.{places-apart, placeAt, orderAt, Before, timesAt}
 use Rattle.protocol.proofs.Invariant.{Invariant, stamps-apart, writers-rise}
 use Rattle.protocol.proofs.Follows.{Follows, always}
-use Rattle.origins.specs.Origin.{originOf}
-use Rattle.origins.specs.Statements.{turnAt, precedes, LastBelow, NoneBelow, FoundBelow, Traced, AllTraced, OriginLast, OriginTrue}
+use Rattle.origins.specs.Origin.{opsBefore, ownWrite, originOf}
+use Rattle.origins.specs.Statements.{turnAt, precedes, LastBelow, NoneBelow, FoundBelow, FoundFor, seenOps, Traced, AllTraced, OriginLast, OriginTrue}
 use Rattle.origins.proofs.Precedes.{before-precedes, precedes-upto, precedes-one-way}
 use Rattle.origins.proofs.Last.{IsRead, read-there, origin-last}
 
@@ -47,15 +48,29 @@ module _ (n : Network) (inv : Invariant n) (k a : ℕ) (read : IsRead n k a) whe
   abbrev Precedes : ℕ → ℕ → Type 0
   Precedes i m = precedes (placeAt n) (turnAt h i) (turnAt h m) ≡ true
 
-  value-read : nthOp n k a .value ≡ lastValue x (keep (earlierThan k) h)
+  -- what the operations before it leave of the value before its commit
+  value-read : nthOp n k a .value ≡ wrote x (lastValue x (keep (earlierThan k) h)) (opsBefore n k a)
   value-read = inv .read k (read .commit) a (read .operation) (read .reading)
+
+  seen-by : (m : ℕ) (b : Bool) → eqb m k ≡ b → seenOps n k a m ≡ cond b (opsBefore n k a) (nthRecord n m .ops)
+  seen-by m b e = ap (λ (c : Bool). cond c (opsBefore n k a) (nthRecord n m .ops)) e
+
+  -- where one of them writes the item, the last such write; else that value
+  own-traced : ownWrite n k a ≡ true → Traced n k a (some k)
+  own-traced e =
+      ap (lastWritten x) (seen-by k true (eq-eqb k k refl))
+      ∙ wrote-last x (lastValue x (keep (earlierThan k) h)) (opsBefore n k a) e
+      ∙ ap {B = Option ℤ} some (sym value-read)
+
+  before-read : ownWrite n k a ≡ false → nthOp n k a .value ≡ lastValue x (keep (earlierThan k) h)
+  before-read e = value-read ∙ untouched x (lastValue x (keep (earlierThan k) h)) (opsBefore n k a) e
 
   earlier-precedes : (i : ℕ) → earlierThan k (nthRecord n i) ≡ true → Precedes i k
   earlier-precedes i e = before-precedes (placeAt n) (places-apart (n .items)) (turnAt h i) (turnAt h k) (test-before (nthRecord n i .stamp) (nthRecord n k .stamp) e)
 
   -- no writer before it: 0
-  start-read : NoneBelow (placeAt n) h k x (length h) → nthOp n k a .value ≡ pos 0
-  start-read nobody = value-read ∙ none-kept x (earlierThan k) (pos 0) h (λ i l t. go i l t (earlierThan k (nthRecord n i)) refl)
+  start-read : ownWrite n k a ≡ false → NoneBelow (placeAt n) h k x (length h) → nthOp n k a .value ≡ pos 0
+  start-read alone nobody = before-read alone ∙ none-kept x (earlierThan k) (pos 0) h (λ i l t. go i l t (earlierThan k (nthRecord n i)) refl)
     where
       go : (i : ℕ) → i < length h → touches x (nthRecord n i .ops) ≡ true → (b : Bool) → earlierThan k (nthRecord n i) ≡ b → earlierThan k (nthRecord n i) ≡ false
       go i l t true e = absurd (nobody i l (rw (t, earlier-precedes i e)))
@@ -116,16 +131,26 @@ module _ (n : Network) (inv : Invariant n) (k a : ℕ) (read : IsRead n k a) whe
             let rise : Earlier m i = writers-rise n inv x m i up low writer-writes t in
             late i up low t ∙ sym (test-fails (nthRecord n i .stamp) (nthRecord n m .stamp) (upto-before (nthRecord n m .stamp) (nthRecord n i .stamp) rise))
 
-    pub named-read : nthOp n k a .value ≡ wrote x (lastValue x (keep (earlierThan m) h)) (nthRecord n m .ops)
-    named-read =
-        value-read
+    pub named-read : ownWrite n k a ≡ false → nthOp n k a .value ≡ wrote x (lastValue x (keep (earlierThan m) h)) (nthRecord n m .ops)
+    named-read alone =
+        before-read alone
         ∙ joined-commit x (earlierThan k) (earlierThan m) (pos 0) h m (f .low) tells
         (before-test (nthRecord n m .stamp) (nthRecord n k .stamp) writer-earlier)
         (test-fails (nthRecord n m .stamp) (nthRecord n m .stamp) (upto-self (nthRecord n m .stamp))) (λ t. late)
 
-  traced : (o : Option ℕ) → FoundBelow (placeAt n) h k x (length h) o → Traced n k a o
-  traced none f = start-read f
-  traced (some m) f = wrote-last x (lastValue x (keep (earlierThan m) h)) (nthRecord n m .ops) (writer-writes m f) ∙ ap {B = Option ℤ} some (sym (named-read m f))
+  other-traced : ownWrite n k a ≡ false → (o : Option ℕ) → FoundBelow (placeAt n) h k x (length h) o → Traced n k a o
+  other-traced alone none f = start-read alone f
+  other-traced alone (some m) f =
+      ap (lastWritten x) (seen-by m false (ne-eqb m k (λ s. differ m f (ap (λ (i : ℕ). nthRecord n i .stamp) s))))
+      ∙ wrote-last x (lastValue x (keep (earlierThan m) h)) (nthRecord n m .ops) (writer-writes m f)
+      ∙ ap {B = Option ℤ} some (sym (named-read m f alone))
+
+  traced : (o : Option ℕ) → FoundFor n k a o → Traced n k a o
+  traced o f = go (ownWrite n k a) refl
+    where
+      go : (b : Bool) → ownWrite n k a ≡ b → Traced n k a o
+      go true e = subst (Traced n k a) (sym (f .own e)) (own-traced e)
+      go false e = other-traced e o (f .other e)
 
 -- ---- after every list of calls
 all-traced : (known : Known) → Follows known → AllTraced known

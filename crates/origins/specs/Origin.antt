@@ -1,12 +1,14 @@
--- Where the value of a read came from: the last commit before the reader in timestamp order that writes the item.
+-- Where the value of a read came from: after a write of its item in its own commit that commit, else the last commit before it in timestamp order that writes the item.
+use mathlib.Core.Bool.{Bool, cond}
 use mathlib.Core.List.{List}
-use mathlib.Core.Option.{Option, Option·map}
+use mathlib.Core.Option.{Option, some, Option·map}
 use Prim.Native.Nat.{ℕ}
+use lib.ListN.{take}
 use lib.Dec.{eqb}
 use Rattle.lists.specs.Lists.{beforeFirst, lastOf}
-use Rattle.site_operations.specs.Operations.{touches}
+use Rattle.site_operations.specs.Operations.{Op, touches}
 use Rattle.records.specs.Records.{Record}
-use Rattle.protocol.specs.Network.{Network, placeOf}
+use Rattle.protocol.specs.Network.{Network, nthRecord, placeOf}
 use Rattle.protocol.specs.Run.{Turn, inTurn}
 use Rattle.protocol.specs.Questions.{nthOp}
 
@@ -18,6 +20,14 @@ turnsBefore place h k = beforeFirst (λ (c : Turn). eqb (c .number) k) (inTurn p
 abbrev pub lastWriter : (ℕ → ℕ) → List Record → ℕ → ℕ → Option Turn
 lastWriter place h k x = lastOf (λ (c : Turn). touches x (c .commit .ops)) (turnsBefore place h k)
 
--- of operation a of commit k the record number of that commit, or none for the start value
+-- the operations of commit k before operation a
+abbrev pub opsBefore : Network → ℕ → ℕ → List Op
+opsBefore n k a = take a (nthRecord n k .ops)
+
+-- one of them writes the item of operation a
+abbrev pub ownWrite : Network → ℕ → ℕ → Bool
+ownWrite n k a = touches (nthOp n k a .item) (opsBefore n k a)
+
+-- of operation a of commit k the record number of the commit that it came from, or none for the start value
 unfoldable pub originOf : Network → ℕ → ℕ → Option ℕ
-originOf n k a = Option·map (λ (c : Turn). c .number) (lastWriter (placeOf (n .items)) (n .history) k (nthOp n k a .item))
+originOf n k a = cond (ownWrite n k a) (some k) (Option·map (λ (c : Turn). c .number) (lastWriter (placeOf (n .items)) (n .history) k (nthOp n k a .item)))

@@ -6,16 +6,16 @@ use Prim.Native.Nat.{ℕ, suc}
 use lib.IntN.{ℤ, pos}
 use lib.ListN.{getD}
 use Rattle.timestamp_order.specs.Timestamp.{Stamp}
-use Rattle.site_operations.specs.Operations.{Op, reads, recorded, written, Work, work, worked}
+use Rattle.site_operations.specs.Operations.{Op, reads, recorded, written, Work, worked}
+use Rattle.site_operations.proofs.Works.{read-no-write}
 use Rattle.records.specs.Records.{Record}
 use Rattle.lists.specs.Lists.{keep, upTo}
 use Rattle.lists.proofs.Matched.{Matched, matched-length, matched-add, matched-keep, matched-sorted}
 use Rattle.protocol.specs.Run.{Turn, numbered, comesFirst, inTurn, after, seen, run, startTable, find, shown, isUpTo, valueAt}
-use Rattle.protocol.proofs.Works.{read-no-write}
 
 -- the same work on every table
 abbrev pub AlikeOps : List Op → List Op → Type 0
-AlikeOps os us = (before table : List ℤ) → work before table os ≡ work before table us
+AlikeOps os us = (table : List ℤ) → worked table os ≡ worked table us
 
 pub record Alike (r c : Record) : Type 0 where
   pub site-same : r .site ≡ c .site
@@ -29,28 +29,28 @@ pub all-alike-add : (h cs : List Record) (r c : Record) → AllAlike h cs → Al
 all-alike-add h cs r c m e = matched-add Alike h cs r c m e
 
 -- ---- operations recorded with values are alike to those without: a read is read again, and writes nothing
-module _ (before table : List ℤ) (o : Op) (b t : List ℤ) where
-  recorded-again : recorded b t (recorded before table o) ≡ recorded b t o
+module _ (table : List ℤ) (o : Op) (t : List ℤ) where
+  recorded-again : recorded t (recorded table o) ≡ recorded t o
   recorded-again = go (reads o) refl
     where
-      go : (r : Bool) → reads o ≡ r → recorded b t (recorded before table o) ≡ recorded b t o
+      go : (r : Bool) → reads o ≡ r → recorded t (recorded table o) ≡ recorded t o
       go true e = simp e
       go false e = simp e
 
-  written-again : written t (recorded before table o) ≡ written t o
+  written-again : written t (recorded table o) ≡ written t o
   written-again = go (reads o) refl
     where
-      go : (r : Bool) → reads o ≡ r → written t (recorded before table o) ≡ written t o
+      go : (r : Bool) → reads o ≡ r → written t (recorded table o) ≡ written t o
       go true e = rw (e, read-no-write o e)
       go false e = rw e
 
-pub worked-alike : (before table : List ℤ) (os : List Op) → AlikeOps (work before table os .ops) os
-unfolding work
-worked-alike before table [] b t = refl
-worked-alike before table (o ∷ os) b t =
-    let rest : work b (written t (recorded before table o)) (work before (written table o) os .ops) ≡ work b (written t o) os
-    = ap (λ (l : List ℤ). work b l (work before (written table o) os .ops)) (written-again before table o b t) ∙ worked-alike before (written table o) os b (written t o) in
-    λ i. record { table = rest i .table; ops = recorded-again before table o b t i ∷ rest i .ops }
+pub worked-alike : (table : List ℤ) (os : List Op) → AlikeOps (worked table os .ops) os
+unfolding worked
+worked-alike table [] t = refl
+worked-alike table (o ∷ os) t =
+    let rest : worked (written t (recorded table o)) (worked (written table o) os .ops) ≡ worked (written t o) os
+    = ap (λ (l : List ℤ). worked l (worked (written table o) os .ops)) (written-again table o t) ∙ worked-alike (written table o) os (written t o) in
+    λ i. record { table = rest i .table; ops = recorded-again table o t i ∷ rest i .ops }
 
 -- ---- turns alike
 abbrev AlikeTurns : Turn → Turn → Type 0
@@ -78,7 +78,7 @@ turns-alike place h cs m = matched-sorted AlikeTurns _ (first-alike _) (numbered
 
 -- ---- one run
 table-alike : (table : List ℤ) (c d : Turn) → AlikeTurns c d → worked table (c .commit .ops) .table ≡ worked table (d .commit .ops) .table
-table-alike table c d e = ap (λ (w : Work). w .table) (e .1 .ops-alike table table)
+table-alike table c d e = ap (λ (w : Work). w .table) (e .1 .ops-alike table)
 
 after-alike : (table : List ℤ) (xs ys : List Turn) → Matched AlikeTurns xs ys → after table xs ≡ after table ys
 after-alike table [] [] m = refl

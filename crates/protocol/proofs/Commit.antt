@@ -6,7 +6,7 @@ use mathlib.Core.Logic.{_⊎_, inl, inr}
 use Prim.Native.Nat.{ℕ, zero, suc, _<_}
 use native.Mathlib.Omega.{arith}
 use lib.IntN.{ℤ, pos}
-use lib.ListN.{length, getD}
+use lib.ListN.{length, getD, take}
 use lib.Dec.{eqb, ltb}
 use borrow.Author.Tests.{ltb-true}
 use Rattle.lists.proofs.Every.{and-true}
@@ -25,8 +25,8 @@ use Rattle.lists.specs.Lists.{keep}
 use Rattle.protocol.proofs.Keeps.{raised-made, keeps-commit}
 use Rattle.protocol.specs.Agreement.{holds}
 use Rattle.lists.proofs.Chains.{keep-more}
-use Rattle.protocol.proofs.Values.{wrote, lastFrom, lastValue, from-more, none-kept, agree}
-use Rattle.protocol.proofs.Works.{worked-length, getD-worked, worked-size, worked-kinds, worked-reads, wrote-worked}
+use Rattle.site_operations.proofs.Works.{wrote, worked-length, getD-worked, worked-size, worked-kinds, wrote-worked, ReadsFrom, worked-reads}
+use Rattle.protocol.proofs.Values.{lastFrom, lastValue, from-more, none-kept, agree}
 use Rattle.protocol.proofs.Times.{Times}
 use Rattle.protocol.proofs.Places.{placeAt, orderAt, Before, UpTo, timesAt}
 use Rattle.protocol.proofs.Added.{added-size, added-old, added-new, added-each, added-rise}
@@ -83,10 +83,10 @@ module _ (n : Network) (inv : Invariant n) (i : ℕ) (os : List Op) (site : i < 
   r-made = raised-made n (shaped n inv) i site few
 
   kinds : (a : ℕ) → (getD (r .ops) a noOp .kind ≡ getD os a noOp .kind) × (getD (r .ops) a noOp .item ≡ getD os a noOp .item)
-  kinds a = worked-kinds (tableAt n i) (tableAt n i) os a
+  kinds a = worked-kinds (tableAt n i) os a
 
   size : length (r .ops) ≡ length os
-  size = worked-size (tableAt n i) (tableAt n i) os
+  size = worked-size (tableAt n i) os
 
   r-allowed : (a : ℕ) → a < length (r .ops) → OpAllowed (n .items) i (getD (r .ops) a noOp)
   r-allowed a l = like-shape (n .items) i (getD (r .ops) a noOp) (getD os a noOp) (kinds a .0) (kinds a .1) (op-at (n .items) i os fit a (omega (arith, size)))
@@ -117,7 +117,11 @@ module _ (n : Network) (inv : Invariant n) (i : ℕ) (os : List Op) (site : i < 
   counts : (x : ℕ) (v : ℤ) (p : Record → Bool) → p r ≡ true → lastFrom x v (keep p (r ∷ [])) ≡ wrote x v (r .ops)
   counts x v p e = ap (λ (b : Bool). lastFrom x v (cond b (r ∷ []) [])) e
 
-  -- ---- its own reads: what is not later than its site is before it
+  -- ---- its own reads: the table, and the operations before each
+  new-value : ReadsFrom (λ x. getD (tableAt n i) x (pos 0)) (r .ops)
+  new-value = worked-reads (tableAt n i) os (λ a l. omega (arith, op-at (n .items) i os fit a l .item, inv .sizes .tables i site, inv .sizes .items))
+
+  -- what is not later than its site is before it
   own-read : (x k : ℕ) → k < length (n .history) → touches x (nthRecord n k .ops) ≡ true → holds (n .items) i x ≡ true
       → isEarlier (orderAt n (nthRecord n k .stamp) (r .stamp)) ≡ notLater (orderAt n (nthRecord n k .stamp) (stampAt n i))
   own-read x k l t e = go (reaches n inv k i x l t e)
@@ -133,19 +137,19 @@ module _ (n : Network) (inv : Invariant n) (i : ℕ) (os : List Op) (site : i < 
           ∙ sym (cut-upto i (stampAt n i) (nthRecord n k .stamp) (stamp-made n inv i site) below)
 
   abbrev ReadsWell : Record → Type 0
-  ReadsWell c = (a : ℕ) → a < length (c .ops) → reads (getD (c .ops) a noOp) ≡ true
-      → getD (c .ops) a noOp .value ≡ lastValue (getD (c .ops) a noOp .item) (keep (λ (q : Record). isEarlier (orderAt n (q .stamp) (c .stamp))) later)
+  ReadsWell c = ReadsFrom (λ x. lastValue x (keep (λ (q : Record). isEarlier (orderAt n (q .stamp) (c .stamp))) later)) (c .ops)
 
   new-read : ReadsWell r
   new-read a l e =
       let s = r-allowed a l in
       let x = getD (r .ops) a noOp .item in
       let p : Record → Bool = λ q. isEarlier (orderAt n (q .stamp) (r .stamp)) in
-      worked-reads (tableAt n i) (tableAt n i) os a (omega (arith, size)) e
-      ∙ inv .copy i x site (s .item) (s .held e)
+      let before : getD (tableAt n i) x (pos 0) ≡ lastValue x (keep p later)
+      = inv .copy i x site (s .item) (s .held e)
       ∙ sym (agree x p (λ q. notLater (orderAt n (q .stamp) (stampAt n i))) (pos 0) (n .history) (λ k b t. own-read x k b t (s .held e)))
       ∙ sym (without-it x (lastValue x (keep p (n .history))) p (λ t. test-fails (r .stamp) (r .stamp) (upto-self (r .stamp))))
-      ∙ sym (with-it x p)
+      ∙ sym (with-it x p) in
+      new-value a l e ∙ ap (λ (v : ℤ). wrote x v (take a (r .ops))) before
 
   old-read : (k : ℕ) → k < length (n .history) → ReadsWell (nthRecord n k)
   old-read k l a b e =
@@ -153,11 +157,12 @@ module _ (n : Network) (inv : Invariant n) (i : ℕ) (os : List Op) (site : i < 
       let s = inv .allowed k l a b in
       let x = getD (c .ops) a noOp .item in
       let p : Record → Bool = λ q. isEarlier (orderAt n (q .stamp) (c .stamp)) in
-      inv .read k l a b e
-      ∙ sym (without-it x (lastValue x (keep p (n .history))) p
+      let same : lastValue x (keep p (n .history)) ≡ lastValue x (keep p later)
+      = sym (without-it x (lastValue x (keep p (n .history))) p
       (λ t. test-fails (r .stamp) (c .stamp)
       (upto-before (c .stamp) (r .stamp) (upto-then (c .stamp) (stampAt n (c .site)) (r .stamp) (inv .past k l) (above (c .site) x (record-site n inv k l) t (s .held e))))))
-      ∙ sym (with-it x p)
+      ∙ sym (with-it x p) in
+      inv .read k l a b e ∙ ap (λ (v : ℤ). wrote x v (take a (c .ops))) same
 
   -- ---- the tables
   abbrev Holds : ℕ → Site → Type 0
@@ -172,7 +177,7 @@ module _ (n : Network) (inv : Invariant n) (i : ℕ) (os : List Op) (site : i < 
   new-table x b e =
       let v = getD (tableAt n i) x (pos 0) in
       getD-worked (tableAt n i) os x (omega (arith, inv .sizes .tables i site, inv .sizes .items))
-      ∙ sym (wrote-worked (tableAt n i) (tableAt n i) os x v)
+      ∙ sym (wrote-worked (tableAt n i) os x v)
       ∙ sym (counts x v (λ (q : Record). notLater (orderAt n (q .stamp) (new .stamp))) (upto-self (r .stamp)))
 
   module _ (c : Calm n (moved n inv i new) (mailed n inv gets i m) later) where

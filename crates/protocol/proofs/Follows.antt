@@ -130,7 +130,7 @@ module _ (k : Known) (f : Follows k) where
       let r = recordOf n i os in
       let t = raised (bookStamp b i) in
       let same : r .stamp ≡ t = risen n (f .inv) i (z .there) (z .count-free) ∙ ap raised (book-stamp n b (f .stamps-are) i) in
-      let alike : Alike r (record { site = i; stamp = t; ops = os }) = record { site-same = refl; stamp-same = same; ops-alike = worked-alike (tableAt n i) (tableAt n i) os } in
+      let alike : Alike r (record { site = i; stamp = t; ops = os }) = record { site-same = refl; stamp-same = same; ops-alike = worked-alike (tableAt n i) os } in
       record {
         network = commitNetwork n i os;
         state-is = refl;

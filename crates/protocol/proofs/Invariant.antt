@@ -14,7 +14,8 @@ use Rattle.timestamp_order.specs.Timestamp.{Stamp}
 use Rattle.timestamp_order.specs.Order.{notLater, isEarlier, Below}
 use Rattle.timestamp_order.specs.Made.{madeBy}
 use Rattle.timestamp_order.proofs.Made.{without}
-use Rattle.site_operations.specs.Operations.{Op, reads, writes, noOp, writesItem, touches}
+use Rattle.site_operations.specs.Operations.{Op, writes, noOp, writesItem, touches}
+use Rattle.site_operations.proofs.Works.{ReadsFrom}
 use Rattle.site.specs.InWords.{tableSize}
 use Rattle.placement.specs.Masks.{bit}
 use Rattle.placement.specs.Placement.{Item, noItem, owns, copies, isLine, hasParents}
@@ -81,9 +82,9 @@ pub record Invariant (n : Network) : Type 0 where
   -- a table holds the last values of the commits not later than its site
   pub copy : (j x : ℕ) → j < length (n .sites) → x < length (n .items) → holds (n .items) j x ≡ true
       → getD (tableAt n j) x (pos 0) ≡ lastValue x (keep (λ (r : Record). notLater (orderAt n (r .stamp) (stampAt n j))) (n .history))
-  -- a read has the last value of the commits before its own
-  pub read : (k : ℕ) → k < length (n .history) → (a : ℕ) → a < length (nthRecord n k .ops) → reads (getD (nthRecord n k .ops) a noOp) ≡ true
-      → getD (nthRecord n k .ops) a noOp .value ≡ lastValue (getD (nthRecord n k .ops) a noOp .item) (keep (λ (r : Record). isEarlier (orderAt n (r .stamp) (nthRecord n k .stamp))) (n .history))
+  -- a read has what the operations before it leave of the last value of the commits before its own
+  pub read : (k : ℕ) → k < length (n .history)
+      → ReadsFrom (λ x. lastValue x (keep (λ (r : Record). isEarlier (orderAt n (r .stamp) (nthRecord n k .stamp))) (n .history))) (nthRecord n k .ops)
   -- a commit writes what its site owns, and reads what it owns or copies
   pub allowed : (k : ℕ) → k < length (n .history) → (a : ℕ) → a < length (nthRecord n k .ops) → OpAllowed (n .items) (nthRecord n k .site) (getD (nthRecord n k .ops) a noOp)
 

@@ -1,13 +1,13 @@
 -- Set-up gives a well-shaped network, and deliver, epoch, dummy and commit keep it so.
 use mathlib.Core.Path.{_≡_, refl, sym, ap, ap₂, subst, _∙_}
-use mathlib.Core.Bool.{Bool, true, false, cond, _&&_, or-true}
+use mathlib.Core.Bool.{Bool, true, false, _&&_, or-true}
 use mathlib.Core.List.{List, [], _∷_, _++_, map}
 use Prim.Native.Nat.{ℕ, zero, suc, _+_, _/_, _%_, _<_}
 use native.Mathlib.Omega.{arith}
 use lib.IntN.{ℤ}
 use lib.ListN.{length, getD, set, length-set, length-replicate, getD-replicate, length-append, List·getD-append}
 use lib.Seq.{getD-append-seam}
-use lib.Dec.{eqb, ltb}
+use lib.Dec.{eqb, ltb, leb}
 use borrow.Author.Tests.{leb-false, ltb-false, ltb-true, lt-ltb, le-leb, eq-eqb}
 use Rattle.lists.specs.Lists.{every, isEmpty}
 use Rattle.lists.proofs.Every.{and-true, every-snoc, every-all}
@@ -15,10 +15,10 @@ use Rattle.timestamp_order.specs.Timestamp.{Stamp, withEpoch, raisedOrSame, own
 use Rattle.timestamp_order.specs.Made.{madeBy}
 use Rattle.timestamp_order.proofs.Made.{made-start, made-raised}
 use Rattle.timestamp_order.proofs.Timestamp.{raise-room}
-use Rattle.site_operations.specs.Operations.{Op, noOp, reads, writes, readValue, recorded}
+use Rattle.site_operations.specs.Operations.{Op, noOp, writes, written, worked}
 use Rattle.site.specs.Site.{Site, committed, dummied, atEpoch}
 use Rattle.limits.specs.Limits.{sitesMost}
-use Rattle.site_operations.proofs.Laws.{work-ops}
+use Rattle.site_operations.proofs.Works.{recorded-like}
 use Rattle.placement.specs.Masks.{bit}
 use Rattle.placement.specs.Placement.{Item, itemsNumber, noItem, copies, isLine}
 use Rattle.lists.specs.Numbers.{firstNumber}
@@ -204,19 +204,13 @@ module _ (xs : List Item) (i : ℕ) (os : List Op) (z : firstNumber (map (opNumb
       let w = and-true (writes o) (copies xs c (o .item)) (f .2) in
       some-at (λ (x : Item). eqb (x .primary) i && bit (x .mask) c) xs (o .item) noItem (s .item) (rw (s .owned (w .0)) (w .1))
 
--- an operation recorded keeps its kind and item
-recorded-fits : (items : ℕ) (b : List ℤ) (o : Op) → opFits items (recorded b b o) ≡ opFits items o
-recorded-fits items b o = go (reads o)
-  where
-    go : (t : Bool) → opFits items (cond t (record { kind = o .kind; item = o .item; value = readValue b b o }) o) ≡ opFits items o
-    go true = refl
-    go false = refl
-
-pub records-fit : (items : ℕ) (b : List ℤ) (os : List Op) → every (opFits items) os ≡ true → every (opFits items) (map (recorded b b) os) ≡ true
-records-fit items b [] e = refl
-records-fit items b (o ∷ os) e =
-    let q = and-true (opFits items o) (every (opFits items) os) e in
-    ap₂ _&&_ (recorded-fits items b o ∙ q .0) (records-fit items b os (q .1))
+-- as the history keeps them operations fit as before: kinds and items are kept
+pub worked-fits : (items : ℕ) (table : List ℤ) (os : List Op) → every (opFits items) (worked table os .ops) ≡ every (opFits items) os
+unfolding worked
+worked-fits items table [] = refl
+worked-fits items table (o ∷ os) =
+    let like = recorded-like table o in
+    ap₂ _&&_ (ap₂ (λ (k x : ℕ). leb k 1 && ltb x items) (like .0) (like .1)) (worked-fits items (written table o) os)
 
 -- ---- commit
 -- no site but its own moves
@@ -237,7 +231,7 @@ keeps-commit n i os e allowed =
     = record {
       at = omega (arith, allowed .there, length-set (n .sites) i new);
       made = made;
-      fitting = rw (work-ops (siteAt n i .table) (siteAt n i .table) os) (records-fit (length xs) (siteAt n i .table) os (ops-fit xs i os (allowed .each-op)));
+      fitting = worked-fits (length xs) (siteAt n i .table) os ∙ ops-fit xs i os (allowed .each-op);
     } in
     shape-whole (commitNetwork n i os)
     (record {

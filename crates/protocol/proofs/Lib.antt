@@ -6,7 +6,6 @@ pub mod Keeps
 pub mod Chosen
 pub mod Sent
 pub mod Values
-pub mod Works
 pub mod Turns
 pub mod Runs
 pub mod Alike

@@ -1,26 +1,26 @@
 -- The one-copy run against the order made: where the writers of an item were made by rising timestamp, the run's values are those
--- of the commits in the order made; and where besides every read was recorded with that value, the run shows what was recorded.
+-- of the commits in the order made; and where besides every read was recorded with what the operations before it leave of that value, the
+-- run shows what was recorded.
 use mathlib.Core.Path.{_≡_, refl, ap, ap₂, sym, _∙_}
 use mathlib.Core.Bool.{Bool, true, false, cond, _||_, false≢true}
 use mathlib.Core.List.{List, [], _∷_, map}
 use Prim.Native.Nat.{ℕ, suc, _+_, _<_}
 use native.Mathlib.Omega.{arith}
 use lib.IntN.{ℤ, pos}
-use lib.ListN.{length, getD, length-replicate, getD-replicate}
+use lib.ListN.{length, getD, take, length-replicate, getD-replicate}
 use lib.Dec.{eqb}
 use Rattle.timestamp_order.specs.Timestamp.{Stamp}
 use Rattle.timestamp_order.specs.Order.{orderBy, notLater, isEarlier, IsEarlier}
-use Rattle.site_operations.specs.Operations.{Op, reads, recorded, worked, noOp, touches}
+use Rattle.site_operations.specs.Operations.{reads, worked, noOp, touches}
 use Rattle.site.specs.InWords.{tableSize}
-use Rattle.site_operations.proofs.Laws.{work-ops}
+use Rattle.site_operations.proofs.Works.{wrote, untouched, worked-length, getD-worked, ReadsFrom, worked-same}
 use Rattle.records.specs.Records.{Record}
 use Rattle.lists.specs.Lists.{keep, upTo}
 use Rattle.lists.specs.Sorting.{sorted}
 use Rattle.protocol.specs.Run.{Turn, numbered, comesFirst, inTurn, after, run, startTable, find, shown, valueAt}
 use Rattle.protocol.specs.Network.{recordAt}
 use Rattle.protocol.proofs.Times.{Times, times}
-use Rattle.protocol.proofs.Values.{wrote, lastFrom, lastValue, untouched}
-use Rattle.protocol.proofs.Works.{worked-length, getD-worked, recorded-other}
+use Rattle.protocol.proofs.Values.{lastFrom, lastValue}
 use Rattle.lists.proofs.Chains.{Chain, each-implied, chain-keep, keep-none, keep-turn, map-keep}
 use Rattle.lists.proofs.Sorting.{chain-sorted, sorted-same, keep-sorted, InOrder}
 use Rattle.protocol.proofs.Turns.{turns-along, turns-either, has, chain-number, commits-numbered, each-found, has-turn, find-turn}
@@ -34,6 +34,10 @@ after-value table [] x h = refl
 after-value table (c ∷ cs) x h =
     after-value (worked table (c .commit .ops) .table) cs x (omega (arith, worked-length table (c .commit .ops)))
     ∙ ap (λ (v : ℤ). lastFrom x v (commits cs)) (getD-worked table (c .commit .ops) x h)
+
+after-length : (table : List ℤ) (cs : List Turn) → length (after table cs) ≡ length table
+after-length table [] = refl
+after-length table (c ∷ cs) = after-length (worked table (c .commit .ops) .table) cs ∙ worked-length table (c .commit .ops)
 
 -- only those that write it matter
 module _ (x : ℕ) where
@@ -93,17 +97,6 @@ module _ (place : ℕ → ℕ) (apart : (a b : ℕ) → place a ≡ place b → 
 abbrev seenRecord : List ℤ → Record → Record
 seenRecord table r = record { site = r .site; stamp = r .stamp; ops = worked table (r .ops) .ops }
 
--- operations whose reads have the table's values are kept as they are
-ops-kept : (table : List ℤ) (os : List Op)
-    → ((a : ℕ) → a < length os → reads (getD os a noOp) ≡ true → getD os a noOp .value ≡ getD table (getD os a noOp .item) (pos 0))
-    → os ≡ map (recorded table table) os
-ops-kept table [] f = refl
-ops-kept table (o ∷ os) f = ap₂ {C = List Op} (λ p ps. p ∷ ps) (go (reads o) refl) (ops-kept table os (λ a l. f (suc a) (omega arith)))
-  where
-    go : (b : Bool) → reads o ≡ b → o ≡ recorded table table o
-    go true e = (λ i. record { kind = o .kind; item = o .item; value = f 0 (omega arith) e i }) ∙ sym (rw e)
-    go false e = sym (recorded-other table table o e)
-
 by-number : (f : ℕ → Record) (j : ℕ) (h : List Record) → ((k : ℕ) → k < length h → recordAt h k ≡ f (j + k)) → h ≡ map f (upTo j (length h))
 by-number f j [] g = refl
 by-number f j (r ∷ h) g =
@@ -159,12 +152,11 @@ module _ (place : ℕ → ℕ) (apart : (a b : ℕ) → place a ≡ place b → 
   pub run-shows : (h : List Record)
       → ((k m : ℕ) → k < m → m < length h → recordAt h k .stamp ≡ recordAt h m .stamp → ⊥)
       → ((x : ℕ) → WritersRise place x h)
-      → ((k a : ℕ) → k < length h → a < length (recordAt h k .ops) → reads (getD (recordAt h k .ops) a noOp) ≡ true
-      → (getD (recordAt h k .ops) a noOp .item < tableSize)
-      × (getD (recordAt h k .ops) a noOp .value ≡ lastValue (getD (recordAt h k .ops) a noOp .item) (keep (λ (r : Record). isEarlier (orderBy place (r .stamp) (recordAt h k .stamp))) h)))
+      → ((k : ℕ) → k < length h → (a : ℕ) → a < length (recordAt h k .ops) → getD (recordAt h k .ops) a noOp .item < tableSize)
+      → ((k : ℕ) → k < length h → ReadsFrom (λ x. lastValue x (keep (λ (r : Record). isEarlier (orderBy place (r .stamp) (recordAt h k .stamp))) h)) (recordAt h k .ops))
       → h ≡ shown place startTable h
   unfolding shown
-  run-shows h differ rise right = by-number (find (run startTable (inTurn place h))) 0 h each
+  run-shows h differ rise low right = by-number (find (run startTable (inTurn place h))) 0 h each
     where
       strict : Chain Before (inTurn place h)
       strict =
@@ -178,9 +170,11 @@ module _ (place : ℕ → ℕ) (apart : (a b : ℕ) → place a ≡ place b → 
           let table : List ℤ = after startTable (keep (earlierThan r) (inTurn place h)) in
           let same : k ≡ 0 + k = omega arith in
           let kept : r .ops ≡ worked table (r .ops) .ops
-          = ops-kept table (r .ops)
-          (λ a b e. right k a l b e .1 ∙ sym (run-last place apart (getD (r .ops) a noOp .item) h (rise (getD (r .ops) a noOp .item)) (λ s. isEarlier (orderBy place (s .stamp) (r .stamp))) (right k a l b e .0)))
-          ∙ sym (work-ops table table (r .ops)) in
+          = worked-same table (r .ops)
+          (λ a b e. omega (arith, low k l a b, after-length startTable (keep (earlierThan r) (inTurn place h)), length-replicate tableSize (pos 0)))
+          (λ a b e.
+          let x = getD (r .ops) a noOp .item in
+          right k l a b e ∙ ap (λ (v : ℤ). wrote x v (take a (r .ops))) (sym (run-last place apart x h (rise x) (λ s. isEarlier (orderBy place (s .stamp) (r .stamp))) (low k l a b)))) in
           (λ i. record { site = r .site; stamp = r .stamp; ops = kept i })
           ∙ ap (λ (s : Record). seenRecord (after startTable (keep (earlierThan s) (inTurn place h))) s) (sym (find-turn place h k))
           ∙ sym (run-sees startTable (inTurn place h) k strict (has-turn place h k l))

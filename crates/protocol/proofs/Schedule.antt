@@ -28,8 +28,8 @@ use Rattle.protocol.specs.Steps.{due, head, headStamp, headEarlier, earl
 use Rattle.lists.specs.Lists.{keep}
 use Rattle.protocol.proofs.Chosen.{earliest-site, chosen-line, chosen-rises, head-made, parent-held, received-stamp, received-made, keeps-schedule}
 use Rattle.protocol.specs.Agreement.{holds}
-use Rattle.protocol.proofs.Values.{wrote, lastValue, agree, joined-commit}
-use Rattle.protocol.proofs.Works.{worked-length, getD-worked}
+use Rattle.site_operations.proofs.Works.{wrote, worked-length, getD-worked}
+use Rattle.protocol.proofs.Values.{lastValue, agree, joined-commit}
 use Rattle.protocol.proofs.Times.{Times, without-appended}
 use Rattle.protocol.proofs.Places.{placeAt, orderAt, Before, UpTo, timesAt}
 use Rattle.protocol.proofs.Invariant.{stampAt, heardAt, tableAt, messagesAt, messageAt, sentAt, Named, Invariant, one-owner, touch-owns, touch-due, due-child, shaped, line-sites, line-number, stamp-made, record-site, record-below, sent-made, sent-below, message-fits, reaches}

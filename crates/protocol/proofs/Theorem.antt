@@ -22,7 +22,7 @@ module _ (n : Network) (inv : Invariant n) where
   run-history : n .history ≡ shown (placeAt n) startTable (n .history)
   run-history =
       run-shows (placeAt n) (places-apart (n .items)) (n .history) (stamps-apart n inv) (writers-rise n inv)
-      (λ k a l b e. let item = inv .allowed k l a b .item in (omega (arith, inv .sizes .items), inv .read k l a b e))
+      (λ k l a b. let item = inv .allowed k l a b .item in omega (arith, inv .sizes .items)) (inv .read)
 
 -- ---- what follows from the calls agrees with the run
 module _ (k : Known) (f : Follows k) where

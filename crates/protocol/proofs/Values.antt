@@ -2,24 +2,17 @@
 use mathlib.Core.Path.{_≡_, refl, ap, sym, _∙_}
 use mathlib.Core.Bool.{Bool, true, false, cond}
 use mathlib.Core.List.{List, [], _∷_, _++_}
-use mathlib.Core.Option.{Option, none, some, Option·map, Option·getD}
 use Prim.Native.Nat.{ℕ, zero, suc, _<_}
 use native.Mathlib.Omega.{arith}
 use lib.IntN.{ℤ, pos}
 use lib.ListN.{length}
-use Rattle.site_operations.specs.Operations.{Op, writesItem, touches, lastWritten}
-use Rattle.lists.specs.Lists.{keep, orElse, lastOf}
+use Rattle.site_operations.specs.Operations.{touches}
+use Rattle.site_operations.proofs.Works.{wrote, untouched}
+use Rattle.lists.specs.Lists.{keep}
 use Rattle.records.specs.Records.{Record}
 use Rattle.protocol.specs.Network.{recordAt}
-use Rattle.lists.proofs.Numbers.{or-false}
-use Rattle.lists.proofs.Last.{some-last}
 
--- the item's value after operations, from the value before
-abbrev pub wrote : ℕ → ℤ → List Op → ℤ
-wrote x v [] = v
-wrote x v (o ∷ os) = wrote x (cond (writesItem x o) (o .value) v) os
-
--- its value after commits
+-- the item's value after commits
 abbrev pub lastFrom : ℕ → ℤ → List Record → ℤ
 lastFrom x v [] = v
 lastFrom x v (r ∷ rs) = lastFrom x (wrote x v (r .ops)) rs
@@ -27,35 +20,6 @@ lastFrom x v (r ∷ rs) = lastFrom x (wrote x v (r .ops)) rs
 -- starting at 0
 abbrev pub lastValue : ℕ → List Record → ℤ
 lastValue x rs = lastFrom x (pos 0) rs
-
--- operations that do not write the item leave its value
-pub untouched : (x : ℕ) (v : ℤ) (os : List Op) → touches x os ≡ false → wrote x v os ≡ v
-untouched x v [] e = refl
-untouched x v (o ∷ os) e =
-    let p = or-false (writesItem x o) (touches x os) e in
-    ap (λ (b : Bool). wrote x (cond b (o .value) v) os) (p .0) ∙ untouched x v os (p .1)
-
--- those that write it leave the value of the last write
-abbrev valueOf : Option Op → Option ℤ
-valueOf = Option·map (λ (o : Op). o .value)
-
-wrote-is : (x : ℕ) (v : ℤ) (os : List Op) → wrote x v os ≡ Option·getD (lastWritten x os) v
-wrote-is x v [] = refl
-wrote-is x v (o ∷ os) = wrote-is x (cond (writesItem x o) (o .value) v) os ∙ go (lastOf (writesItem x) os) (writesItem x o)
-  where
-    go : (l : Option Op) (b : Bool) → Option·getD (valueOf l) (cond b (o .value) v) ≡ Option·getD (valueOf (orElse l (cond b (some o) none))) v
-    go (some p) b = refl
-    go none true = refl
-    go none false = refl
-
-pub wrote-last : (x : ℕ) (v : ℤ) (os : List Op) → touches x os ≡ true → lastWritten x os ≡ some (wrote x v os)
-wrote-last x v os e = go (lastOf (writesItem x) os) refl
-  where
-    go : (l : Option Op) → lastOf (writesItem x) os ≡ l → lastWritten x os ≡ some (wrote x v os)
-    go none f = absurd (some-last (writesItem x) os e f)
-    go (some p) f =
-        let is : lastWritten x os ≡ some (p .value) = ap valueOf f in
-        is ∙ ap {B = Option ℤ} some (sym (wrote-is x v os ∙ ap (λ (m : Option ℤ). Option·getD m v) is))
 
 pub from-more : (x : ℕ) (v : ℤ) (rs ss : List Record) → lastFrom x v (rs ++ ss) ≡ lastFrom x (lastFrom x v rs) ss
 from-more x v [] ss = refl

@@ -31,7 +31,7 @@ comesFirst place c d = notLater (orderBy place (c .commit .stamp) (d .commit .st
 abbrev pub inTurn : (ℕ → ℕ) → List Record → List Turn
 inTurn place cs = sorted (comesFirst place) (numbered 0 cs)
 
--- ---- the run: the reads of each commit get the table before it, then its writes go in
+-- ---- the run: the operations of each commit one after another, on the table that the commits before it leave
 abbrev pub after : List ℤ → List Turn → List ℤ
 after table [] = table
 after table (c ∷ cs) = after (worked table (c .commit .ops) .table) cs

@@ -5,7 +5,7 @@ use mathlib.Core.List.{List, [], _∷_, _++_, map}
 use Prim.Native.Nat.{ℕ, zero, suc, _+_, _*_, _-_, _/_, _%_, _≤_, _<_, min}
 use native.Mathlib.Omega.{arith}
 use native.Mathlib.Numerals.{add-one}
-use lib.ListN.{length, getD, set, take, drop, length-set, length-drop, length-map, drop-of-length-le, List·getD-map}
+use lib.ListN.{length, getD, set, take, drop, length-set, length-take, length-drop, length-map, drop-of-length-le, List·getD-map}
 use lib.Seq.{getD-set-same, getD-set-other, getD-take, take-all, take-suc, take-length, length-take-le, ext-getD}
 use lib.Dec.{ltb, leb, eqb}
 use mir.Val.{toZ}
@@ -50,6 +50,12 @@ module _ (w : List ℕ) where
   pub op-at : (i : ℕ) → i < length (recordIn w .ops) → getD (recordIn w .ops) i noOp ≡ getD (placesIn w) i noOp
   unfolding recordIn
   op-at i h = getD-take (countIn w) (placesIn w) i noOp (omega (arith, count-law))
+
+  -- of those before operation a
+  pub op-before : (a i : ℕ) → i < length (take a (recordIn w .ops)) → getD (take a (recordIn w .ops)) i noOp ≡ getD (placesIn w) i noOp
+  op-before a i h =
+      let both = length-take a (recordIn w .ops) in
+      getD-take a (recordIn w .ops) i noOp (omega (arith, both)) ∙ op-at i (omega (arith, both))
 
   -- the operations laid so far, and one more
   pub laid-next : (i : ℕ) (out out′ : List ℕ) → i < length (recordIn w .ops) → OpsLaid i (take i (recordIn w .ops)) out → Put out out′ i (getD (placesIn w) i noOp) → OpsLaid (i + 1) (take (i + 1) (recordIn w .ops)) out′

@@ -7,7 +7,7 @@ use timestamp::Timestamp;
 ghost use mathlib.Core.Path.{_≡_};
 ghost use mathlib.Core.Bool.{_&&_};
 ghost use Prim.Native.Nat.{_≤_};
-ghost use lib.ListN.{length};
+ghost use lib.ListN.{length, take};
 ghost use lib.Dec.{eqb};
 ghost use Rattle.timestamp.specs.Value.{stampOf, PlainValue};
 ghost use Rattle.timestamp_order.specs.Order.{byNumber};
@@ -86,7 +86,14 @@ pub fn operations(w: &[u32]) -> [u32; site_operations::OPERATIONS]
 pub fn writes(w: &[u32], item: u32) -> bool
     ensures { λ r. ⌜ r ≡ touches item (recordIn (now (w .entry)) .ops) ⌝ }
 {
-    let n = count(w);
+    writes_before(w, item, OPERATIONS_WIDE)
+}
+
+// Whether one before operation `a` does.
+pub fn writes_before(w: &[u32], item: u32, a: usize) -> bool
+    ensures { λ r. ⌜ r ≡ touches item (take a (recordIn (now (w .entry)) .ops)) ⌝ }
+{
+    let n = count_before(w, a);
     let mut i = 0;
     while i < n {
         if record_packing::is_write_of(w, i, item) {
@@ -95,6 +102,17 @@ pub fn writes(w: &[u32], item: u32) -> bool
         i += 1;
     }
     false
+}
+
+// How many operations a record has before operation `a`.
+fn count_before(w: &[u32], a: usize) -> usize
+    ensures { λ r. ⌜ (r ≡ length (take a (recordIn (now (w .entry)) .ops))) × (r ≤ opsMost) ⌝ }
+{
+    let n = count(w);
+    if a < n {
+        return a;
+    }
+    n
 }
 
 // Whether the words are those of a record of a group of that many sites and items.

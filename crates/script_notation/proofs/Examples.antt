@@ -7,7 +7,7 @@ use Rattle.decimal.specs.Decimal.{lastDigits, digits, valueFrom, natural, signe
 use Rattle.timestamp_order.specs.Timestamp.{appendedOrSame, raisedOrSame}
 use Rattle.timestamp_order.specs.Order.{orderBy, tuplesOrder, pairOrder, numberOrder}
 use Rattle.timestamp_order.proofs.Examples.{comparisons-hold}
-use Rattle.site_operations.specs.Operations.{work}
+use Rattle.site_operations.specs.Operations.{worked}
 use Rattle.placement.specs.Placement.{itemNumber, isLine, hasParents}
 use Rattle.protocol.specs.Network.{placeOf}
 use Rattle.protocol.specs.Steps.{setUpNumber, setUpNetwork, commitNumber, commitNetwork, deliverNumber, deliverNetwork, scheduleNumber, scheduleNetwork, earliest}
@@ -24,7 +24,7 @@ unfolding lastDigits digits spaced
 in-order = refl
 
 pub examples-hold : Holds table
-unfolding lastDigits digits valueFrom natural signed appendedOrSame raisedOrSame orderBy tuplesOrder pairOrder numberOrder work itemNumber isLine hasParents placeOf setUpNumber setUpNetwork commitNumber commitNetwork deliverNumber deliverNetwork scheduleNumber scheduleNetwork earliest perform position fields all operation placed called parse tuplesText spaced print answer answers
+unfolding lastDigits digits valueFrom natural signed appendedOrSame raisedOrSame orderBy tuplesOrder pairOrder numberOrder worked itemNumber isLine hasParents placeOf setUpNumber setUpNetwork commitNumber commitNetwork deliverNumber deliverNetwork scheduleNumber scheduleNetwork earliest perform position fields all operation placed called parse tuplesText spaced print answer answers
 examples-hold = record { lines-hold = refl; pairs-hold = comparisons-hold }
 
 longest-answered : answer none (longestLine .input) .bytes ≡ longestLine .output

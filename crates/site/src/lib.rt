@@ -25,15 +25,14 @@ pub fn stamp(part: &[u32]) -> Timestamp
     timestamp_words::from_words(part)
 }
 
-// A commit: the operations as the history keeps them, 0 past the last; the table after their writes, the own count one higher.
+// A commit: the operations as the history keeps them, 0 past the last; the table after them, the own count one higher.
 pub fn commit(part: &mut [u32], ops: &[u32], n: usize) -> [u32; OPERATIONS]
     ensures { λ r. ⌜ Committed (now (part .entry)) (now (part .exit)) (min n opsMost) (opsIn (min n opsMost) (now (ops .entry))) r ⌝ }
 {
     if part.len() != WORDS {
         return [0u32; OPERATIONS];
     }
-    let done = table_work::record(&part[TABLE..WORDS], ops, n);
-    table_work::write(&mut part[TABLE..WORDS], ops, n);
+    let done = table_work::work(&mut part[TABLE..WORDS], ops, n);
     put_stamp(part, stamp(part).raise());
     done
 }

@@ -1,7 +1,7 @@
 -- Laws of operations in words, and of the table that they write.
 use mathlib.Core.Path.{_≡_, refl, sym, ap, ap₂, _∙_}
 use mathlib.Core.List.{List, [], _∷_, _++_, map, map-append}
-use Prim.Native.Nat.{ℕ, suc, _+_, _*_, _-_, _≤_, _<_}
+use Prim.Native.Nat.{ℕ, _+_, _*_, _-_, _≤_, _<_}
 use native.Mathlib.Omega.{arith}
 use native.Mathlib.Numerals.{add-one}
 use lib.IntN.{ℤ, pos}
@@ -17,7 +17,7 @@ use Rattle.words.proofs.Chunks.{chunks-length, chunks-at, chunks-last, chunks-b
 use Rattle.words.proofs.Walks.{laid-in}
 use Rattle.lists.proofs.Lists.{map-set}
 use Rattle.lists.proofs.Filled.{filled-more}
-use Rattle.site_operations.specs.Operations.{Op, reads, readValue, recorded, written, work}
+use Rattle.site_operations.specs.Operations.{Op, reads, recorded, written}
 use Rattle.site_operations.specs.InWords.{opOf, opIn, opWords, opAt, opsIn, opsSize, opSize, tableIn, OpsLaid, Put}
 use Rattle.limits.specs.Limits.{opsMost}
 
@@ -38,19 +38,19 @@ module _ (o : Op) where
   write-done table kind item v k z j e = map-set (toZ w32) table item v ∙ ap₂ (set (tableIn table)) j e ∙ sym (rw (eq-eqb (o .kind) 1 (sym k ∙ z)))
 
   -- a read is kept with the value of the table, another operation with its own
-  pub kept-read : (table : List ℕ) (kind item v : ℕ) → kind ≡ o .kind → kind ≡ 0 → item ≡ o .item → v ≡ getD table item 0 → toZ w32 v ≡ recorded (tableIn table) (tableIn table) o .value
+  pub kept-read : (table : List ℕ) (kind item v : ℕ) → kind ≡ o .kind → kind ≡ 0 → item ≡ o .item → v ≡ getD table item 0 → toZ w32 v ≡ recorded (tableIn table) o .value
   kept-read table kind item v k z j e =
       ap (toZ w32) e
       ∙ sym (List·getD-map (toZ w32) table item 0)
       ∙ ap (λ (n : ℕ). getD (tableIn table) n (pos 0)) j
       ∙ sym (rw (eq-eqb (o .kind) 0 (sym k ∙ z)))
 
-  pub kept-other : (b : List ℤ) (kind v : ℕ) → kind ≡ o .kind → (kind ≡ 0 → ⊥) → toZ w32 v ≡ o .value → toZ w32 v ≡ recorded b b o .value
+  pub kept-other : (b : List ℤ) (kind v : ℕ) → kind ≡ o .kind → (kind ≡ 0 → ⊥) → toZ w32 v ≡ o .value → toZ w32 v ≡ recorded b o .value
   kept-other b kind v k z e = e ∙ sym (rw (ne-eqb (o .kind) 0 (λ f. z (k ∙ f))))
 
   -- kind and item are kept as they are
-  pub kept-op : (b : List ℤ) (kind item v : ℕ) → kind ≡ o .kind → item ≡ o .item → toZ w32 v ≡ recorded b b o .value → opOf kind item v ≡ recorded b b o
-  kept-op b kind item v k j e = (λ t. record { kind = k t; item = j t; value = e t }) ∙ same (reads o) (readValue b b o)
+  pub kept-op : (b : List ℤ) (kind item v : ℕ) → kind ≡ o .kind → item ≡ o .item → toZ w32 v ≡ recorded b o .value → opOf kind item v ≡ recorded b o
+  kept-op b kind item v k j e = (λ t. record { kind = k t; item = j t; value = e t }) ∙ same (reads o) (getD b (o .item) (pos 0))
     where
       same : (r : Bool) (x : ℤ) → record { kind = o .kind; item = o .item; value = cond r (record { kind = o .kind; item = o .item; value = x }) o .value } ≡ cond r (record { kind = o .kind; item = o .item; value = x }) o
       same true x = refl
@@ -106,30 +106,14 @@ ops-length n w = length-map (chunks opSize n w) opIn ∙ chunks-length opSize n 
 pub ops-at : (n : ℕ) (w : List ℕ) (i : ℕ) → i < n → getD (opsIn n w) i (opIn []) ≡ opAt w i
 ops-at n w i h = List·getD-map opIn (chunks opSize n w) i [] ∙ ap opIn (chunks-at opSize n w i h)
 
-ops-drop : (n : ℕ) (w : List ℕ) (i : ℕ) → i < n → drop i (opsIn n w) ≡ opAt w i ∷ drop (suc i) (opsIn n w)
+-- those from i on: operation i and those after it; none past the last
+pub ops-drop : (n : ℕ) (w : List ℕ) (i : ℕ) → i < n → drop i (opsIn n w) ≡ opAt w i ∷ drop (i + 1) (opsIn n w)
 ops-drop n w i h =
     drop-cons (opsIn n w) i (opIn []) (omega (arith, ops-length n w))
-    ∙ ap {B = List Op} (λ o. o ∷ drop (suc i) (opsIn n w)) (ops-at n w i h)
+    ∙ ap₂ {C = List Op} (λ (o : Op) (k : ℕ). o ∷ drop k (opsIn n w)) (ops-at n w i h) (sym (add-one i))
+
+pub ops-done : (n : ℕ) (w : List ℕ) (i : ℕ) → n ≤ i → drop i (opsIn n w) ≡ []
+ops-done n w i h = drop-of-length-le (opsIn n w) {i = i} (omega (arith, ops-length n w))
 
 pub ops-last : (n : ℕ) (w : List ℕ) → opsIn (n + 1) w ≡ opsIn n w ++ (opAt w n ∷ [])
 ops-last n w = ap (λ (k : ℕ). opsIn k w) (add-one n) ∙ ap (map opIn) (chunks-last opSize n w) ∙ map-append opIn (chunks opSize n w) (part w (n * opSize) opSize ∷ [])
-
--- the operations as the history keeps them, one by one
-pub work-ops : (b t : List ℤ) (os : List Op) → work b t os .ops ≡ map (recorded b b) os
-unfolding work
-work-ops b t [] = refl
-work-ops b t (o ∷ os) = ap {B = List Op} (λ l. recorded b b o ∷ l) (work-ops b (written t o) os)
-
-pub kept-next : (b : List ℤ) (ops : List ℕ) (i : ℕ) → map (recorded b b) (opsIn i ops) ++ (recorded b b (opAt ops i) ∷ []) ≡ map (recorded b b) (opsIn (i + 1) ops)
-kept-next b ops i = sym (ap (map (recorded b b)) (ops-last i ops) ∙ map-append (recorded b b) (opsIn i ops) (opAt ops i ∷ []))
-
--- the table after the operations from i on
-module _ (b : List ℤ) (t : List ℤ) (n : ℕ) (ops : List ℕ) (i : ℕ) where
-  pub work-next : i < n → work b t (drop i (opsIn n ops)) .table ≡ work b (written t (opAt ops i)) (drop (i + 1) (opsIn n ops)) .table
-  unfolding work
-  work-next h =
-      ap (λ (os : List Op). work b t os .table) (ops-drop n ops i h) ∙ ap (λ (k : ℕ). work b (written t (opAt ops i)) (drop k (opsIn n ops)) .table) (sym (add-one i))
-
-  pub work-end : n ≤ i → work b t (drop i (opsIn n ops)) .table ≡ t
-  unfolding work
-  work-end h = ap (λ (os : List Op). work b t os .table) (drop-of-length-le (opsIn n ops) {i = i} (omega (arith, ops-length n ops)))

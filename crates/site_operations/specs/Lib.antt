@@ -1,2 +1,4 @@
 pub mod Operations
+pub mod ReadRule
+pub mod Examples
 pub mod InWords

@@ -36,13 +36,9 @@ touches k os = any (writesItem k) os
 abbrev pub lastWritten : ℕ → List Op → Option ℤ
 lastWritten k os = Option·map (λ (o : Op). o .value) (lastOf (writesItem k) os)
 
--- the value that a read gives: that of the table before the commit
-abbrev pub readValue : List ℤ → List ℤ → Op → ℤ
-readValue before table o = getD before (o .item) (pos 0)
-
--- an operation as the history keeps it: a read with the value it gave
-abbrev pub recorded : List ℤ → List ℤ → Op → Op
-recorded before table o = cond (reads o) (record { kind = o .kind; item = o .item; value = readValue before table o }) o
+-- an operation as the history keeps it: a read with the value that the table has then
+abbrev pub recorded : List ℤ → Op → Op
+recorded table o = cond (reads o) (record { kind = o .kind; item = o .item; value = getD table (o .item) (pos 0) }) o
 
 -- a table after an operation
 abbrev pub written : List ℤ → Op → List ℤ
@@ -53,15 +49,12 @@ pub record Work : Type 0 where
   pub table : List ℤ
   pub ops : List Op
 
--- the operations one after another, from the table before the commit and the table now
-unfoldable pub work : List ℤ → List ℤ → List Op → Work
-work before table [] = record { table = table; ops = [] }
-work before table (o ∷ os) =
-    let rest = work before (written table o) os in
-    record { table = rest .table; ops = recorded before table o ∷ rest .ops }
-
-abbrev pub worked : List ℤ → List Op → Work
-worked table os = work table table os
+-- the operations one after another, each on the table that those before it leave
+unfoldable pub worked : List ℤ → List Op → Work
+worked table [] = record { table = table; ops = [] }
+worked table (o ∷ os) =
+    let rest = worked (written table o) os in
+    record { table = rest .table; ops = recorded table o ∷ rest .ops }
 
 -- the values of the reads, in order
 abbrev pub valuesRead : List Op → List ℤ

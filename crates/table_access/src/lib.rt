@@ -12,7 +12,7 @@ ghost use Rattle.site_operations.specs.InWords.{opAt, tableIn};
 
 // The word of the value that the history keeps of operation i: of a read that of the table.
 pub fn kept_value(table: &[u32], ops: &[u32], i: usize) -> u32
-    ensures { λ r. ⌜ toZ w32 r ≡ recorded (tableIn (now (table .entry))) (tableIn (now (table .entry))) (opAt (now (ops .entry)) i) .value ⌝ }
+    ensures { λ r. ⌜ toZ w32 r ≡ recorded (tableIn (now (table .entry))) (opAt (now (ops .entry)) i) .value ⌝ }
 {
     if kind(ops, i) == READ {
         return words::word(table, words::wide(item(ops, i)));

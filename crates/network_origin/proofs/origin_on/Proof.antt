@@ -1,14 +1,16 @@
--- `origin_on` refuses with the number, or names the last writer.
-use mathlib.Core.Path.{_≡_, sym, subst, _∙_}
+-- `origin_on` refuses with the number, names the reader after its own write, or the last writer before it.
+use mathlib.Core.Path.{_≡_, sym, ap, subst, _∙_}
 use Prim.Native.Nat.{ℕ}
 use lib.ListN.{length}
 use borrow.Author.Tests.{eq-eqb}
+use Rattle.site_operations.specs.Operations.{touches}
 use Rattle.protocol.specs.Questions.{nthOp, askedRead}
+use Rattle.origins.specs.Origin.{opsBefore, ownWrite}
 use Rattle.network_layout.specs.declared.Origin.{Origin}
 use Rattle.network_layout.specs.InWords.{networkIn}
 use Rattle.network_writers.specs.Writers.{LastSoFar}
 use Rattle.network_origin.specs.Answer.{OriginAnswered}
-use Rattle.network_origin.proofs.OriginLaws.{origin-refused, reader-there, origin-found}
+use Rattle.network_origin.proofs.OriginLaws.{origin-refused, reader-there, origin-own, origin-found}
 use borrow.Author.Needs.{needs}
 use Rattle.network_origin.proofs.origin_on.Statement.{statement}
 use Rattle.network_origin.proofs.origin_on.Tie as tie
@@ -16,6 +18,18 @@ use Rattle.network_origin.proofs.origin_on.Tie as tie
 -- no cause refuses it
 free : (c : tie.Else1) → askedRead (networkIn (c .before .before .before .before .args .state .now)) (c .before .before .before .before .args .reader) (c .before .before .before .before .args .operation) ≡ 0
 free c = sym (c .before .before .find-read .ensures .number-is) ∙ c .if1 .left
+
+-- the item is that of the read
+item-read : (c : tie.Else1) → c .before .before .find-read .result .item ≡ nthOp (networkIn (c .before .before .before .before .args .state .now)) (c .before .before .before .before .args .reader) (c .before .before .before .before .args .operation) .item
+item-read c = let read = c .before .before .find-read in read .ensures .item-is ∙ rw (eq-eqb (read .result .number) 0 (c .if1 .left))
+
+-- so its own commit was asked about it
+own-asked : (c : tie.After-own-write) → c .own-write .result ≡ ownWrite (networkIn (c .before .before .before .before .before .args .state .now)) (c .before .before .before .before .before .args .reader) (c .before .before .before .before .before .args .operation)
+own-asked c =
+    let A = c .before .before .before .before .before .args in
+    let before = opsBefore (networkIn (A .state .now)) (A .reader) (A .operation) in
+    let told : c .own-write .result ≡ touches (c .before .before .before .find-read .result .item) before = c .own-write .ensures in
+    told ∙ ap (λ (x : ℕ). touches x before) (item-read (c .before))
 
 find-read-requires : tie.Need-find-read-requires
 find-read-requires c κs = search needs
@@ -27,28 +41,50 @@ returns c =
     let A = start .args in
     origin-refused (A .state .now) (A .reader) (A .operation) (start .pre) (read .result .number) (read .ensures .number-is) (c .if1 .taken)
 
-last-writer-requires : tie.Need-last-writer-requires
-last-writer-requires c κs =
+own-write-requires : tie.Need-own-write-requires
+own-write-requires c κs =
     let start = c .before .before .before .before in
     let A = start .args in
     reader-there (A .state .now) (A .reader) (A .operation) (start .pre) (free c)
 
+returns-2 : tie.Need-returns-2
+returns-2 c =
+    let accepted = c .before .before in
+    let start = accepted .before .before .before .before in
+    let A = start .args in
+    origin-own (A .state .now) (A .reader) (A .operation) (start .pre) (free accepted) (sym (own-asked (c .before)) ∙ c .if2 .taken)
+
+last-writer-requires : tie.Need-last-writer-requires
+last-writer-requires c κs =
+    let accepted = c .before .before in
+    let start = accepted .before .before .before .before in
+    let A = start .args in
+    reader-there (A .state .now) (A .reader) (A .operation) (start .pre) (free accepted)
+
 named-requires : tie.Need-named-requires
 named-requires c κs = search needs
 
-returns-2 : tie.Need-returns-2
-returns-2 c =
+returns-3 : tie.Need-returns-3
+returns-3 c =
     let found = c .before in
-    let read = found .before .before .before .find-read in
-    let start = found .before .before .before .before .before in
+    let other = found .before in
+    let accepted = other .before .before in
+    let start = accepted .before .before .before .before in
     let A = start .args in
     let n = networkIn (A .state .now) in
     let b = found .last-writer .result in
-    let item-is : read .result .item ≡ nthOp n (A .reader) (A .operation) .item = read .ensures .item-is ∙ rw (eq-eqb (read .result .number) 0 (found .before .if1 .left)) in
-    let of-item = subst (λ (x : ℕ). LastSoFar n (A .reader) x (length (n .history)) b) item-is (found .last-writer .ensures) in
+    let of-item = subst (λ (x : ℕ). LastSoFar n (A .reader) x (length (n .history)) b) (item-read accepted) (found .last-writer .ensures) in
     subst (λ (r : Origin). OriginAnswered (A .reader) (A .operation) (A .state .now) r) (sym (c .named .ensures))
-    (origin-found (A .state .now) (A .reader) (A .operation) (start .pre) (free (found .before)) b of-item)
+    (origin-found (A .state .now) (A .reader) (A .operation) (start .pre) (free accepted) (sym (own-asked (other .before)) ∙ other .if2 .left) b of-item)
 
 pub origin-on-spec : {M : Type 1} → statement M
 origin-on-spec =
-    tie.close (tie.spec find-read-requires returns last-writer-requires named-requires returns-2)
+    tie.close
+    (tie.spec
+    find-read-requires
+    returns
+    own-write-requires
+    returns-2
+    last-writer-requires
+    named-requires
+    returns-3)

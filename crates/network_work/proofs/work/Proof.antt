@@ -12,11 +12,10 @@ use Rattle.timestamp.proofs.Plain.{plain-as}
 use Rattle.site_operations.specs.Operations.{worked}
 use Rattle.site.specs.Site.{committed}
 use Rattle.site_operations.specs.InWords.{opsIn}
-use Rattle.site_operations.proofs.Laws.{work-ops}
 use Rattle.records.specs.Records.{Record, opFits}
 use Rattle.protocol.specs.Network.{Network, siteAt, withSite, withRecord}
 use Rattle.protocol.specs.Steps.{recordOf}
-use Rattle.protocol.proofs.Keeps.{records-fit}
+use Rattle.protocol.proofs.Keeps.{worked-fits}
 use Rattle.network_layout.specs.InWords.{networkIn, SiteStep}
 use Rattle.network_layout.specs.At.{AtSite}
 use Rattle.network_layout.proofs.Performs.{sites-count, records-count, site-step-below}
@@ -71,8 +70,9 @@ fitting c =
     let table = siteAt (networkIn (A .state .now)) (A .site) .table in
     let os = opsIn (A .n) (A .ops .now) in
     let count : min (c .short .result) opsMost ≡ A .n = omega (arith, c .short .ensures, start .pre .few-ops) in
-    ap (every (opFits itemsMost)) (ap (λ (m : ℕ). opsIn m (done .site-commit .result)) count ∙ recorded done ∙ work-ops table table os)
-    ∙ records-fit itemsMost table os (start .pre .fitting)
+    ap (every (opFits itemsMost)) (ap (λ (m : ℕ). opsIn m (done .site-commit .result)) count ∙ recorded done)
+    ∙ worked-fits itemsMost table os
+    ∙ start .pre .fitting
 
 wide-requires : tie.Need-wide-requires
 wide-requires c κs = search needs

@@ -1,4 +1,4 @@
--- `commit` records the operations on the table as it was, writes it, and raises the own count.
+-- `commit` works the operations on the table, and raises the own count.
 use mathlib.Core.Path.{subst, _∙_}
 use mathlib.Core.List.{List}
 use Prim.Native.Nat.{min}
@@ -25,29 +25,17 @@ returns c =
     let A = c .before .before .before .args in
     record { changed = unchanged (A .part .now) (committed (opsIn (min (A .n) opsMost) (A .ops .now))) (c .if1 .taken); sized = λ h. absurd (c .if1 .taken h); unsized = λ _. none-laid }
 
-sub-record : tie.Need-sub-record
-sub-record c = search needs
+sub-work : tie.Need-sub-work
+sub-work c = search needs
 
-part-record-start : tie.Need-part-record-start
-part-record-start c = search needs
+part-work-start : tie.Need-part-work-start
+part-work-start c = search needs
 
-part-record-end : tie.Need-part-record-end
-part-record-end c = search needs
+part-work-end : tie.Need-part-work-end
+part-work-end c = search needs
 
-record-requires : tie.Need-record-requires
-record-requires c κs = search needs
-
-sub-write : tie.Need-sub-write
-sub-write c = search needs
-
-part-write-start : tie.Need-part-write-start
-part-write-start c = search needs
-
-part-write-end : tie.Need-part-write-end
-part-write-end c = search needs
-
-write-requires : tie.Need-write-requires
-write-requires c κs = search needs
+work-requires : tie.Need-work-requires
+work-requires c κs = search needs
 
 stamp-requires : tie.Need-stamp-requires
 stamp-requires c κs = search needs
@@ -66,19 +54,18 @@ returns-2 c =
     let p = c .before .before in
     let k = p .before .before in
     let q = k .before .before .before .before .before in
-    let r = q .before .before in
-    let A = r .before .before .before .before .before .before .args in
-    let size = r .before .before .before .if1 .left in
+    let A = q .before .before .before .before .before .args in
+    let size = q .before .before .if1 .left in
     let w = A .part .now in
-    let ys = q .write .last .0 in
+    let ys = q .work .last .0 in
     let os = opsIn (min (A .n) opsMost) (A .ops .now) in
     record {
       changed = changed w (committed os) (p .put-stamp .last .0) size
           (stepped (siteIn w) (siteIn (put w stampSize tableSize ys)) (siteIn (p .put-stamp .last .0)) (worked (siteIn w .table) os .table)
           raisedOrSame (stampOf (k .stamp .result)) (stampOf (p .before .raise .result))
-          (table-put w size ys os (q .write .kept .0 ∙ part-length w stampSize tableSize (omega arith)) (q .write .ensures))
+          (table-put w size ys os (q .work .kept .0 ∙ part-length w stampSize tableSize (omega arith)) (q .work .ensures .table-is))
           (k .stamp .ensures .means) (p .before .raise .ensures .means) (p .put-stamp .ensures .0)) (p .put-stamp .ensures .1);
-      sized = λ _. subst (λ (b : List ℤ). OpsLaid (min (A .n) opsMost) (worked b os .ops) (r .record .result)) (table-law w) (r .record .ensures);
+      sized = λ _. subst (λ (b : List ℤ). OpsLaid (min (A .n) opsMost) (worked b os .ops) (q .work .result)) (table-law w) (q .work .ensures .kept);
       unsized = λ h. absurd (h size);
     }
 
@@ -87,14 +74,10 @@ commit-spec =
     tie.close
     (tie.spec
     returns
-    sub-record
-    part-record-start
-    part-record-end
-    record-requires
-    sub-write
-    part-write-start
-    part-write-end
-    write-requires
+    sub-work
+    part-work-start
+    part-work-end
+    work-requires
     stamp-requires
     raise-requires
     put-stamp-requires

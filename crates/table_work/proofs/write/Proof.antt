@@ -1,20 +1,17 @@
 -- `write` does one operation after another: those from i on, done to the table as it is, give the table that all of them give.
-use mathlib.Core.Path.{_≡_, sym, ap, _∙_}
-use mathlib.Core.List.{List}
-use Prim.Native.Nat.{_≤_, _+_, _-_, min}
+use mathlib.Core.Path.{_≡_, sym, _∙_}
+use Prim.Native.Nat.{_≤_, _-_, min}
 use native.Mathlib.Omega.{arith}
-use lib.IntN.{ℤ}
-use lib.ListN.{length, drop}
-use Rattle.site_operations.specs.Operations.{work, worked}
+use lib.ListN.{length}
 use Rattle.site_operations.specs.InWords.{opsIn, tableIn}
 use Rattle.limits.specs.Limits.{opsMost}
-use Rattle.site_operations.proofs.Laws.{work-next, work-end}
+use Rattle.table_work.proofs.Progress.{TableLeft, table-next, table-done}
 use borrow.Author.Needs.{needs}
 use Rattle.table_work.proofs.write.Statement.{statement}
 use Rattle.table_work.proofs.write.Tie as tie
 
 abbrev Inv-loop : tie.InvT-loop
-Inv-loop table₀ ops n m i₀ table i = (i ≤ m) × (m ≡ min n opsMost) × (length table ≡ length table₀) × (worked (tableIn table₀) (opsIn (min n opsMost) ops) .table ≡ work (tableIn table₀) (tableIn table) (drop i (opsIn (min n opsMost) ops)) .table)
+Inv-loop table₀ ops n m i₀ table i = (i ≤ m) × (m ≡ min n opsMost) × (length table ≡ length table₀) × TableLeft (tableIn table₀) (opsIn (min n opsMost) ops) (tableIn table) i
 
 abbrev μ-loop : tie.MeasureT-loop
 μ-loop table₀ ops n m i₀ table i = m - i
@@ -39,13 +36,11 @@ loop-again c =
     let q = c .before .before .write-one in
     let h = c .before .before .before .before .before in
     let A = h .before .before .before .before .args in
-    let k = min (A .n) opsMost in
     let b = tableIn (A .table .now) in (
       omega arith,
       h .loop .inv .1,
       q .kept .0 ∙ h .loop .inv .2,
-      h .loop .inv .3 ∙ work-next b (tableIn (h .loop .table)) k (A .ops .now) (h .loop .i) (omega arith)
-          ∙ ap (λ (t : List ℤ). work b t (drop (h .loop .i + 1) (opsIn k (A .ops .now))) .table) (sym (q .ensures)),
+      table-next b (min (A .n) opsMost) (A .ops .now) (tableIn (h .loop .table)) (h .loop .i) (omega arith) (tableIn (q .last .0)) (q .ensures) (h .loop .inv .3),
     )
 
 same-length : tie.Need-same-length Inv-loop μ-loop
@@ -55,7 +50,7 @@ returns : tie.Need-returns Inv-loop μ-loop
 returns c =
     let h = c .before in
     let A = h .before .before .before .before .args in
-    sym (h .loop .inv .3 ∙ work-end (tableIn (A .table .now)) (tableIn (h .loop .table)) (min (A .n) opsMost) (A .ops .now) (h .loop .i) (omega arith))
+    sym (table-done (tableIn (A .table .now)) (min (A .n) opsMost) (A .ops .now) (tableIn (h .loop .table)) (h .loop .i) (omega arith) (h .loop .inv .3))
 
 pub write-spec : {M : Type 1} → statement M
 write-spec =
