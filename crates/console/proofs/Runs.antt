@@ -10,8 +10,8 @@ use lib.Seq.{take-all, take-add}
 use borrow.Author.Tests.{le-leb}
 use Rattle.protocol.specs.Network.{Network}
 use Rattle.network_layout.specs.InWords.{shaped, meaning}
-use Rattle.console_held.specs.declared.Held.{Held}
-use Rattle.console_blocks.specs.declared.Progress.{Progress}
+use Rattle.console_notation.specs.declared.Held.{Held}
+use Rattle.console_notation.specs.declared.Progress.{Progress}
 use Rattle.console_notation.specs.Lines.{ending, clipMost, lineMost, Told, told, used}
 use Rattle.console_blocks.specs.Promises.{Fed}
 use Rattle.console_held.specs.Held.{heldOf}

@@ -1,9 +1,9 @@
 // Scripts from a file descriptor, their answers to another: a block is read, its lines are answered, and the answers are written before the next is read.
-pub use console_blocks::Progress;
 pub use console_blocks::feed;
 pub use console_blocks::finish;
-pub use console_held::Held;
 pub use console_held::nothing;
+pub use console_notation::Held;
+pub use console_notation::Progress;
 use network_layout::WORDS;
 ghost use mathlib.Core.Path.{_≡_};
 ghost use mathlib.Core.List.{[]};

@@ -23,7 +23,7 @@ use Rattle.console_notation.proofs.Feeding.{used-line, used-stops, used-there}
 use Rattle.console_lines.specs.declared.Next.{Next}
 use Rattle.console_lines.specs.Promises.{Effect, Collected, Ended}
 use Rattle.console_lines.proofs.Steps.{effect-as, effect-then, nothing-left}
-use Rattle.console_held.specs.declared.Held.{Held}
+use Rattle.console_notation.specs.declared.Held.{Held}
 use Rattle.console_held.specs.Held.{heldOf, Holding}
 use Rattle.console_held.proofs.Holding.{holding-as}
 use Rattle.console_blocks.specs.declared.Advance.{Advance}

@@ -7,7 +7,7 @@ use Rattle.network_layout.specs.InWords.{shaped, meaning}
 use Rattle.console_notation.specs.Lines.{told, used}
 use Rattle.console_lines.specs.Promises.{Effect}
 use Rattle.console_held.specs.Held.{Holding}
-use Rattle.console_blocks.specs.declared.Progress.{Progress}
+use Rattle.console_notation.specs.declared.Progress.{Progress}
 use Rattle.console_blocks.specs.declared.Advance.{Advance}
 
 -- of a block the bytes that there is room to answer are used, and what is held is of the line that has not ended

@@ -1,5 +1,6 @@
 // A script's bytes, block by block: the lines that end are answered, and what is left of a block is held for the next one.
-use console_held::Held;
+use console_notation::Held;
+use console_notation::Progress;
 use network_layout::WORDS;
 use script_notation::Reply;
 ghost use mathlib.Core.Path.{_≡_};
@@ -11,14 +12,7 @@ ghost use Rattle.console_blocks.specs.Asked.{HeldWithRoom};
 ghost use Rattle.console_held.specs.Held.{heldOf};
 ghost use Rattle.console_blocks.specs.Promises.{Fed, Begun, Advanced};
 
-// How far a block has come: how many of its bytes are used, what is held of the line that has not ended, and where the answers end.
-pub struct Progress {
-    pub used: usize,
-    pub held: Held,
-    pub filled: usize,
-}
-
-// The same, and whether the words are then those of a network.
+// How far a block has come, and whether the words are then those of a network.
 pub struct Advance {
     pub used: usize,
     pub held: Held,

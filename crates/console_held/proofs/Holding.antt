@@ -10,7 +10,7 @@ use Rattle.words.proofs.Parts.{lent-put}
 use Rattle.lists.proofs.Lists.{take-min}
 use Rattle.decimal.specs.Decimal.{Printed}
 use Rattle.console_notation.specs.Lines.{clipMost, clipped}
-use Rattle.console_held.specs.declared.Held.{Held}
+use Rattle.console_notation.specs.declared.Held.{Held}
 use Rattle.console_held.specs.Held.{Holding}
 
 -- ---- bytes laid at a place

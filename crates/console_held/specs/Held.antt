@@ -4,7 +4,7 @@ use mathlib.Core.List.{List}
 use Prim.Native.Nat.{ℕ, _+_, _≤_}
 use lib.ListN.{length, take}
 use Rattle.console_notation.specs.Lines.{ending}
-use Rattle.console_held.specs.declared.Held.{Held}
+use Rattle.console_notation.specs.declared.Held.{Held}
 use Rattle.console_held.specs.declared.Added.{Added}
 
 -- the bytes that are held: the first `count` of 513, all of them where `count` is more

@@ -1,4 +1,5 @@
 // What is held of a line that has not ended: its first bytes, more behind them, and what the end of a script adds.
+use console_notation::Held;
 ghost use mathlib.Core.Path.{_≡_};
 ghost use mathlib.Core.List.{[], _++_};
 ghost use Prim.Native.Nat.{_-_, min};
@@ -6,12 +7,6 @@ ghost use lib.ListN.{take, drop};
 ghost use Rattle.decimal.specs.Decimal.{Printed};
 ghost use Rattle.console_notation.specs.Lines.{clipped};
 ghost use Rattle.console_held.specs.Held.{heldOf, Holding, Within, Completes, RoomFor};
-
-// The first bytes of a line that has not ended, `count` of them: all 513 where `count` is more. That a line is too long is told by 513.
-pub struct Held {
-    pub bytes: [u8; 513],
-    pub count: usize,
-}
 
 // Nothing is held before the first block.
 pub fn nothing() -> Held

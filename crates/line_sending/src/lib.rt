@@ -23,6 +23,6 @@ pub fn send(l: &mut [u32], m: Message)
     }
     let a = BOXES + words::wide(n) * MESSAGE;
     let e = a + MESSAGE;
-    messages::put_message(&mut l[a..e], m);
+    message_words::put_message(&mut l[a..e], m);
     words::store(l, HELD, n + 1);
 }

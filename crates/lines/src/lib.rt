@@ -59,12 +59,12 @@ pub fn first(l: &[u32]) -> Message
     ensures { λ r. ⌜ First (now (l .entry)) r ⌝ }
 {
     if l.len() != WORDS {
-        return messages::named(0);
+        return message_words::named(0);
     }
     if held_word(l) == 0 {
-        return messages::named(0);
+        return message_words::named(0);
     }
-    messages::message_in(&l[BOXES..SECOND])
+    message_words::message_in(&l[BOXES..SECOND])
 }
 
 // The name of message i: 256 where it is a dummy, 0 where there is none.
@@ -74,7 +74,7 @@ pub fn name(l: &[u32], i: usize) -> u32
     if held(l) <= i {
         return 0;
     }
-    messages::clipped(words::word(l, BOXES + i * MESSAGE))
+    message_words::clipped(words::word(l, BOXES + i * MESSAGE))
 }
 
 // How many messages the line holds, as a word.

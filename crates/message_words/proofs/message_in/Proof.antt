@@ -1,8 +1,8 @@
 -- `message_in` reads the name of a message, and of a dummy its timestamp.
 use Rattle.messages.proofs.Messages.{value-commit, value-dummy}
 use borrow.Author.Needs.{needs}
-use Rattle.messages.proofs.message_in.Statement.{statement}
-use Rattle.messages.proofs.message_in.Tie as tie
+use Rattle.message_words.proofs.message_in.Statement.{statement}
+use Rattle.message_words.proofs.message_in.Tie as tie
 
 word-requires : tie.Need-word-requires
 word-requires c κs = search needs

@@ -1,8 +1,8 @@
 -- `named` gives the name, and no timestamp.
 use Rattle.messages.proofs.Messages.{commit-value}
 use borrow.Author.Needs.{needs}
-use Rattle.messages.proofs.named.Statement.{statement}
-use Rattle.messages.proofs.named.Tie as tie
+use Rattle.message_words.proofs.named.Statement.{statement}
+use Rattle.message_words.proofs.named.Tie as tie
 
 zero-requires : tie.Need-zero-requires
 zero-requires c κs = search needs

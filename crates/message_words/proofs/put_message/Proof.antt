@@ -2,10 +2,10 @@
 use native.Mathlib.Omega.{arith}
 use lib.ListN.{length-set}
 use Rattle.timestamp.specs.Value.{stampOf}
 use Rattle.messages.proofs.Messages.{written-length, written-message, written-range}
 use borrow.Author.Needs.{needs}
-use Rattle.messages.proofs.put_message.Statement.{statement}
-use Rattle.messages.proofs.put_message.Tie as tie
+use Rattle.message_words.proofs.put_message.Statement.{statement}
+use Rattle.message_words.proofs.put_message.Tie as tie
 
 slice-write-w : tie.Need-slice-write-w
 slice-write-w c = search needs
