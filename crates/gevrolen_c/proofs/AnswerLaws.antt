@@ -1,7 +1,7 @@
 -- Answers as words: a call's answer, a file's part, many lines, and how many operations a record has.
-use mathlib.Core.Path.{_≡_, refl, sym, ap, ap₂, _∙_}
+use mathlib.Core.Path.{_≡_, refl, ap, ap₂, _∙_}
 use mathlib.Core.Bool.{Bool, true, false}
-use mathlib.Core.List.{List, [], _∷_, _++_}
+use mathlib.Core.List.{List, _∷_, _++_}
 use Prim.Native.Nat.{ℕ, _+_, _-_, _≤_}
 use native.Mathlib.Omega.{arith}
 use lib.IntN.{ℤ}
@@ -22,10 +22,8 @@ use Rattle.history_file.specs.Reading.{opUnits, opsFrom, opCount, opRead, recor
 use Rattle.history_file.specs.Promises.{noStep, stepOf, stepNumbered, partAnswered}
 use Rattle.history_file.proofs.Held.{valid-counts}
 use Rattle.history_file.proofs.Files.{accepted, numbered-refused, numbered-past, numbered-there}
-use Rattle.console_lines.specs.declared.Next.{Next}
-use Rattle.console_lines.specs.Promises.{Ended}
 use Rattle.c_answers.specs.Answers.{listed, valueWords}
-use Rattle.gevrolen_c.specs.Answers.{committedWords, dummiedWords, scheduledWords, Answered, startAnswered, fileWords, FileRead, LinesRun}
+use Rattle.gevrolen_c.specs.Answers.{committedWords, dummiedWords, scheduledWords, Answered, startAnswered, fileWords, FileRead}
 
 -- ---- a call's answer
 module _ (call : Call) (entry exit : List ℕ) (number parent : ℕ) (t : Stamp) (vs : List ℤ) (p : Performed call entry exit number parent t vs) (answer : List ℕ) where
@@ -91,10 +89,6 @@ module _ (b : List ℕ) where
 
 pub file-read : (b : List ℕ) (number : ℕ) (answer : List ℕ) → number ≡ fileNumber b → answer ≡ fileWords b → FileRead b number answer
 file-read b number answer n e = record { number-is = n; answer-is = e; part-is = rw e (part-there b) }
-
--- ---- many lines
-pub lines-run : {text entry exit out₀ out : List ℕ} {r : Next} (p : List ℕ) → p ≡ r .from ∷ (r .filled ∷ []) → Ended text entry exit out₀ out 0 r → LinesRun text entry exit out₀ out p
-lines-run p e x = rw e (record { walked = x .walked; used-is = sym (x .end-is) ∙ x .used-is })
 
 -- ---- a record: at most eight operations
 pub step-few : (b : List ℕ) (at sites items : ℕ) → length (stepOf b at sites items .found .ops) ≤ opsMost

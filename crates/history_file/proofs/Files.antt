@@ -7,7 +7,7 @@ use native.Mathlib.Omega.{arith}
 use lib.ListN.{length, getD, drop, length-drop}
 use lib.Seq.{drop-drop}
 use lib.Dec.{eqb, ltb, leb}
-use borrow.Author.Tests.{lt-ltb, le-ltb, le-leb, lt-leb, eq-eqb, ne-eqb, leb-true, ltb-false}
+use borrow.Author.Tests.{lt-ltb, le-ltb, le-leb, lt-leb, eq-eqb, ne-eqb, ltb-false}
 use Rattle.words.specs.Words.{part}
 use Rattle.lists.proofs.Every.{and-true}
 use Rattle.records.specs.Records.{Record}
@@ -179,9 +179,6 @@ module _ (b : List ℕ) (a : Accepted b) where
   accepted-rest : (leb (countRead b) 256 && recordsFill (sitesRead b) (itemsRead b) (countRead b) (partRead b)) ≡ true
   unfolding valid
   accepted-rest = and-true (trailerFits b) (leb (countRead b) 256 && recordsFill (sitesRead b) (itemsRead b) (countRead b) (partRead b)) (a .good) .1
-
-  pub accepted-few : countRead b ≤ 256
-  accepted-few = leb-true (countRead b) 256 (and-true (leb (countRead b) 256) (recordsFill (sitesRead b) (itemsRead b) (countRead b) (partRead b)) accepted-rest .0)
 
   pub accepted-fill : recordsFill (sitesRead b) (itemsRead b) (countRead b) (partRead b) ≡ true
   accepted-fill = and-true (leb (countRead b) 256) (recordsFill (sitesRead b) (itemsRead b) (countRead b) (partRead b)) accepted-rest .1

@@ -8,7 +8,6 @@ use native.Mathlib.Numerals.{add-one}
 use lib.ListN.{length, getD, set, drop, drop-of-length-le}
 use lib.Seq.{drop-cons}
 use Rattle.lists.specs.Lists.{every, everyFrom}
-use Rattle.lists.proofs.Lists.{set-each}
 
 -- ---- a test of each element, by a walk that leaves at the first that fails
 pub and-true : (a b : Bool) → (a && b) ≡ true → (a ≡ true) × (b ≡ true)
@@ -72,9 +71,6 @@ module _ {A : Type 0} (p : ℕ → A → Bool) where
   from-at i (x ∷ xs) (suc k) d e h =
       let next : i + suc k ≡ suc i + k = omega arith in
       ap (λ (m : ℕ). p m (getD xs k d)) next ∙ from-at (suc i) xs k d (and-true (p i x) (everyFrom p (suc i) xs) e .1) (omega arith)
-
-  pub from-set : (i : ℕ) (xs : List A) (k : ℕ) (y d : A) → everyFrom p i xs ≡ true → (k < length xs → p (i + k) y ≡ true) → everyFrom p i (set xs k y) ≡ true
-  from-set i xs k y d e f = from-all i (set xs k y) d (set-each (λ m x. p (i + m) x ≡ true) xs k y d (λ m h. from-at i xs m d e h) f)
 
   pub from-append : (i : ℕ) (xs ys : List A) → everyFrom p i xs ≡ true → everyFrom p (i + length xs) ys ≡ true → everyFrom p i (xs ++ ys) ≡ true
   from-append i [] ys e f = let first : i ≡ i + 0 = omega arith in ap (λ (m : ℕ). everyFrom p m ys) first ∙ f

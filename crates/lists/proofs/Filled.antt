@@ -3,7 +3,7 @@ use mathlib.Core.Path.{_≡_, refl, sym, ap, ap₂, _∙_}
 use mathlib.Core.List.{List, _∷_, _++_}
 use Prim.Native.Nat.{ℕ, zero, suc, _+_, _-_, _≤_, _<_}
 use native.Mathlib.Omega.{arith}
-use lib.ListN.{length, getD, set, take, drop, replicate, length-set, take-append-drop, List·getD-eq-default}
+use lib.ListN.{length, set, take, drop, replicate, length-set, take-append-drop, List·getD-eq-default}
 use lib.Seq.{drop-drop, drop-set-lt, length-take-le}
 use Rattle.lists.specs.Lists.{Filled, spell}
 

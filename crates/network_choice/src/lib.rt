@@ -1,6 +1,5 @@
 // Which message a schedule takes: of the parents' oldest messages the earliest.
 use timestamp::Timestamp;
-ghost use mathlib.Core.Path.{_≡_};
 ghost use Prim.Native.Nat.{_+_};
 ghost use Rattle.timestamp.specs.Value.{PlainValue};
 ghost use Rattle.limits.specs.Limits.{sitesMost};

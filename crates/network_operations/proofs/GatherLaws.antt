@@ -20,7 +20,7 @@ use Rattle.lists.specs.Numbers.{numberIf}
 use Rattle.protocol.specs.Steps.{noSuchSite, wrongLists, commitCauses, commitNumber, opsOf}
 use Rattle.protocol.specs.Calls.{Call, Outcome, commit, refused, perform}
 use Rattle.network_layout.specs.InWords.{meaning}
-use Rattle.network_operations.specs.Gathered.{kindFields, itemFields, valueFields, operationsCall, gatheredMost, Gathers}
+use Rattle.network_operations.specs.Gathered.{operationsCall, gatheredMost, Gathers}
 use Rattle.network_layout.specs.Promises.{Performed, CommitAnswered}
 use Rattle.lists.proofs.Numbers.{first-holds}
 use Rattle.network_commit.proofs.CommitLaws.{lists-many, commit-lists}

@@ -9,7 +9,6 @@ ghost use Rattle.placement.specs.Masks.{bit};
 ghost use Rattle.limits.specs.Limits.{sitesMost, heldMost};
 ghost use Rattle.lines.specs.Lines.{sentOrSame};
 ghost use Rattle.messages.specs.InWords.{messageOf};
-ghost use Rattle.network_layout.specs.Layout.{stateSize};
 ghost use Rattle.protocol.specs.Network.{withLine, lineAt, lineNumber};
 ghost use Rattle.protocol.specs.Steps.{someLineFull};
 ghost use Rattle.network_layout.specs.InWords.{networkIn, inRange, SentStep};

@@ -8,7 +8,7 @@ use native.Mathlib.Nat.{not-suc-le-zero, div-eq-of-lt, div-lt-iff-lt-mul, le-div
 use lib.ListN.{length, getD}
 use lib.Pow.{pow-pos, pow-mono, pow-add, field, mod-mod-pow, high}
 use lib.Dec.{eqb, ltb, leb}
-use borrow.Author.Tests.{eqb-true, eqb-false, leb-false, ltb-true, ltb-false}
+use borrow.Author.Tests.{eqb-true, eqb-false, ltb-true, ltb-false}
 use Rattle.lists.proofs.Some.{some-index}
 use Rattle.lists.proofs.Every.{and-true}
 use Rattle.placement.specs.Masks.{bit, maskOf}
@@ -81,9 +81,6 @@ module _ (sites : ℕ) (x : Item) (z : itemNumber sites x ≡ 0) where
   tests : (leb sites (x .primary) ≡ false) × (namesMissing sites (x .mask) ≡ false) × (bit (x .mask) (x .primary) ≡ false) × (namesBelow (x .primary) (x .mask) ≡ false)
   unfolding itemNumber
   tests = no-test (leb sites (x .primary)) (namesMissing sites (x .mask)) (bit (x .mask) (x .primary)) (namesBelow (x .primary) (x .mask)) z
-
-  pub item-primary : x .primary < sites
-  item-primary = leb-false sites (x .primary) (tests .0)
 
 -- its copies are at sites above its primary
 module _ (sites : ℕ) (x : Item) (k : ℕ) (z : itemNumber sites x ≡ 0) (b : bit (x .mask) k ≡ true) where

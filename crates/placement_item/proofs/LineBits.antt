@@ -1,12 +1,12 @@
 -- The bits of all lines: a mask of sites shifted to the place of the site that its lines start from.
 use mathlib.Core.Path.{_≡_, refl, sym, ap, _∙_}
-use mathlib.Core.Bool.{Bool, true, false, _&&_}
+use mathlib.Core.Bool.{Bool, true, false}
 use Prim.Native.Nat.{ℕ, _+_, _-_, _*_, _/_, _%_, _^_, _≤_, _<_}
 use native.Mathlib.Omega.{arith}
 use native.Mathlib.Nat.{div-eq-of-lt, mod-lt}
 use lib.Dec.{eqb, ltb}
 use lib.Pow.{low, pow-pos, pow-mono, shl-lt, shl-exact, shl-shr, shr-shr}
-use borrow.Author.Tests.{ltb-true, ltb-false, eq-eqb, ne-eqb}
+use borrow.Author.Tests.{ltb-true, ltb-false}
 use Rattle.limits.specs.Limits.{sitesMost}
 use Rattle.placement.specs.Masks.{bit, Names}
 use Rattle.placement.specs.Placement.{Item, givesLine}

@@ -13,7 +13,7 @@ use Rattle.lists.proofs.Every.{and-true}
 use Rattle.timestamp_order.specs.Timestamp.{Stamp}
 use Rattle.timestamp_order.specs.Order.{notLater, isEarlier}
 use Rattle.timestamp_order.specs.Made.{madeBy}
-use Rattle.site_operations.specs.Operations.{Op, reads, noOp, touches}
+use Rattle.site_operations.specs.Operations.{Op, noOp, touches}
 use Rattle.site.specs.Site.{Site, committed}
 use Rattle.placement.specs.Placement.{Item, owns, copies, isLine}
 use Rattle.lists.specs.Numbers.{firstNumber}

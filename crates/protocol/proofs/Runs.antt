@@ -11,7 +11,7 @@ use lib.ListN.{length, getD, take, length-replicate, getD-replicate}
 use lib.Dec.{eqb}
 use Rattle.timestamp_order.specs.Timestamp.{Stamp}
 use Rattle.timestamp_order.specs.Order.{orderBy, notLater, isEarlier, IsEarlier}
-use Rattle.site_operations.specs.Operations.{reads, worked, noOp, touches}
+use Rattle.site_operations.specs.Operations.{worked, noOp, touches}
 use Rattle.site.specs.InWords.{tableSize}
 use Rattle.site_operations.proofs.Works.{wrote, untouched, worked-length, getD-worked, ReadsFrom, worked-same}
 use Rattle.records.specs.Records.{Record}

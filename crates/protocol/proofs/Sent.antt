@@ -25,9 +25,6 @@ line-room n i gets e c h t =
     leb-false heldMost (length (lineAt n i c .messages)) (rw t at z)
 
 module _ (n : Network) (gets : ℕ → Bool) (i : ℕ) (m : Message) where
-  pub sent-none : n ≡ withLines n (sentTo gets i m 0 (n .lines))
-  sent-none = refl
-
   pub sent-next : (c : ℕ) → (gets c ≡ true → length (lineAt n i c .messages) < heldMost) → (a b : Network)
       → a ≡ withLines n (sentTo gets i m c (n .lines)) → b ≡ cond (gets c) (withLine a (lineNumber i c) (sentOrSame m (lineAt a i c))) a
       → b ≡ withLines n (sentTo gets i m (c + 1) (n .lines))

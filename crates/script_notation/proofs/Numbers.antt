@@ -5,7 +5,7 @@ use mathlib.Core.List.{List, [], _∷_}
 use mathlib.Core.Option.{Option, none, some}
 use Prim.Native.Nat.{ℕ, suc, _+_, _-_, _≤_, _<_}
 use native.Mathlib.Omega.{arith}
-use lib.ListN.{length, take, drop, length-drop}
+use lib.ListN.{length, take, drop}
 use lib.Seq.{take-all}
 use lib.Dec.{eqb, ltb, leb}
 use borrow.Author.Tests.{le-leb, leb-true, leb-false, eqb-true, ltb-true, ltb-false}
@@ -14,7 +14,7 @@ use Rattle.decimal.specs.Decimal.{isDigit, extraZero, valueFrom, greatest, natu
 use Rattle.protocol.specs.Calls.{Call}
 use Rattle.script_notation.specs.Fields.{space, position, fields, fieldsFrom}
 use Rattle.script_notation.specs.Parse.{on, consBoth, all, one, two}
-use Rattle.script_notation.proofs.Places.{place-within, fields-first, fields-end, field-next}
+use Rattle.script_notation.proofs.Places.{fields-first, fields-end, field-next}
 
 -- ---- a space is no digit
 with-space : (l : List ℕ) → position space l < length l → every isDigit l ≡ false

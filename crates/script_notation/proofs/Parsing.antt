@@ -1,6 +1,6 @@
 -- Laws of the operations and the items of a line, one at a time.
 use mathlib.Core.Path.{_≡_, refl, sym, ap, _∙_}
-use mathlib.Core.Bool.{Bool, true, false, cond}
+use mathlib.Core.Bool.{Bool, cond}
 use mathlib.Core.List.{List, [], _∷_, _++_, map, append-nil}
 use mathlib.Core.Option.{Option, none, some}
 use Prim.Native.Nat.{ℕ, suc, _+_, _-_, _≤_, _<_, min}
@@ -9,7 +9,6 @@ use native.Mathlib.Numerals.{add-one}
 use lib.IntN.{ℤ, pos}
 use lib.ListN.{length, getD, take, drop, set, drop-of-length-le, length-append, length-map}
 use lib.Seq.{drop-cons, length-take-le, take-all, take-at}
-use lib.Dec.{eqb}
 use borrow.Author.Tests.{eq-eqb, ne-eqb, le-leb, lt-leb}
 use Rattle.decimal.specs.Decimal.{natural, signed}
 use Rattle.site_operations.specs.Operations.{Op}
@@ -50,18 +49,6 @@ pub op-other : (l : List ℕ) → (length l ≡ 0 → ⊥) → (getD l 0 0 ≡ 1
 unfolding operation
 op-other [] n m k = absurd (n refl)
 op-other (x ∷ xs) n m k = rw (ne-eqb x 114 m, ne-eqb x 119 k)
-
--- an operation has two bytes at least
-pub op-long : (l : List ℕ) (o : Op) → some o ≡ operation l → 2 ≤ length l
-unfolding operation natural position
-op-long [] o e = let z : _≡_ {A = ℕ} 0 1 = cc in absurd (omega arith)
-op-long (x ∷ []) o e = go (eqb x 114) (eqb x 119) e
-  where
-    go : (a b : Bool) → some o ≡ cond a none (cond b none none) → 2 ≤ 1
-    go true b f = let z : _≡_ {A = ℕ} 0 1 = cc in absurd (omega arith)
-    go false true f = let z : _≡_ {A = ℕ} 0 1 = cc in absurd (omega arith)
-    go false false f = let z : _≡_ {A = ℕ} 0 1 = cc in absurd (omega arith)
-op-long (x ∷ (y ∷ ys)) o e = omega arith
 
 -- ---- operations and items from the lists of their fields
 ops-snoc : (ks is : List ℕ) (vs : List ℤ) (k i : ℕ) (v : ℤ) → length is ≡ length ks → length vs ≡ length ks

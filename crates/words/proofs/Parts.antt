@@ -5,7 +5,7 @@ use Prim.Native.Nat.{ℕ, zero, suc, _+_, _-_, _≤_, _<_}
 use native.Mathlib.Omega.{arith}
 use native.Mathlib.Numerals.{add-one}
 use native.Mathlib.Nat.{not-suc-le-zero, zero-add}
-use lib.ListN.{length, getD, set, take, drop, take-append-drop, length-append, length-drop}
+use lib.ListN.{length, getD, set, take, drop, length-append, length-drop}
 use lib.Seq.{take-take, take-at, drop-at, take-append-le, drop-append-le, drop-append-add, take-append-add, drop-drop, length-take-le, set-split, take-nil, getD-take, getD-drop}
 use Rattle.words.specs.Words.{part, put}
 
@@ -101,10 +101,6 @@ put-in w off k a n ys h g s =
     ∙ ap (λ (j : ℕ). take j (put (drop off w) a n ys)) e
     ∙ take-put (drop off w) a n (k - a - n) ys (omega (arith, length-drop off w)) s
     ∙ ap (λ (j : ℕ). put (take j (drop off w)) a n ys) (sym e)
-
--- a part put back as it was
-pub put-same : (w : List ℕ) (a n : ℕ) → put w a n (part w a n) ≡ w
-put-same w a n = ap (λ (z : List ℕ). take a w ++ z) (take-append-drop n (drop a w)) ∙ take-append-drop a w
 
 -- one word
 pub set-put : (w : List ℕ) (i v : ℕ) → i < length w → set w i v ≡ put w i 1 (v ∷ [])

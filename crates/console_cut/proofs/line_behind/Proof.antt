@@ -1,6 +1,5 @@
 -- `line_behind` starts one byte behind the newline.
-use mathlib.Core.Path.{_≡_, refl}
-use Prim.Native.Nat.{_+_}
+use mathlib.Core.Path.{refl}
 use borrow.Author.Needs.{needs}
 use Rattle.console_cut.proofs.line_behind.Statement.{statement}
 use Rattle.console_cut.proofs.line_behind.Tie as tie

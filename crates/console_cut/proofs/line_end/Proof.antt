@@ -1,7 +1,5 @@
 -- `line_end` finds the newline.
-use mathlib.Core.Path.{_≡_}
 use borrow.Author.Needs.{needs}
-use Rattle.console_cut.specs.Cuts.{endFrom}
 use Rattle.console_cut.proofs.line_end.Statement.{statement}
 use Rattle.console_cut.proofs.line_end.Tie as tie
 

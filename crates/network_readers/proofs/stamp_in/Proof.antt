@@ -1,5 +1,5 @@
 -- `stamp_in` refuses with its number, or reads the timestamp.
-use mathlib.Core.Path.{refl, sym, ap, _∙_}
+use mathlib.Core.Path.{sym, ap, _∙_}
 use Prim.Native.Nat.{ℕ}
 use Rattle.protocol.specs.Network.{siteAt}
 use Rattle.network_layout.specs.InWords.{networkIn}

@@ -1,5 +1,5 @@
 -- `lines_by` shifts the mask to the place of the primary.
-use mathlib.Core.Path.{sym, _∙_}
+use mathlib.Core.Path.{_∙_}
 use native.Mathlib.Omega.{arith}
 use Prim.Native.Nat.{_/_, _%_}
 use Rattle.limits.specs.Limits.{sitesMost}

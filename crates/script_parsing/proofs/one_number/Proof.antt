@@ -1,15 +1,11 @@
 -- `one_number` takes all that stands behind the letter and its space.
-use mathlib.Core.Path.{_≡_, ap, _∙_}
-use mathlib.Core.List.{List}
-use mathlib.Core.Option.{Option, some}
-use Prim.Native.Nat.{ℕ, _-_}
+use mathlib.Core.Path.{ap, _∙_}
+use Prim.Native.Nat.{_-_}
 use native.Mathlib.Omega.{arith}
-use lib.ListN.{length, take, drop, length-drop}
+use lib.ListN.{length, drop, length-drop}
 use lib.Seq.{take-all}
 use Rattle.decimal.proofs.Values.{number-means}
 use Rattle.decimal.specs.Decimal.{natural}
-use Rattle.protocol.specs.Calls.{Call}
-use Rattle.script_notation.specs.Parse.{on}
 use Rattle.script_notation.proofs.Numbers.{one-number, no-number, of-number}
 use borrow.Author.Needs.{needs}
 use Rattle.script_parsing.proofs.one_number.Statement.{statement}
