@@ -108,15 +108,14 @@ module _ (n : Network) (k x : ℕ) where
             order-is : (c : Bool) → precedesBy byNumber b (stampOf t) j (stampOf s) ≡ c → comesBefore b j ≡ c
             order-is c e = compared b j t s c (so-far .stamped low) is e
 
-            pub taken-later : j < recordsMost → precedesBy byNumber b (stampOf t) j (stampOf s) ≡ true → LastStamped n k x (j + 1) j s
-            taken-later few e =
+            -- the one that comes last of the two
+            pub taken-last : j < recordsMost → (c : Bool) → precedesBy byNumber b (stampOf t) j (stampOf s) ≡ c → LastStamped n k x (j + 1) (cond c j b) (cond c s t)
+            taken-last few true e =
                 record {
                   last = next j (some j) (omega arith) (named j few) (found-later place (places-apart (n .items)) (n .history) k x j b writer last (order-is true e));
                   stamped = λ _. is;
                 }
-
-            pub kept : precedesBy byNumber b (stampOf t) j (stampOf s) ≡ false → LastStamped n k x (j + 1) b t
-            kept e =
+            taken-last few false e =
                 record {
                   last = next b (some b) (so-far .last .few) (named b low) (found-kept place (places-apart (n .items)) (n .history) k x j b writer last (order-is false e));
                   stamped = so-far .stamped;

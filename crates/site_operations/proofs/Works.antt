@@ -179,7 +179,6 @@ pub worked-reads : (table : List ℤ) (os : List Op) → ((a : ℕ) → a < leng
 worked-reads table os low a l r =
     let kept = worked-kinds table os a in
     let b : a < length os = omega (arith, worked-size table os) in
-    let y = getD os a noOp .item in
     worked-read table os a b (ap (λ (k : ℕ). eqb k 0) (sym (kept .0)) ∙ r) (low a b)
     ∙ ap (λ (x : ℕ). wrote x (getD table x (pos 0)) (take a os)) (sym (kept .1))
     ∙ sym (wrote-worked table (take a os) _ _)

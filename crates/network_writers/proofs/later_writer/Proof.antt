@@ -1,7 +1,7 @@
 -- `later_writer` takes record j where it writes the item before the reader and there was none, or that one comes before it.
 use mathlib.Core.Path.{_≡_, sym, ap, _∙_}
-use mathlib.Core.Bool.{true}
-use Prim.Native.Nat.{ℕ}
+use mathlib.Core.Bool.{Bool, true, false, cond}
+use Prim.Native.Nat.{ℕ, _+_}
 use borrow.Author.Tests.{not-true, not-false}
 use Rattle.timestamp_order.specs.Order.{byNumber}
 use Rattle.timestamp.specs.Value.{stampOf}
@@ -9,8 +9,8 @@ use Rattle.site_operations.specs.Operations.{touches}
 use Rattle.protocol.specs.Network.{nthRecord}
 use Rattle.origins.specs.Statements.{precedesBy}
 use Rattle.network_layout.specs.InWords.{networkIn}
-use Rattle.network_writers.specs.Writers.{StampIs}
-use Rattle.network_writers.proofs.WriterLaws.{not-written, not-before, taken-first, taken-later, kept}
+use Rattle.network_writers.specs.Writers.{StampIs, LastStamped}
+use Rattle.network_writers.proofs.WriterLaws.{not-written, not-before, taken-first, taken-last}
 use borrow.Author.Needs.{needs}
 use Rattle.network_writers.proofs.later_writer.Statement.{statement}
 use Rattle.network_writers.proofs.later_writer.Tie as tie
@@ -77,29 +77,32 @@ returns-3 c =
 precedes-requires-2 : tie.Need-precedes-requires-2
 precedes-requires-2 c κs = search needs
 
-returns-4 : tie.Need-returns-4
-returns-4 c =
-    let found = c .before .before in
+-- record j was read, and the best so far compared with it
+abbrev readAt : tie.After-precedes2 → tie.After-record-stamp
+readAt c = c .before .before .before .before .before
+
+abbrev startOf : tie.After-precedes2 → tie.Start
+startOf c = readAt c .before .before .before .before .before
+
+-- the one of the two that comes last
+last-of-two : (c : tie.After-precedes2) (b : Bool) → c .precedes2 .result ≡ b
+    → LastStamped (networkIn (startOf c .args .state .now)) (startOf c .args .reader .number) (startOf c .args .item) (startOf c .args .j + 1) (cond b (startOf c .args .j) (startOf c .args .best .number)) (cond b (readAt c .record-stamp .result) (startOf c .args .best .stamp))
+last-of-two c b e =
+    let found = c .before in
     let before = found .before .before in
-    let read = before .before .before in
-    let start = read .before .before .before .before .before in
+    let read = readAt c in
+    let start = startOf c in
     let A = start .args in
-    let order : precedesBy byNumber (A .best .number) (stampOf (A .best .stamp)) (A .j) (stampOf (read .record-stamp .result)) ≡ c .before .precedes2 .result = sym (c .before .precedes2 .ensures) in
-    taken-later (networkIn (A .state .now)) (A .reader .number) (A .item) (A .j) (A .best .number) (A .best .stamp) (start .pre .so-far)
+    let order : precedesBy byNumber (A .best .number) (stampOf (A .best .stamp)) (A .j) (stampOf (read .record-stamp .result)) ≡ c .precedes2 .result = sym (c .precedes2 .ensures) in
+    taken-last (networkIn (A .state .now)) (A .reader .number) (A .item) (A .j) (A .best .number) (A .best .stamp) (start .pre .so-far)
     (written (read .before)) (A .reader .stamp) (read .record-stamp .result) (start .pre .reader) (stamp-read read) (precedes-reader before)
-    (found .if3 .left) (start .pre .next .few) (order ∙ c .if4 .taken)
+    (found .if3 .left) (start .pre .next .few) b (order ∙ e)
+
+returns-4 : tie.Need-returns-4
+returns-4 c = last-of-two (c .before) true (c .if4 .taken)
 
 returns-5 : tie.Need-returns-5
-returns-5 c =
-    let found = c .before .before in
-    let before = found .before .before in
-    let read = before .before .before in
-    let start = read .before .before .before .before .before in
-    let A = start .args in
-    let order : precedesBy byNumber (A .best .number) (stampOf (A .best .stamp)) (A .j) (stampOf (read .record-stamp .result)) ≡ c .before .precedes2 .result = sym (c .before .precedes2 .ensures) in
-    kept (networkIn (A .state .now)) (A .reader .number) (A .item) (A .j) (A .best .number) (A .best .stamp) (start .pre .so-far)
-    (written (read .before)) (A .reader .stamp) (read .record-stamp .result) (start .pre .reader) (stamp-read read) (precedes-reader before)
-    (found .if3 .left) (order ∙ c .if4 .left)
+returns-5 c = last-of-two (c .before) false (c .if4 .left)
 
 pub later-writer-spec : {M : Type 1} → statement M
 later-writer-spec =
