@@ -6,7 +6,8 @@
 - Names, numbers, sentences and sizes are the same in the header, the Python module, the Rust crate and the table of docs/USING.md.
 - The Python module raises for numbers that do not fit and for wrong types, before any call.
 - The Python sessions of the module, of README.md and of docs/USING.md answer as they say; so do the programs in C and Rust, where a block of text follows them.
-- The C example answers as the worked example's script, and ends with status 0; 100,000 steps on each of two networks answer what their rounds add up to.
+- Two timestamps side by side are the same text in C, Rust and Python; in Python by one comparison, whose answer says where they part.
+- The C example answers as the worked example's script, with two timestamps behind it, and ends with status 0; 100,000 steps on each of two networks answer what their rounds add up to.
 """
 import doctest
 import os
@@ -84,6 +85,8 @@ def check_arguments():
         lambda: network.export(-1),
         lambda: gevrolen.record(b"", -1),
         lambda: gevrolen.compare((0, [(0, 0)] * 9), (0, [])),
+        lambda: gevrolen.compare((0, []), (2**32, [])),
+        lambda: gevrolen.side_by_side((0, []), (0, [(0, -1)])),
     ]
     wrong_type = [
         lambda: network.dummy("0"),
@@ -93,6 +96,12 @@ def check_arguments():
         lambda: network.commit(0, [(1, 0, None)]),
         lambda: network.script("d 0"),
         lambda: gevrolen.read(16),
+        lambda: gevrolen.compare((0, []), (0, [(0, "1")])),
+        lambda: gevrolen.side_by_side((0.0, []), (0, [])),
+        lambda: gevrolen.Stamp(0, ()) < gevrolen.Stamp(1, ()),
+        lambda: gevrolen.Stamp(0, ()) >= (1, ()),
+        lambda: max(gevrolen.Stamp(0, ()), gevrolen.Stamp(0, ((0, 1),))),
+        lambda: sorted([(0, ()), gevrolen.Stamp(1, ())]),
     ]
     for fault, calls in ((OverflowError, too_large), (TypeError, wrong_type)):
         for k, call in enumerate(calls):
@@ -156,8 +165,85 @@ def run_session(name, text):
         complaints.append("the Python session of %s" % name)
 
 
+# ---- two timestamps side by side
+HEARD, HEARD_MORE = (0, ((0, 1), (1, 1))), (0, ((0, 1), (2, 1), (3, 4)))
+SHORT, LONG = (7, ((0, 1),)), (7, ((0, 1), (2, 5)))
+WIDE = (0, ((4294967295, 4294967295),))
+EIGHT, ANOTHER = [(1, tuple((site, 10) for site in range(7)) + ((7, count),)) for count in (11, 9)]
+
+SIDE_BY_SIDE = [
+    (HEARD, HEARD_MORE, ["epoch 0   epoch 0", "0.1       0.1", "1.1     > 2.1", "          3.4"]),
+    (HEARD_MORE, HEARD, ["epoch 0   epoch 0", "0.1       0.1", "2.1     < 1.1", "3.4"]),
+    (SHORT, LONG, ["epoch 7   epoch 7", "0.1       0.1", "        < 2.5"]),
+    (LONG, SHORT, ["epoch 7   epoch 7", "0.1       0.1", "2.5     >"]),
+    (SHORT, HEARD, ["epoch 7 > epoch 0", "0.1       0.1", "          1.1"]),
+    ((9, ((3, 1),)), (10, ((3, 1),)), ["epoch 9 < epoch 10", "3.1       3.1"]),
+    ((4294967295, ()), (0, ()), ["epoch 4294967295 > epoch 0"]),
+    ((0, ()), (0, ()), ["epoch 0   epoch 0"]),
+    ((0, ((1, 1), (2, 1))), (0, ((1, 2), (2, 1))), ["epoch 0   epoch 0", "1.1     < 1.2", "2.1       2.1"]),
+    (WIDE, WIDE, ["epoch 0                 epoch 0", "4294967295.4294967295   4294967295.4294967295"]),
+    (EIGHT, ANOTHER, ["epoch 1   epoch 1"] + ["%d.10      %d.10" % (site, site) for site in range(7)] + ["7.11    > 7.9"]),
+]
+
+C_PROGRAM = """#define main example
+#include "%s"
+#undef main
+
+int main(void)
+{
+    const struct gevrolen_stamp pairs[][2] = {%s};
+    for (size_t k = 0; k < sizeof pairs / sizeof pairs[0]; k++)
+        side_by_side(&pairs[k][0], &pairs[k][1]);
+    return 0;
+}
+"""
+
+RUST_PROGRAM = """use gevrolen::{side_by_side, Stamp};
+
+fn main() {
+    let stamp = |epoch, tuples: &[(u32, u32)]| Stamp::new(epoch, tuples).unwrap();
+    for (first, second) in [%s] {
+        println!("{}", side_by_side(&first, &second));
+    }
+}
+"""
+
+
+def c_stamp(stamp, length=None):
+    epoch, tuples = stamp
+    return "{%d, %d, {%s}}" % (epoch, len(tuples) if length is None else length, ", ".join("{%d, %d}" % one for one in tuples or ((0, 0),)))
+
+
+def rust_stamp(stamp):
+    return "stamp(%d, &%r)" % (stamp[0], list(stamp[1]))
+
+
+def compare_texts(scratch):
+    for a, b, lines in SIDE_BY_SIDE:
+        expect("side_by_side(%r, %r)" % (a, b), gevrolen.side_by_side(a, b).split("\n"), lines)
+    wanted = [line for _, _, lines in SIDE_BY_SIDE for line in lines]
+    pairs = ["{%s, %s}" % (c_stamp(a), c_stamp(b)) for a, b, _ in SIDE_BY_SIDE]
+    pairs.append("{%s, %s}" % (c_stamp(EIGHT, 77), c_stamp(ANOTHER, 2**32 - 1)))  # of the last pair again, all eight tuples
+    source = scratch / "pairs.c"
+    source.write_text(C_PROGRAM % (ROOT / "bindings" / "c" / "example.c", ", ".join(pairs)))
+    expect("side_by_side in C", run_c(source, scratch).splitlines(), wanted + SIDE_BY_SIDE[-1][2])
+    pairs = ", ".join("(%s, %s)" % (rust_stamp(a), rust_stamp(b)) for a, b, _ in SIDE_BY_SIDE)
+    source = scratch / "pairs.rs"
+    source.write_text(RUST_PROGRAM % pairs)
+    expect("side_by_side in Rust", run_rust(source, scratch).splitlines(), wanted)
+
+
+def check_one_comparison():
+    """Another answer in the comparison's place puts the mark elsewhere, and there is none for a second question."""
+    compare, answers = gevrolen.compare, [gevrolen.Compared(-1, 1)]
+    gevrolen.compare = lambda a, b: answers.pop()
+    expect("side_by_side by another answer", gevrolen.side_by_side(HEARD, HEARD).split("\n"), ["epoch 0   epoch 0", "0.1       0.1", "1.1     < 1.1"])
+    gevrolen.compare = compare
+
+
 def run_example(scratch):
-    expect("bindings/c/example.c", run_c(ROOT / "bindings" / "c" / "example.c", scratch), (ROOT / "crates" / "gevrolen" / "stdout").read_text())
+    told = (ROOT / "crates" / "gevrolen" / "stdout").read_text().splitlines() + ["epoch 0   epoch 0", "0.1       0.1", "1.1     > 2.1"]
+    expect("bindings/c/example.c", run_c(ROOT / "bindings" / "c" / "example.c", scratch).splitlines(), told)
 
 
 # In each round of bench/speed.c the numbers of the refused steps and the own counts of the timestamps that were taken, one after another: 18 in nine rounds, 10,000 in 10,000.
@@ -172,9 +258,11 @@ def run_steps(scratch):
 def main():
     compare_names()
     check_arguments()
+    check_one_comparison()
     run_session("gevrolen.py", gevrolen.__doc__)
     with tempfile.TemporaryDirectory() as name:
         scratch = pathlib.Path(name)
+        compare_texts(scratch)
         run_example(scratch)
         run_steps(scratch)
         for path in DOCUMENTS:

@@ -10,6 +10,8 @@
     # ..                        a comment, answered as it is
     w SITE                      waiting report: the number, how many items, the items in rising order
     t NUMBER OPERATION          origin of a read, by its record and operation: the number, the kind (1 start, 2 commit; 0 where refused), the commit's record number
+    v EPOCH LENGTH TUPLES ..    two timestamps compared, each as a struct: its epoch, its length field, the tuples in front of places full of EE (- for none). The order,
+                                whether the epochs differ (1) or not (0), how many leading tuples are shared; then the same with the two exchanged
     k PLACE WORD                a word of the state set by hand, answered as it is
     o SITE KIND                 commit by two records: a read of item 0, and an operation of that kind on item 1 with the value -1
     u SITE KINDS ITEMS VALUES   commit by separate lists of so many entries, writes of item 0
@@ -61,6 +63,10 @@ class Model:
         number, kind, record = self.engine.origin(k, a)
         return number, ("", "start", "commit").index(kind), record
 
+    def compare(self, first, second):
+        order, shared = model.compare(layout.stamp_lent(first), layout.stamp_lent(second))
+        return (order, 1, 0) if shared is None else (order, 0, shared)
+
     def export(self, size):
         number, made = self.engine.export(size)
         return number, len(made), made + bytes([EE]) * (size - len(made))
@@ -80,6 +86,12 @@ class Model:
 
 def eight(operations):
     return operations + ((0, 0, 0),) * (8 - len(operations))
+
+
+def stamp_struct(epoch, length, tuples):
+    """The words of a timestamp's struct, places that are not given full of EE."""
+    given = [] if tuples == "-" else [int(n) for one in tuples.split(",") for n in one.split(".")]
+    return [int(epoch), int(length)] + given + [0x01010101 * EE] * (layout.STAMP - 2 - len(given))
 
 
 def joined(numbers):
@@ -102,7 +114,7 @@ class Calls:
     def answer(self, line):
         letter, text = line[:1].decode(), line[2:].decode()
         plain = {"#": lambda: line.decode(), "b": self.file.hex, "h": self.read, "a": self.sums, "f": self.check}
-        named = {"=": lambda: self.put(b"", text), "+": lambda: self.put(self.file, text)}
+        named = {"=": lambda: self.put(b"", text), "+": lambda: self.put(self.file, text), "v": lambda: self.compare(*text.split(" "))}
         numbered = {"w": self.waiting, "t": self.origin, "k": self.poke, "o": self.records, "u": self.lists, "x": self.export, "r": self.record, "@": self.record_from}
         if letter in numbered:
             return numbered[letter](*[int(field) for field in text.split(" ")])
@@ -119,6 +131,10 @@ class Calls:
 
     def origin(self, k, a):
         return joined(self.side.origin(k, a))
+
+    def compare(self, *fields):
+        first, second = stamp_struct(*fields[:3]), stamp_struct(*fields[3:])
+        return joined(self.side.compare(first, second) + self.side.compare(second, first))
 
     def poke(self, place, word):
         self.side.poke(place, word)

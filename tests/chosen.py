@@ -13,7 +13,7 @@ from limits import HELD, ITEMS, OPERATIONS, RECORDS, SITES, U32
 # How often each call stands in a list. A run takes one of these by chance: what it does most decides which corners it reaches.
 BALANCED = dict(
     commit=8, commit_lists=2, dummy=4, epoch=1, deliver=14, schedule=12, waiting=2, table=2, stamp=2, line=2, origin=2,
-    export=1, script=4, run=1, poke=2, copy=1, set_up=1, state=0.2, noise=0.1, file=2, record_from=1, compare=2,
+    export=1, script=4, run=1, poke=2, copy=1, set_up=1, state=0.2, noise=0.1, file=2, record_from=1, compare=2, compare_lent=2,
 )
 MOODS = [
     BALANCED,
@@ -54,7 +54,25 @@ def any_stamp(rng):
     """A timestamp that need not be one that a site made; comparing takes any."""
     if rng.random() < 0.7:
         return stamp(rng, rng.randrange(SITES))
-    return (rng.choice([0, 1]), tuple((rng.choice([0, 1, 2, U32]), rng.choice([0, 1, U32])) for _ in range(rng.randint(0, SITES))))
+    length = rng.choice([SITES, rng.randint(0, SITES)])
+    return (rng.choice([0, 1]), tuple((rng.choice([0, 1, 2, U32]), rng.choice([0, 1, U32])) for _ in range(length)))
+
+
+def beside(rng, first):
+    """A timestamp to compare with another: any, the same, of another epoch, a front of it, or one that parts from it at a tuple."""
+    epoch, tuples = first
+    other = any_stamp(rng)
+    k = rng.choice([rng.randint(0, len(tuples)), max(0, len(tuples) - 1)])
+    site, count = tuples[k] if k < len(tuples) else (SITES, 0)
+    turned = rng.choice([(site, word(rng)), (word(rng), count)])
+    near = [(epoch, tuples[:k] + other[1]), (epoch, tuples[:k] + (turned,) + tuples[k + 1 :])]
+    epoch, tuples = rng.choice([other, first, (other[0], tuples), (epoch, tuples[:k])] + near)
+    return (epoch, tuples[:SITES])
+
+
+def struct(rng):
+    """The words of a timestamp as it is lent: a length field that may be above eight, few numbers, so that two are often the same."""
+    return [rng.choice([0, 1]), rng.choice([*range(SITES + 1), 9, 77, U32])] + [rng.choice([0, 1, U32]) for _ in range(2 * SITES)]
 
 
 def record(rng, sites, items):
@@ -411,9 +429,13 @@ class Chooser:
 
     def compare(self, engine):
         first = any_stamp(self.rng)
-        second = any_stamp(self.rng)
-        if self.rng.random() < 0.5:
-            # timestamps that share a front
-            cut = self.rng.randint(0, len(first[1]))
-            second = (first[0], (first[1][:cut] + second[1])[:SITES])
-        return ("compare", first, second)
+        both = [first, beside(self.rng, first)]
+        self.rng.shuffle(both)
+        return ("compare", *both)
+
+    def compare_lent(self, engine):
+        first, other = struct(self.rng), struct(self.rng)
+        second = list(first)
+        for k in self.rng.sample(range(len(first)), self.rng.choice([0, 1, 1, 2])) + self.rng.choice([[], [1]]):
+            second[k] = other[k]
+        return ("compare_lent", tuple(first), tuple(second))

@@ -29,8 +29,9 @@ sys.path.insert(0, os.environ.get("GEVROLEN_FOLDER", str(ROOT / "target" / "gevr
 import gevrolen  # noqa: E402
 
 SHRINKING = 30  # seconds
-SHOWN = ("read", "origin")  # what has cases that the runs must show
-LOOKS = {"waiting", "table", "stamp", "line", "origin", "export", "read", "record", "records", "record_from", "compare"}
+SHOWN = ("read", "origin", "compare", "compare_lent")  # what has cases that the runs must show
+LOOKS = {"waiting", "table", "stamp", "line", "origin", "export", "read", "record", "records", "record_from", "compare", "compare_lent"}
+UNNUMBERED = {"script", "run", "records", "compare", "compare_lent"}  # answers that do not start with a number
 POISON = 0xEE
 GUARD = bytes([POISON]) * 64
 
@@ -56,7 +57,7 @@ def poisoned_buffer(size):
     return Lent.buffer
 
 
-for answer in ["_Stamp", "_Committed", "_Scheduled", "_Report", "_Table", "_Line", "_Origin", "_File", "_Record"]:
+for answer in ["_Stamp", "_Committed", "_Scheduled", "_Report", "_Table", "_Line", "_Origin", "_File", "_Record", "_Compared"]:
     setattr(gevrolen, answer, poisoned(getattr(gevrolen, answer)))
 gevrolen._buffer = poisoned_buffer
 gevrolen._ANSWERS = 1000  # a run of some lines takes several calls then
@@ -80,6 +81,7 @@ STRUCTS = {
     "stamp": lambda number, stamp: stamp_words(stamp),
     "line": lambda number, held, arrived: [held, arrived],
     "origin": lambda number, kind, record: [("", "start", "commit").index(kind), record],
+    "compare": lambda order, shared: [1, 0] if shared is None else [0, shared],
     "read": lambda number, *fields: [half for n in fields for half in (n, n >> 32)],
     "record": lambda number, site, stamp, ops: [site, len(ops)] + stamp_words(stamp) + padded([n for o in ops for n in o], 3 * layout.OPERATIONS),
 }
@@ -90,7 +92,7 @@ def struct_bytes(name, fields):
     return array.array("I", [n % 2**32 for n in STRUCTS[name](*fields)]).tobytes()
 
 
-# ---- what reads and origins have to show: a plainer rule would answer otherwise
+# ---- what reads, origins and comparisons have to show: a plainer rule would answer otherwise
 def shown_by_read(table, ops, a):
     """How the value that operation a of a commit gave, a read, stands to the table before the commit and to the commit's writes."""
     _, item, value = ops[a]
@@ -130,6 +132,45 @@ def shown_by_origin(n, k, a, named):
     }
 
 
+def shown_by_compare(a, b, shared):
+    """How two timestamps stand to each other that share so many leading tuples, or None."""
+    (_, x), (_, y) = a, b
+    n = -1 if shared is None else shared
+    both = 0 <= n < min(len(x), len(y))  # whether each has a tuple where they part
+    return {
+        "that the epochs differ, of the same tuples": n < 0 and x == y != (),
+        "that the epochs differ, of others": n < 0 and x != y,
+        "none shared": both and n == 0,
+        "some shared": both and n > 0,
+        "seven shared of eight": both and n == layout.SITES - 1,
+        "the first a proper prefix": 0 < n == len(x) < len(y),
+        "the second a proper prefix": 0 < n == len(y) < len(x),
+        "no tuples in one": n == 0 and x != y and () in (x, y),
+        "equal ones": 0 < n == len(x) == len(y),
+        "eight shared": n == layout.SITES,
+        "not the same tuples behind others": both and any(p == q for p, q in zip(x[n + 1 :], y[n + 1 :])),
+        "not the same site with another count": both and x[n][0] == y[n][0],
+        "not the same count of another site": both and x[n][1] == y[n][1],
+    }
+
+
+def shown_by_lent(first, second, shared):
+    """What length fields and unused places have to do with it, where two structs share so many leading tuples, or None."""
+    x, y = [tuple(zip(words[2::2], words[3::2])) for words in (first, second)]
+    lengths = sorted([first[1], second[1]])
+    unused = shared is not None and lengths[0] == shared < layout.SITES  # whether the place behind those shared is, in one of the two at least
+    return {
+        "eight shared by a length field above eight": shared == layout.SITES < lengths[1],
+        "eight shared by two": shared == layout.SITES < lengths[0],
+        "a proper prefix of one whose length field is above eight": unused and lengths[1] > layout.SITES,
+        "two that part before the end by length fields above eight": shared is not None and shared < layout.SITES < lengths[0],
+        "not the same in unused places of both": unused and lengths[0] == lengths[1] and x[shared] == y[shared],
+        "not others in unused places of both": unused and lengths[0] == lengths[1] and x[shared:] != y[shared:],
+        "not a tuple that is unused in one": unused and lengths[0] != lengths[1] and x[shared] == y[shared],
+        "that the epochs differ": shared is None,
+    }
+
+
 # ---- one state in the library and in the model
 class Difference(Exception):
     pass
@@ -149,7 +190,7 @@ class Pair:
         self.network = gevrolen.Network()
         self.engine = model.Engine()
         self.seen = collections.Counter()  # how many calls of each name had each number
-        self.shown = {what: collections.Counter() for what in SHOWN}  # how many reads and origins showed what
+        self.shown = {what: collections.Counter() for what in SHOWN}  # how many of each showed what
         self.reached = False  # whether calls alone led here from a set-up
 
     def words(self):
@@ -167,7 +208,7 @@ class Pair:
             return self.load(getattr(self, name)(*arguments))
         before = bytes(self.network)
         answer, expected = getattr(self, name, self.plain)(name, *arguments)
-        number = expected[0] if isinstance(expected, tuple) else 0
+        number = 0 if name in UNNUMBERED else expected[0]
         self.seen[name, number] += 1
         self.reached = self.reached or name == "set_up" and number == 0
         expect("answer", answer, expected)
@@ -286,7 +327,19 @@ class Pair:
         return fields + (after.value,), (told,) + record + (end,)
 
     def compare(self, name, a, b):
-        return gevrolen.compare(a, b), model.order(a, b)
+        answer, expected = tuple(gevrolen.compare(a, b)), tuple(model.compare(a, b))
+        self.shown[name].update(shown_by_compare(a, b, expected[1]))
+        return answer, expected
+
+    def compare_lent(self, name, first, second):
+        """Two structs as they are lent, whatever their words; the words of the answer too."""
+        structs = [gevrolen._Stamp.from_buffer_copy(array.array("I", words)) for words in (first, second)]
+        answer = gevrolen._Compared()
+        order = gevrolen._library.compare(*map(ctypes.byref, structs), ctypes.byref(answer))
+        expect("structs compared", [tuple(array.array("I", bytes(one))) for one in structs], [first, second])
+        wanted, shared = model.compare(layout.stamp_lent(first), layout.stamp_lent(second))
+        self.shown[name].update(shown_by_lent(first, second, shared))
+        return (order, *array.array("I", bytes(answer))), (wanted, *STRUCTS["compare"](wanted, shared))
 
 
 def complaint(calls):

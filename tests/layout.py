@@ -38,6 +38,11 @@ def stamp_in(w, at):
     return (w[at], tuple(zip(w[at + 2 : end : 2], w[at + 3 : end : 2])))
 
 
+def stamp_lent(w):
+    """The timestamp of a struct that a caller lends, which is laid the same; a length field above eight is all eight."""
+    return (w[0], tuple(zip(w[2::2], w[3::2]))[: w[1]])
+
+
 def message_in(w, at):
     return w[at] if w[at] < DUMMY else stamp_in(w, at + 1)
 

@@ -34,6 +34,12 @@ class Library:
         number = gevrolen._library.origin(self.network._words, k, a, ctypes.byref(answer))
         return number, answer.kind, answer.record
 
+    def compare(self, first, second):
+        answer = gevrolen._Compared(EE, EE)
+        structs = [(ctypes.c_uint32 * len(words))(*words) for words in (first, second)]
+        order = gevrolen._library.compare(*structs, ctypes.byref(answer))
+        return order, answer.epochs_differ, answer.shared
+
     def export(self, size):
         buffer, length = (ctypes.c_char * size).from_buffer(bytearray([EE]) * size) if size else ctypes.create_string_buffer(1), ctypes.c_size_t(EE)
         number = gevrolen._library.export(self.network._words, buffer, size, ctypes.byref(length))

@@ -9,6 +9,7 @@ tests/cases/long is the script of seed 1 with 4000 lines.
 A timestamp is (epoch, ((site, count), ..)), a record (site, timestamp, ((kind, item, value), ..)), a message a record's number or a dummy's timestamp. An
 answer is a tuple, the number first.
 """
+import collections
 import functools
 import random
 import sys
@@ -20,16 +21,18 @@ NO_STAMP = (0, ())
 
 
 # ---- timestamps
-def order(a, b):
-    """-1 where timestamp a is the earlier, 1 where b is, 0 where they are the same."""
+Compared = collections.namedtuple("Compared", "order shared")
+
+
+def compare(a, b):
+    """-1 where timestamp a is the earlier, 1 where b is, 0 where they are the same; and how many leading tuples they share, None where the epochs differ."""
+    # with sites negated the tuples rank as numbers do, and a proper prefix ranks first
+    first, second = [(epoch, [(-site, count) for site, count in tuples]) for epoch, tuples in (a, b)]
+    order = (first > second) - (first < second)
     if a[0] != b[0]:
-        return -1 if a[0] < b[0] else 1
-    for x, y in zip(a[1], b[1]):
-        if x[0] != y[0]:
-            return -1 if x[0] > y[0] else 1
-        if x[1] != y[1]:
-            return -1 if x[1] < y[1] else 1
-    return (len(a[1]) > len(b[1])) - (len(a[1]) < len(b[1]))
+        return Compared(order, None)
+    fronts = range(min(len(a[1]), len(b[1])) + 1)
+    return Compared(order, max(n for n in fronts if a[1][:n] == b[1][:n]))
 
 
 def made_by(site, stamp):
@@ -258,7 +261,7 @@ class Engine:
         refuse(20, any(n.arrived[p, j] == 0 for p in parents))
         best = parents[0]
         for p in parents[1:]:
-            if order(n.message_stamp(n.held[p, j][0]), n.message_stamp(n.held[best, j][0])) < 0:
+            if compare(n.message_stamp(n.held[p, j][0]), n.message_stamp(n.held[best, j][0])).order < 0:
                 best = p
         message = n.held[best, j].pop(0)
         n.arrived[best, j] -= 1
@@ -300,7 +303,7 @@ class Engine:
         if values_written(item, n.history[k][2][:a]):
             return "commit", k
         # sorting leaves equal timestamps in the order made
-        rising = sorted(range(len(n.history)), key=functools.cmp_to_key(lambda i, j: order(n.history[i][1], n.history[j][1])))
+        rising = sorted(range(len(n.history)), key=functools.cmp_to_key(lambda i, j: compare(n.history[i][1], n.history[j][1]).order))
         writers = [i for i in rising[: rising.index(k)] if values_written(item, n.history[i][2])]
         return ("commit", writers[-1]) if writers else ("start", 0)
 

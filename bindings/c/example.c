@@ -1,4 +1,5 @@
-/* The ten lines of the worked example by calls, each answer printed as a script would print it; then two sales in one commit, which the exit status judges. */
+/* The ten lines of the worked example by calls, each answer printed as a script would print it, and two of its timestamps side by side; then two sales in one commit, and
+   where two timestamps part, which the exit status judges. */
 #include <inttypes.h>
 #include <stdio.h>
 
@@ -47,6 +48,70 @@ static void schedule(uint32_t site)
     printf("\n");
 }
 
+#define TEXT 32 /* holds two numbers and a point */
+
+/* How many tuples a timestamp has: a length above eight is all eight. */
+static uint32_t tuples_of(const struct gevrolen_stamp *stamp)
+{
+    return stamp->length < GEVROLEN_SITES ? stamp->length : GEVROLEN_SITES;
+}
+
+/* Line 0 of a timestamp is its epoch, line k its tuple k - 1; those behind are empty. The line's length. */
+static int line_of(const struct gevrolen_stamp *stamp, uint32_t line, char text[TEXT])
+{
+    text[0] = '\0';
+    if (line == 0)
+        return snprintf(text, TEXT, "epoch %" PRIu32, stamp->epoch);
+    if (line > tuples_of(stamp))
+        return 0;
+    return snprintf(text, TEXT, "%" PRIu32 ".%" PRIu32, stamp->tuples[line - 1].site, stamp->tuples[line - 1].count);
+}
+
+/* Two timestamps, line by line. The line where they part has `<` between them where the first is earlier, `>` where it is later. */
+static void side_by_side(const struct gevrolen_stamp *first, const struct gevrolen_stamp *second)
+{
+    struct gevrolen_compared answer;
+    const int32_t order = gevrolen_compare(first, second, &answer);
+    const uint32_t parting = answer.epochs_differ ? 0 : answer.shared + 1; /* behind the last line where they are equal */
+    char left[TEXT], right[TEXT], both[2 * TEXT];
+    int width = 0;
+    for (uint32_t k = 0; k <= tuples_of(first); k++) {
+        const int length = line_of(first, k, left);
+        width = length > width ? length : width;
+    }
+    for (uint32_t k = 0; k <= tuples_of(first) || k <= tuples_of(second); k++) {
+        line_of(first, k, left);
+        line_of(second, k, right);
+        int length = snprintf(both, sizeof both, "%-*s %c %s", width, left, k != parting ? ' ' : order < 0 ? '<' : '>', right);
+        while (both[length - 1] == ' ')
+            length--;
+        printf("%.*s\n", length, both);
+    }
+}
+
+static void sites_side_by_side(uint32_t first_site, uint32_t second_site)
+{
+    struct gevrolen_stamp first, second;
+    if (gevrolen_stamp(state, first_site, &first) == GEVROLEN_ACCEPTED && gevrolen_stamp(state, second_site, &second) == GEVROLEN_ACCEPTED)
+        side_by_side(&first, &second);
+}
+
+/* Whether a comparison has this answer. */
+static int answers(const struct gevrolen_stamp *first, const struct gevrolen_stamp *second, int32_t order, uint32_t epochs_differ, uint32_t shared)
+{
+    struct gevrolen_compared answer;
+    return gevrolen_compare(first, second, &answer) == order && answer.epochs_differ == epochs_differ && answer.shared == shared;
+}
+
+/* Timestamps that part at their epochs, at once, behind a tuple, where one ends, and nowhere. */
+static int parted(void)
+{
+    const struct gevrolen_stamp heard = {0, 2, {{0, 1}, {1, 1}}}, later = {1, 2, {{0, 1}, {1, 1}}}, other = {0, 2, {{0, 2}, {1, 1}}};
+    const struct gevrolen_stamp higher = {0, 2, {{0, 1}, {2, 1}}}, shorter = {0, 1, {{0, 1}}};
+    return answers(&heard, &later, -1, 1, 0) && answers(&heard, &other, -1, 0, 0) && answers(&heard, &higher, 1, 0, 1)
+        && answers(&shorter, &heard, -1, 0, 1) && answers(&heard, &heard, 0, 0, 2);
+}
+
 /* Two sales in one commit, and what is left read before, between and after them: whether the reads gave that, and the later two came from this commit. */
 static int sold_twice(void)
 {
@@ -81,5 +146,6 @@ int main(void)
     deliver(0, 2);
     schedule(2);
     commit(2, seen, 2);
-    return sold_twice() ? 0 : 1;
+    sites_side_by_side(1, 2);
+    return sold_twice() && parted() ? 0 : 1;
 }

@@ -155,6 +155,12 @@ struct gevrolen_record {
     struct gevrolen_operation operations[GEVROLEN_OPERATIONS];
 };
 
+/* Where two timestamps part: 1 and 0 where their epochs differ; else 0, and how many leading tuples are the same in both, site and count, up to the first that differ. */
+struct gevrolen_compared {
+    uint32_t epochs_differ;
+    uint32_t shared;
+};
+
 /* How far many lines have come: the bytes of the text that are answered, and the bytes of the answers. */
 struct gevrolen_progress {
     size_t used;
@@ -220,8 +226,9 @@ uint32_t gevrolen_line(const uint32_t state[GEVROLEN_WORDS], uint32_t parent, ui
    in it, both from 0. 6, 26. */
 uint32_t gevrolen_origin(const uint32_t state[GEVROLEN_WORDS], uint32_t record, uint32_t operation, struct gevrolen_origin *answer);
 
-/* Two timestamps: -1 where the first is earlier, 0 where they are equal, 1 where it is later. */
-int32_t gevrolen_compare(const struct gevrolen_stamp *first, const struct gevrolen_stamp *second);
+/* Two timestamps: -1 where the first is earlier, 0 where they are equal, 1 where it is later; and where they part. Whatever the structs hold is compared: tuples behind
+   `length` are none, and a `length` above eight is all eight. */
+int32_t gevrolen_compare(const struct gevrolen_stamp *first, const struct gevrolen_stamp *second, struct gevrolen_compared *answer);
 
 /* ---- the history file */
 

@@ -25,13 +25,14 @@ A house (here: a site) owns some items and keeps copies of others'. It commits o
     >>> explain(answer.number)
     'A parent has nothing arrived: deliver from it, and where it has sent nothing let it send a dummy.'
 
-Every call returns a named tuple whose first field is `number`: 0 where the call was accepted. A refusal is an answer: where the number is not 0 the other fields
-are 0 or empty, and the state is as it was. An argument of a wrong type raises TypeError; a number that does not fit its field raises OverflowError.
+A call that can be refused returns a named tuple whose first field is `number`: 0 where the call was accepted. A refusal is an answer: where the number is not 0 the
+other fields are 0 or empty, and the state is as it was. An argument of a wrong type raises TypeError; a number that does not fit its field raises OverflowError.
 
 Where the library stands elsewhere, the environment variable GEVROLEN_LIBRARY names it.
 """
 import ctypes
 import enum
+import itertools
 import operator
 import os
 from array import array
@@ -93,6 +94,11 @@ class Stamp(namedtuple("Stamp", "epoch tuples")):
     def __str__(self):
         return "%d %s" % (self.epoch, ",".join("%d.%d" % one for one in self.tuples))
 
+    def _unordered(self, other):
+        raise TypeError("the order of timestamps is not that of tuples: use gevrolen.compare")
+
+    __lt__ = __le__ = __gt__ = __ge__ = _unordered
+
 
 Answer = namedtuple("Answer", "number")
 Committed = namedtuple("Committed", "number stamp values")
@@ -106,6 +112,7 @@ Origin = namedtuple("Origin", "number kind record")
 Exported = namedtuple("Exported", "number data")
 File = namedtuple("File", "number start length records sites items")
 Record = namedtuple("Record", "number site stamp operations")
+Compared = namedtuple("Compared", "order shared")
 
 
 # ---- the structs of gevrolen.h
@@ -157,6 +164,10 @@ class _Record(ctypes.Structure):
         return Record(number, self.site, self.stamp.value(), operations)
 
 
+class _Compared(ctypes.Structure):
+    _fields_ = [("epochs_differ", ctypes.c_uint32), ("shared", ctypes.c_uint32)]
+
+
 class _Progress(ctypes.Structure):
     _fields_ = [("used", ctypes.c_size_t), ("filled", ctypes.c_size_t)]
 
@@ -178,7 +189,7 @@ _FUNCTIONS = {
     "stamp": (_U32, [_POINTER, _U32, _POINTER]),
     "line": (_U32, [_POINTER, _U32, _U32, _POINTER]),
     "origin": (_U32, [_POINTER, _U32, _U32, _POINTER]),
-    "compare": (ctypes.c_int32, [_POINTER, _POINTER]),
+    "compare": (ctypes.c_int32, [_POINTER, _POINTER, _POINTER]),
     "export": (_U32, [_POINTER] + _LIST + [_POINTER]),
     "read": (_U32, _LIST + [_POINTER]),
     "record": (_U32, _LIST + [_SIZE, _POINTER]),
@@ -411,5 +422,22 @@ def records(buffer):
 
 
 def compare(a, b):
-    """-1 where the first of two timestamps is earlier, 0 where they are equal, 1 where it is later."""
-    return _library.compare(_byref(_stamp(a)), _byref(_stamp(b)))
+    """The order of two timestamps: -1 where the first is earlier, 0 where they are equal, 1 where it is later; and how many leading tuples they share, up to the first
+    that differ in site or count: None where the epochs differ.
+    """
+    first, second, answer = _stamp(a), _stamp(b), _Compared()
+    order = _library.compare(_byref(first), _byref(second), _byref(answer))
+    return Compared(order, None if answer.epochs_differ else answer.shared)
+
+
+def side_by_side(a, b):
+    """Two timestamps as text, the epochs on a line, then tuple by tuple. The line where they part has `<` between them where the first is earlier, `>` where it is later."""
+    order, shared = compare(a, b)
+    parting = 0 if shared is None else shared + 1  # behind the last line where they are equal
+    left, right = [["epoch %d" % epoch] + ["%d.%d" % tuple(one) for one in tuples] for epoch, tuples in (a, b)]
+    width = max(map(len, left))
+    lines = []
+    for k, (first, second) in enumerate(itertools.zip_longest(left, right, fillvalue="")):
+        mark = " " if k != parting else "<" if order < 0 else ">"
+        lines.append(("%-*s %s %s" % (width, first, mark, second)).rstrip())
+    return "\n".join(lines)

@@ -34,7 +34,7 @@ mod types;
 pub use history::{read, record, records, File, Records};
 pub use network::Network;
 pub use refusal::Refusal;
-pub use types::{compare, Committed, Kind, Line, Operation, Origin, Record, Scheduled, Stamp};
+pub use types::{compare, side_by_side, Committed, Compared, Kind, Line, Operation, Origin, Record, Scheduled, Stamp};
 
 /// The words of a state.
 pub const WORDS: usize = 28051;

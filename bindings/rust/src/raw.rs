@@ -86,6 +86,13 @@ pub struct Record {
 
 #[repr(C)]
 #[derive(Default)]
+pub struct Compared {
+    pub epochs_differ: u32,
+    pub shared: u32,
+}
+
+#[repr(C)]
+#[derive(Default)]
 pub struct Progress {
     pub used: usize,
     pub filled: usize,
@@ -118,7 +125,7 @@ extern "C" {
     pub fn gevrolen_stamp(state: *const State, site: u32, answer: *mut Stamp) -> u32;
     pub fn gevrolen_line(state: *const State, parent: u32, child: u32, answer: *mut Line) -> u32;
     pub fn gevrolen_origin(state: *const State, record: u32, operation: u32, answer: *mut Origin) -> u32;
-    pub fn gevrolen_compare(first: *const Stamp, second: *const Stamp) -> i32;
+    pub fn gevrolen_compare(first: *const Stamp, second: *const Stamp, answer: *mut Compared) -> i32;
     pub fn gevrolen_export(state: *const State, buffer: *mut u8, room: usize, length: *mut usize) -> u32;
     pub fn gevrolen_read(buffer: *const u8, length: usize, answer: *mut File) -> u32;
     pub fn gevrolen_record(buffer: *const u8, length: usize, number: usize, answer: *mut Record) -> u32;

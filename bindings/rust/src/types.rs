@@ -46,6 +46,12 @@ impl Stamp {
         }
         raw
     }
+
+    /// The epoch and each tuple as text.
+    fn texts(&self) -> Vec<String> {
+        let tuples = self.tuples.iter().map(|(site, count)| format!("{site}.{count}"));
+        std::iter::once(format!("epoch {}", self.epoch)).chain(tuples).collect()
+    }
 }
 
 impl fmt::Display for Stamp {
@@ -64,18 +70,60 @@ impl fmt::Debug for Stamp {
     }
 }
 
-/// Which of two timestamps is the earlier: at the first tuple that differs, the one with the higher site.
+/// What a comparison of two timestamps answers.
+#[derive(Clone, Copy, Debug, PartialEq, Eq, Hash)]
+pub struct Compared {
+    /// `Less` where the first is earlier, `Greater` where it is later.
+    pub order: Ordering,
+    /// How many leading tuples are the same in both, site and count, up to the first that differ; none where the epochs differ.
+    pub shared: Option<usize>,
+}
+
+/// Which of two timestamps is the earlier, and where they part: the lower epoch is earlier; with equal epochs the one that ends where they part, or has the higher site
+/// there, or of one site the lower count.
 ///
 /// ```
-/// # use gevrolen::{compare, Stamp};
+/// # use gevrolen::{compare, Compared, Stamp};
 /// # use std::cmp::Ordering;
-/// let stamp = |tuples: &[(u32, u32)]| Stamp::new(0, tuples).unwrap();
-/// assert_eq!(compare(&stamp(&[(0, 1), (2, 1)]), &stamp(&[(0, 1), (1, 1)])), Ordering::Less);
-/// assert_eq!(compare(&stamp(&[(0, 1)]), &stamp(&[(0, 1), (2, 1)])), Ordering::Less);
+/// let stamp = |epoch, tuples: &[(u32, u32)]| Stamp::new(epoch, tuples).unwrap();
+/// let first = stamp(0, &[(0, 1), (2, 1)]);
+/// assert_eq!(compare(&first, &stamp(0, &[(0, 1), (1, 1)])), Compared { order: Ordering::Less, shared: Some(1) });
+/// assert_eq!(compare(&first, &stamp(0, &[(0, 1)])), Compared { order: Ordering::Greater, shared: Some(1) });
+/// assert_eq!(compare(&first, &stamp(1, &[(0, 1), (2, 1)])), Compared { order: Ordering::Less, shared: None });
 /// ```
-pub fn compare(first: &Stamp, second: &Stamp) -> Ordering {
-    // SAFETY: two structs of the header, only read.
-    unsafe { raw::gevrolen_compare(&first.raw(), &second.raw()) }.cmp(&0)
+pub fn compare(first: &Stamp, second: &Stamp) -> Compared {
+    let mut answer = raw::Compared::default();
+    // SAFETY: two structs of the header, only read, and one to write to.
+    let order = unsafe { raw::gevrolen_compare(&first.raw(), &second.raw(), &mut answer) };
+    Compared { order: order.cmp(&0), shared: (answer.epochs_differ == 0).then_some(answer.shared as usize) }
+}
+
+/// Two timestamps as text, the epochs on a line, then tuple by tuple. The line where they part has `<` between them where the first is earlier, `>` where it is later.
+///
+/// ```
+/// # use gevrolen::{side_by_side, Stamp};
+/// let stamp = |tuples: &[(u32, u32)]| Stamp::new(0, tuples).unwrap();
+/// let text = side_by_side(&stamp(&[(0, 1), (1, 1)]), &stamp(&[(0, 1), (2, 1), (3, 4)]));
+/// let lines = [
+///     "epoch 0   epoch 0",
+///     "0.1       0.1",
+///     "1.1     > 2.1",
+///     "          3.4",
+/// ];
+/// assert_eq!(text, lines.join("\n"));
+/// ```
+pub fn side_by_side(first: &Stamp, second: &Stamp) -> String {
+    let Compared { order, shared } = compare(first, second);
+    let parting = shared.map_or(0, |count| count + 1); // behind the last line where they are equal
+    let mark = if order == Ordering::Less { "<" } else { ">" };
+    let (left, right) = (first.texts(), second.texts());
+    let width = left.iter().map(String::len).max().unwrap_or(0);
+    let line = |k| {
+        let [first, second] = [&left, &right].map(|texts| texts.get(k).map_or("", String::as_str));
+        let mark = if k == parting { mark } else { " " };
+        format!("{first:width$} {mark} {second}").trim_end().to_string()
+    };
+    (0..left.len().max(right.len())).map(line).collect::<Vec<String>>().join("\n")
 }
 
 /// What an operation does.

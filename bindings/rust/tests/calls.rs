@@ -1,5 +1,5 @@
 //! Every call once accepted, and refused where it can be; what the words are then.
-use gevrolen::{compare, read, record, records, Kind, Line, Network, Operation, Origin, Record, Refusal, Stamp, WORDS};
+use gevrolen::{compare, read, record, records, side_by_side, Compared, Kind, Line, Network, Operation, Origin, Record, Refusal, Stamp, WORDS};
 use std::cmp::Ordering;
 
 fn stamp(tuples: &[(u32, u32)]) -> Stamp {
@@ -152,9 +152,41 @@ fn files() {
 }
 
 #[test]
+fn where_timestamps_part() {
+    let eight: Vec<(u32, u32)> = (0..8).map(|site| (site, u32::MAX)).collect();
+    let lower = [&eight[..7], &[(7, 3)]].concat();
+    let at = |epoch, tuples: &[(u32, u32)]| Stamp::new(epoch, tuples).unwrap();
+    let cases = [
+        // the epochs differ: the same tuples, others that alone would be in the other order, none
+        (stamp(&[(0, 1), (1, 1)]), at(1, &[(0, 1), (1, 1)]), Ordering::Less, None),
+        (stamp(&[(1, 1)]), at(u32::MAX, &[(2, 1)]), Ordering::Less, None),
+        (stamp(&[]), at(1, &[]), Ordering::Less, None),
+        // none shared
+        (stamp(&[]), stamp(&[(0, 1)]), Ordering::Less, Some(0)),
+        (stamp(&[(2, 1)]), stamp(&[(1, 1)]), Ordering::Less, Some(0)),
+        (stamp(&[(1, 1)]), stamp(&[(1, 2)]), Ordering::Less, Some(0)),
+        // some, then another site, another count, or the end
+        (stamp(&[(0, 1), (2, 1)]), stamp(&[(0, 1), (1, 1)]), Ordering::Less, Some(1)),
+        (stamp(&[(0, 1), (1, 1)]), stamp(&[(0, 1), (1, 2)]), Ordering::Less, Some(1)),
+        (stamp(&[(0, 1)]), stamp(&[(0, 1), (1, 1)]), Ordering::Less, Some(1)),
+        (stamp(&lower), stamp(&eight), Ordering::Less, Some(7)),
+        // the same tuple behind others
+        (stamp(&[(0, 1), (1, 1), (2, 1)]), stamp(&[(0, 1), (1, 2), (2, 1)]), Ordering::Less, Some(1)),
+        // equal ones
+        (stamp(&[]), stamp(&[]), Ordering::Equal, Some(0)),
+        (stamp(&[(0, 1)]), stamp(&[(0, 1)]), Ordering::Equal, Some(1)),
+        (stamp(&eight), stamp(&eight), Ordering::Equal, Some(8)),
+    ];
+    for (first, second, order, shared) in cases {
+        assert_eq!(compare(&first, &second), Compared { order, shared }, "{first} and {second}");
+        assert_eq!(compare(&second, &first), Compared { order: order.reverse(), shared }, "{second} and {first}");
+    }
+}
+
+#[test]
 fn in_words() {
-    assert_eq!(compare(&stamp(&[(0, 1), (1, 1)]), &stamp(&[(0, 1), (2, 1)])), Ordering::Greater);
-    assert_eq!(compare(&stamp(&[(0, 1)]), &stamp(&[(0, 1)])), Ordering::Equal);
+    assert_eq!(side_by_side(&stamp(&[(0, 1), (1, 1)]), &stamp(&[(0, 1)])), "epoch 0   epoch 0\n0.1       0.1\n1.1     >");
+    assert_eq!(side_by_side(&stamp(&[]), &Stamp::new(1, &[(0, 1)]).unwrap()), "epoch 0 < epoch 1\n          0.1");
     let read = Operation { kind: Kind::Read, item: 3, value: -1 };
     assert_eq!(format!("{read} {read:?}"), "r3=-1 Operation(r3=-1)");
     assert_eq!(format!("{:?}", stamp(&[(0, 1), (2, 4)])), "Stamp(0 0.1,2.4)");

@@ -6,6 +6,7 @@ ghost use mathlib.Core.List.{[], map};
 ghost use lib.ListN.{getD, drop};
 ghost use Rattle.timestamp_words.specs.InWords.{stampIn, stampWords};
 ghost use Rattle.timestamp_order.specs.Order.{order};
+ghost use Rattle.timestamp_order.specs.Parting.{parting};
 ghost use Rattle.protocol.specs.Network.{noStamp};
 ghost use Rattle.protocol.specs.Questions.{table as tableOf, stamp as stampOf, line as lineOf, origin};
 ghost use Rattle.protocol.specs.Calls.{setUp, commit, dummy, epoch, deliver, schedule, ask};
@@ -16,6 +17,7 @@ ghost use Rattle.network_readers.specs.Readers.{stampAnswer};
 ghost use Rattle.history_file.specs.Promises.{exportOf, stepNumbered, stepOf};
 ghost use Rattle.script_notation.specs.Parse.{parse};
 ghost use Rattle.script_notation.specs.Answers.{Replied};
+ghost use Rattle.c_parting.specs.Fields.{partingWords};
 ghost use Rattle.c_answers.specs.Answers.{orderNumber};
 ghost use Rattle.c_files.specs.Laid.{RecordLaid};
 ghost use Rattle.c_operations.specs.Operations.{operationOf};
@@ -165,14 +167,22 @@ pub extern "C" fn gevrolen_origin(
     c_answers::put_origin(answer, network::origin(state, reader, operation))
 }
 
-// -1, 0 or 1, where the first timestamp is earlier, the same or later.
+// -1, 0 or 1, where the first timestamp is earlier, the same or later; and where the two part.
 #[no_mangle]
-pub extern "C" fn gevrolen_compare(first: &[u32; STAMP], second: &[u32; STAMP]) -> i32
-    ensures { λ r. ⌜ r ≡ orderNumber (order (stampIn (now (first .entry))) (stampIn (now (second .entry)))) ⌝ }
+pub extern "C" fn gevrolen_compare(
+    first: &[u32; STAMP],
+    second: &[u32; STAMP],
+    answer: &mut [u32; 2],
+) -> i32
+    ensures { λ r. ⌜ (r ≡ orderNumber (order (stampIn (now (first .entry))) (stampIn (now (second .entry))))) × (now (answer .exit) ≡ partingWords (parting (stampIn (now (first .entry))) (stampIn (now (second .entry))))) ⌝ }
 {
     let a = timestamp_words::from_words(first);
     let b = timestamp_words::from_words(second);
-    c_answers::order_number(timestamp_comparison::compare(a, b))
+    let found = timestamp_comparison::compare(a, b);
+    let parting = found.parting;
+    let order = found.order;
+    c_parting::put_parting(answer, parting);
+    c_answers::order_number(order)
 }
 
 // ---- the history file

@@ -43,7 +43,7 @@ fn better(state: &[u32], mask: u32, p: u32, j: u32, best: Head) -> Head
     if limits::SITES <= best.parent {
         return Head { parent: p, stamp };
     }
-    if timestamp_comparison::earlier(stamp, best.stamp) {
+    if timestamp_comparison::compare(stamp, best.stamp).is_earlier() {
         return Head { parent: p, stamp };
     }
     best

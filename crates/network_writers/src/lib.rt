@@ -120,8 +120,9 @@ fn later_writer(state: &[u32], reader: Turn, item: u32, j: u32, best: Turn) -> T
 fn precedes(first: Turn, second: Turn) -> bool
     ensures { λ r. ⌜ r ≡ precedesBy byNumber (first .number) (stampOf (first .stamp)) (second .number) (stampOf (second .stamp)) ⌝ }
 {
+    let found = timestamp_comparison::compare(first.stamp, second.stamp);
     if first.number < second.number {
-        return timestamp_comparison::not_later(first.stamp, second.stamp);
+        return found.not_later();
     }
-    timestamp_comparison::earlier(first.stamp, second.stamp)
+    found.is_earlier()
 }

@@ -6,7 +6,7 @@ use lib.IntN.{pos}
 use Rattle.decimal.specs.Decimal.{lastDigits, digits, valueFrom, natural, signed}
 use Rattle.timestamp_order.specs.Timestamp.{appendedOrSame, raisedOrSame}
 use Rattle.timestamp_order.specs.Order.{orderBy, tuplesOrder, pairOrder, numberOrder}
-use Rattle.timestamp_order.proofs.Examples.{comparisons-hold}
+use Rattle.timestamp_order.proofs.Examples.{comparisons-hold, partings-hold}
 use Rattle.site_operations.specs.Operations.{worked}
 use Rattle.placement.specs.Placement.{itemNumber, isLine, hasParents}
 use Rattle.protocol.specs.Network.{placeOf}
@@ -25,7 +25,7 @@ in-order = refl
 
 pub examples-hold : Holds table
 unfolding lastDigits digits valueFrom natural signed appendedOrSame raisedOrSame orderBy tuplesOrder pairOrder numberOrder worked itemNumber isLine hasParents placeOf setUpNumber setUpNetwork commitNumber commitNetwork deliverNumber deliverNetwork scheduleNumber scheduleNetwork earliest perform position fields all operation placed called parse tuplesText spaced print answer answers
-examples-hold = record { lines-hold = refl; pairs-hold = comparisons-hold }
+examples-hold = record { lines-hold = refl; pairs-hold = comparisons-hold; pairs-part = partings-hold }
 
 longest-answered : answer none (longestLine .input) .bytes ≡ longestLine .output
 unfolding valueFrom natural lastDigits digits setUpNumber perform position fields all placed called parse print answer

@@ -4,7 +4,7 @@ use mathlib.Core.List.{List, map}
 use Prim.Native.Nat.{ℕ, _-_, _≤_, _<_, min}
 use native.Mathlib.Omega.{arith}
 use lib.ListN.{length, take, getD, length-map, length-take, List·getD-map, List·getD-eq-default}
-use lib.Seq.{getD-take}
+use lib.Seq.{getD-take, take-take, take-length}
 use Rattle.timestamp.specs.declared.Tuple.{Tuple}
 use Rattle.timestamp_order.specs.Timestamp.{Pair, noPair, room, lastPair}
 use Rattle.timestamp_order.proofs.Timestamp.{last-at}
@@ -17,13 +17,21 @@ pairs n l = map pairOf (take n l)
 abbrev pub noTuple : Tuple
 noTuple = record { site = 0; count = record { 0 = 0 } }
 
+-- as many places as there are tuples hold all of them
+pub used-law : (l : List Tuple) (len n : ℕ) → n ≡ length (pairs len l) → pairs n l ≡ pairs len l
+used-law l len n e =
+    let held = take len l in
+    ap (λ (k : ℕ). pairs k l) (e ∙ length-map held pairOf)
+    ∙ ap (map pairOf) (sym (take-take (length held) len l (omega (arith, length-take len l))) ∙ take-length held)
+
+-- the tuple at a used place
+pub tuple-law : (l : List Tuple) (len i : ℕ) → i < len → pairOf (getD l i noTuple) ≡ getD (pairs len l) i noPair
+tuple-law l len i h = sym (List·getD-map pairOf (take len l) i noTuple ∙ ap pairOf (getD-take len l i noTuple h))
+
 -- ---- eight places, of which `len` or all are used
 module _ (l : List Tuple) (len : ℕ) (eight : length l ≡ 8) where
   pub size-law : length (pairs len l) ≡ min len room
   size-law = length-map (take len l) pairOf ∙ length-take len l ∙ ap (min len) eight
-
-  pub tuple-law : (i : ℕ) → i < min len room → pairOf (getD l i noTuple) ≡ getD (pairs len l) i noPair
-  tuple-law i h = sym (List·getD-map pairOf (take len l) i noTuple ∙ ap pairOf (getD-take len l i noTuple (omega arith)))
 
   pub past-law : (i : ℕ) → min len room ≤ i → noPair ≡ getD (pairs len l) i noPair
   past-law i h = sym (List·getD-eq-default (pairs len l) noPair {n = i} (omega (arith, size-law)))
@@ -31,7 +39,7 @@ module _ (l : List Tuple) (len : ℕ) (eight : length l ≡ 8) where
   pub own-law : (n : ℕ) → n ≡ min len room → (n ≡ 0 → ⊥) → pairOf (getD l (n - 1) noTuple) ≡ lastPair (pairs len l)
   own-law n f z =
       let g : length (pairs len l) - 1 ≡ n - 1 = omega (arith, size-law) in
-      tuple-law (n - 1) (omega arith) ∙ ap (λ (k : ℕ). getD (pairs len l) k noPair) (sym g) ∙ sym (last-at (pairs len l))
+      tuple-law l len (n - 1) (omega arith) ∙ ap (λ (k : ℕ). getD (pairs len l) k noPair) (sym g) ∙ sym (last-at (pairs len l))
 
   pub no-own-law : min len room ≡ 0 → noPair ≡ lastPair (pairs len l)
   no-own-law z = past-law (length (pairs len l) - 1) (omega arith) ∙ sym (last-at (pairs len l))

@@ -1,10 +1,12 @@
-// Cases of the timestamp layer, run: the printed comparisons, the edges of each method, a value with an odd length field.
+// Cases of the timestamp layer, run: the printed comparisons and where two timestamps part, the edges of each method, a value with an odd length field.
 use libc::STDOUT_FILENO;
 use timestamp::Count;
 use timestamp::Epoch;
 use timestamp::Timestamp;
 use timestamp::Tuple;
+use timestamp_order::Compared;
 use timestamp_order::Order;
+use timestamp_order::Parting;
 
 fn main() {
     let start = Timestamp {
@@ -18,7 +20,9 @@ fn main() {
     let a = start.append(1, Count(1));
     comparisons(a);
     epochs(a);
+    sharing(start, a);
     edges(start);
+    full(start);
     odd_lengths(start);
     words_and_back(a);
 }
@@ -33,32 +37,50 @@ fn comparisons(a: Timestamp) {
     compared(b, d);
 }
 
-// A lower epoch is earlier, whatever the tuples.
+// A lower epoch is earlier, whatever the tuples, and how many they would share is not told.
 fn epochs(a: Timestamp) {
     let low = a.append(2, Count(7));
     let high = a.at_epoch(Epoch(4294967295));
     compared(low, high);
+    compared(a, a.at_epoch(Epoch(1)));
 }
 
-// No tuple to raise, the largest count, and a ninth tuple: the value as it was.
+// All shared, none, and tuples that are the same behind the first that differ.
+fn sharing(start: Timestamp, a: Timestamp) {
+    compared(a, a);
+    compared(start, a);
+    compared(a, start.append(1, Count(2)));
+    compared(a, start.append(2, Count(1)));
+    let same_behind = a.append(2, Count(2)).append(3, Count(1));
+    compared(a.append(2, Count(1)).append(3, Count(1)), same_behind);
+}
+
+// No tuple to raise, and the largest count: the value as it was.
 fn edges(start: Timestamp) {
     show(start.raise());
     let top = start.append(5, Count(4294967294));
     show(top);
     show(top.raise());
     show(top.raise().raise());
+}
+
+// Eight tuples: there is no place for a ninth, and the last of them may be where two part.
+fn full(start: Timestamp) {
     let four = start
         .append(0, Count(1))
         .append(1, Count(2))
         .append(2, Count(3))
         .append(3, Count(4));
-    let eight = four.append(4, Count(5))
+    let seven = four.append(4, Count(5))
         .append(5, Count(6))
-        .append(6, Count(7))
-        .append(7, Count(8));
+        .append(6, Count(7));
+    let eight = seven.append(7, Count(8));
     show(eight);
     show(eight.append(8, Count(9)));
     show(eight.raise());
+    compared(eight, eight.append(8, Count(9)));
+    compared(seven, eight);
+    compared(eight, eight.raise());
 }
 
 // What stands in unused places, and a length field above eight, make no difference.
@@ -67,6 +89,9 @@ fn odd_lengths(start: Timestamp) {
     long.len = 77;
     let mut full = start;
     full.len = 8;
+    compared(long, full);
+    compared(long, full.raise());
+    full.len = 7;
     compared(long, full);
     show(long.raise());
     let mut other = start;
@@ -96,7 +121,23 @@ fn compared(s: Timestamp, t: Timestamp) {
     io::write_all(STDOUT_FILENO, b"\n");
 }
 
-fn verdict(o: Order) {
+// The order, then how many leading tuples are shared, or that the epochs differ.
+fn verdict(found: Compared) {
+    let by = found.order;
+    let parting = found.parting;
+    order(by);
+    io::write_all(STDOUT_FILENO, b" ");
+    match parting {
+        Parting::Epochs => {
+            io::write_all(STDOUT_FILENO, b"epochs");
+        }
+        Parting::After(n) => {
+            io::print_decimal(STDOUT_FILENO, n as u64);
+        }
+    }
+}
+
+fn order(o: Order) {
     match o {
         Order::Earlier => {
             io::write_all(STDOUT_FILENO, b"earlier");

@@ -1,6 +1,7 @@
 pub mod Timestamp
-pub mod Steps
+pub mod Numbers
 pub mod Comparisons
 pub mod OrderLaws
+pub mod PartingLaws
 pub mod Made
 pub mod Examples

@@ -11,7 +11,7 @@ use Rattle.timestamp_order.specs.declared.Order.{Order}
 use Rattle.timestamp_order.specs.declared.Order.the-variants.{Earlier, Equal, Later}
 use Rattle.timestamp_order.specs.Timestamp.{Pair, Stamp, appended, lastPair, raisedLast, raised}
 use Rattle.timestamp_order.specs.Order.{thenBy, numberOrder, pairOrder, tuplesOrder, orderBy, notLater, IsEarlier, NotLater, Below}
-use Rattle.timestamp_order.proofs.Steps.{number-earlier, number-later, number-equal}
+use Rattle.timestamp_order.proofs.Numbers.{number-earlier, number-later, number-equal}
 use Rattle.timestamp_order.proofs.Comparisons.{Laws, turned, later≢earlier, equal≢earlier, later≢equal, both-laws, split-same, turn-then, linked, then-trans}
 use Rattle.timestamp_order.proofs.Timestamp.{last-snoc, raised-snoc}
 
@@ -124,7 +124,7 @@ module _ (place : ℕ → ℕ) where
   higher-count [] j c d h = rw (number-laws .self (place j), number-earlier c d h)
   higher-count (x ∷ xs) j c d h = rw (self-pair x) (higher-count xs j c d h)
 
-  same-epoch : (s t : Stamp) → s .epoch ≡ t .epoch → orderBy place s t ≡ tuplesOrder place (s .tuples) (t .tuples)
+  pub same-epoch : (s t : Stamp) → s .epoch ≡ t .epoch → orderBy place s t ≡ tuplesOrder place (s .tuples) (t .tuples)
   unfolding orderBy
   same-epoch s t e = rw (number-equal (s .epoch) (t .epoch) (omega arith) (omega arith))
 

@@ -1,10 +1,11 @@
-// Tuples compared, the higher site earlier; and what every comparison is made of.
+// Tuples compared, the higher site earlier; whether two are the same; and what every comparison is made of.
 use timestamp::Count;
 use timestamp::Tuple;
 use timestamp_order::Order;
 ghost use mathlib.Core.Path.{_≡_};
 ghost use Rattle.timestamp.specs.Value.{pairOf};
 ghost use Rattle.timestamp_order.specs.Order.{thenBy, numberOrder, pairOrder, byNumber};
+ghost use Rattle.timestamp_order.specs.Parting.{samePair};
 
 // The higher site is earlier; for the same site the lower count.
 pub fn compare_tuples(a: Tuple, b: Tuple) -> Order
@@ -17,6 +18,15 @@ pub fn compare_tuples(a: Tuple, b: Tuple) -> Order
     then_by(by_site, by_count)
 }
 
+// Whether two tuples are the same: site and count.
+pub fn same_tuple(a: Tuple, b: Tuple) -> bool
+    ensures { λ r. ⌜ r ≡ samePair (pairOf a) (pairOf b) ⌝ }
+{
+    let first = a.count;
+    let second = b.count;
+    a.site == b.site && first.0 == second.0
+}
+
 // The lower count is earlier.
 pub fn compare_counts(a: Count, b: Count) -> Order
     ensures { λ r. ⌜ r ≡ numberOrder (a .0) (b .0) ⌝ }
@@ -25,7 +35,7 @@ pub fn compare_counts(a: Count, b: Count) -> Order
 }
 
 // The first comparison decides; where it finds no difference, the second.
-pub fn then_by(first: Order, second: Order) -> Order
+fn then_by(first: Order, second: Order) -> Order
     ensures { λ r. ⌜ r ≡ thenBy first second ⌝ }
 {
     match first {

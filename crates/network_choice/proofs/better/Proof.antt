@@ -1,7 +1,9 @@
 -- `better` takes p where it is a parent and there was none before, or its message is earlier.
-use mathlib.Core.Path.{_≡_, sym, _∙_}
+use mathlib.Core.Path.{_≡_, sym, ap, _∙_}
 use mathlib.Core.Bool.{true}
 use borrow.Author.Tests.{not-true, not-false}
+use Rattle.timestamp_order.specs.Order.{order, isEarlier}
+use Rattle.timestamp.specs.Value.{stampOf}
 use Rattle.placement.specs.Placement.{isLine}
 use Rattle.network_layout.specs.InWords.{networkIn}
 use Rattle.network_schedule_causes.proofs.CauseLaws.{parent-bit}
@@ -40,24 +42,31 @@ returns-2 c =
     let A = start .args in
     better-first (networkIn (A .state .now)) (A .j) (A .p) (A .best .parent) (A .best .stamp) (start .pre .best) (parented (read .before)) (read .head-stamp .result) (read .head-stamp .ensures) (c .if2 .taken)
 
-earlier-requires : tie.Need-earlier-requires
-earlier-requires c κs = search needs
+compare-requires : tie.Need-compare-requires
+compare-requires c κs = search needs
+
+is-earlier-requires : tie.Need-is-earlier-requires
+is-earlier-requires c κs = search needs
+
+-- the comparison of p's message with the best
+told : (c : tie.After-is-earlier) → isEarlier (order (stampOf (c .before .before .before .before .head-stamp .result)) (stampOf (c .before .before .before .before .before .before .before .before .args .best .stamp))) ≡ c .is-earlier .result
+told c = sym (c .is-earlier .ensures ∙ ap isEarlier (c .before .compare .ensures .order-is))
 
 returns-3 : tie.Need-returns-3
 returns-3 c =
-    let second = c .before .before in
+    let second = c .before .before .before in
     let read = second .before .before in
     let start = read .before .before .before .before in
     let A = start .args in
-    better-earlier (networkIn (A .state .now)) (A .j) (A .p) (A .best .parent) (A .best .stamp) (start .pre .best) (parented (read .before)) (read .head-stamp .result) (read .head-stamp .ensures) (second .if2 .left) (sym (c .before .earlier .ensures) ∙ c .if3 .taken)
+    better-earlier (networkIn (A .state .now)) (A .j) (A .p) (A .best .parent) (A .best .stamp) (start .pre .best) (parented (read .before)) (read .head-stamp .result) (read .head-stamp .ensures) (second .if2 .left) (told (c .before) ∙ c .if3 .taken)
 
 returns-4 : tie.Need-returns-4
 returns-4 c =
-    let second = c .before .before in
+    let second = c .before .before .before in
     let read = second .before .before in
     let start = read .before .before .before .before in
     let A = start .args in
-    better-not (networkIn (A .state .now)) (A .j) (A .p) (A .best .parent) (A .best .stamp) (start .pre .best) (parented (read .before)) (read .head-stamp .result) (read .head-stamp .ensures) (second .if2 .left) (sym (c .before .earlier .ensures) ∙ c .if3 .left)
+    better-not (networkIn (A .state .now)) (A .j) (A .p) (A .best .parent) (A .best .stamp) (start .pre .best) (parented (read .before)) (read .head-stamp .result) (read .head-stamp .ensures) (second .if2 .left) (told (c .before) ∙ c .if3 .left)
 
 pub better-spec : {M : Type 1} → statement M
 better-spec =
@@ -67,6 +76,7 @@ better-spec =
     returns
     head-stamp-requires
     returns-2
-    earlier-requires
+    compare-requires
+    is-earlier-requires
     returns-3
     returns-4)

@@ -1,5 +1,5 @@
 -- `precedes` compares the two timestamps, and where they are equal the two numbers.
-use mathlib.Core.Path.{_≡_, sym, _∙_}
+use mathlib.Core.Path.{_≡_, sym, ap, _∙_}
 use borrow.Author.Tests.{lt-ltb, le-ltb}
 use Rattle.timestamp_order.specs.Order.{order, notLater, isEarlier}
 use Rattle.timestamp.specs.Value.{stampOf}
@@ -7,23 +7,29 @@ use borrow.Author.Needs.{needs}
 use Rattle.network_writers.proofs.precedes.Statement.{statement}
 use Rattle.network_writers.proofs.precedes.Tie as tie
 
+compare-requires : tie.Need-compare-requires
+compare-requires c κs = search needs
+
 not-later-requires : tie.Need-not-later-requires
 not-later-requires c κs = search needs
 
 returns : tie.Need-returns
 returns c =
-    let A = c .before .before .before .before .args in
-    let told : c .not-later .result ≡ notLater (order (stampOf (A .first .stamp)) (stampOf (A .second .stamp))) = c .not-later .ensures in
+    let found = c .before .before .before .before in
+    let A = found .before .args in
+    let told : c .not-later .result ≡ notLater (order (stampOf (A .first .stamp)) (stampOf (A .second .stamp))) = c .not-later .ensures ∙ ap notLater (found .compare .ensures .order-is) in
     told ∙ sym (rw (lt-ltb (A .first .number) (A .second .number) (c .before .if1 .taken)))
 
-earlier-requires : tie.Need-earlier-requires
-earlier-requires c κs = search needs
+is-earlier-requires : tie.Need-is-earlier-requires
+is-earlier-requires c κs = search needs
 
 returns-2 : tie.Need-returns-2
 returns-2 c =
-    let A = c .before .before .before .before .args in
-    let told : c .earlier .result ≡ isEarlier (order (stampOf (A .first .stamp)) (stampOf (A .second .stamp))) = c .earlier .ensures in
+    let found = c .before .before .before .before in
+    let A = found .before .args in
+    let told : c .is-earlier .result ≡ isEarlier (order (stampOf (A .first .stamp)) (stampOf (A .second .stamp))) = c .is-earlier .ensures ∙ ap isEarlier (found .compare .ensures .order-is) in
     told ∙ sym (rw (le-ltb (A .first .number) (A .second .number) (c .before .if1 .left)))
 
 pub precedes-spec : {M : Type 1} → statement M
-precedes-spec = tie.close (tie.spec not-later-requires returns earlier-requires returns-2)
+precedes-spec =
+    tie.close (tie.spec compare-requires not-later-requires returns is-earlier-requires returns-2)

@@ -1,6 +1,6 @@
 -- `number_order` answers what the order of numbers says.
 use mathlib.Core.Path.{sym}
-use Rattle.timestamp_order.proofs.Steps.{number-earlier, number-later, number-equal}
+use Rattle.timestamp_order.proofs.Numbers.{number-earlier, number-later, number-equal}
 use Rattle.tuple_comparison.proofs.number_order.Statement.{statement}
 use Rattle.tuple_comparison.proofs.number_order.Tie as tie
 

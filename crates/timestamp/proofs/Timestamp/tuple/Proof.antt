@@ -20,8 +20,7 @@ returns : tie.Need-returns
 returns c =
     let s = c .before .before .before in
     let t = s .args .t1 in
-    let eight : length (t .tuples) ≡ 8 = simp length-map at (s .good .0 .1 .1 .1 .1 .0 .1 .0 .1) in
-    tuple-law (t .tuples) (t .len) eight (s .args .i) (omega (arith, c .before .before .used .ensures, c .before .if1 .taken))
+    tuple-law (t .tuples) (t .len) (s .args .i) (omega (arith, c .before .before .used .ensures, c .before .if1 .taken))
 
 returns-2 : tie.Need-returns-2
 returns-2 c =
