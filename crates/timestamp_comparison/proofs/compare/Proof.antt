@@ -52,16 +52,26 @@ module _ (h : tie.At-loop Inv-loop μ-loop) where
   abbrev m : ℕ
   m = sized h .size2 .result
 
-  first-long : length (held (first h) n .tuples) ≡ n
-  first-long = long (first h) n (sized h .before .size .ensures .0)
+  abbrev left : Stamp
+  left = held (first h) n
 
-  second-long : length (held (second h) m .tuples) ≡ m
-  second-long = long (second h) m (sized h .size2 .ensures .0)
+  abbrev right : Stamp
+  right = held (second h) m
 
-  answered : (r : Compared) → Compares (held (first h) n) (held (second h) m) r → Compares (stampOf (first h)) (stampOf (second h)) r
-  answered r p =
-      subst (λ (s : Stamp). Compares s (stampOf (second h)) r) (whole (first h) n (sized h .before .size .ensures .0))
-      (subst (λ (s : Stamp). Compares (held (first h) n) s r) (whole (second h) m (sized h .size2 .ensures .0)) p)
+  n-is : n ≡ length (stampOf (first h) .tuples)
+  n-is = sized h .before .size .ensures .0
+
+  m-is : m ≡ length (stampOf (second h) .tuples)
+  m-is = sized h .size2 .ensures .0
+
+  left-long : length (left .tuples) ≡ n
+  left-long = long (first h) n n-is
+
+  right-long : length (right .tuples) ≡ m
+  right-long = long (second h) m m-is
+
+  answered : (r : Compared) → Compares left right r → Compares (stampOf (first h)) (stampOf (second h)) r
+  answered r p = subst (λ (s : Stamp). Compares s (stampOf (second h)) r) (whole (first h) n n-is) (subst (λ (s : Stamp). Compares left s r) (whole (second h) m m-is) p)
 
   same : first h .epoch .0 ≡ second h .epoch .0
   same = sized h .before .before .if1 .left
@@ -80,13 +90,13 @@ module _ (c : tie.After-same-tuple Inv-loop μ-loop) where
   in-second : i < m at
   in-second = c .before .before .before .if2 .left
 
-  x-is : pairOf (getD (first at .tuples) i noTuple) ≡ getD (held (first at) (n at) .tuples) i noPair
+  x-is : pairOf (getD (first at .tuples) i noTuple) ≡ getD (left at .tuples) i noPair
   x-is = tuple-law (first at .tuples) (n at) i in-first
 
-  y-is : pairOf (getD (second at .tuples) i noTuple) ≡ getD (held (second at) (m at) .tuples) i noPair
+  y-is : pairOf (getD (second at .tuples) i noTuple) ≡ getD (right at .tuples) i noPair
   y-is = tuple-law (second at .tuples) (m at) i in-second
 
-  met : samePair (getD (held (first at) (n at) .tuples) i noPair) (getD (held (second at) (m at) .tuples) i noPair) ≡ c .same-tuple .result
+  met : samePair (getD (left at .tuples) i noPair) (getD (right at .tuples) i noPair) ≡ c .same-tuple .result
   met = sym (c .same-tuple .ensures ∙ ap₂ {C = Bool} samePair x-is y-is)
 
 compare-epochs-requires : tie.Need-compare-epochs-requires Inv-loop μ-loop
@@ -111,7 +121,7 @@ loop-holds c = search needs
 returns-2 : tie.Need-returns-2 Inv-loop μ-loop
 returns-2 c =
     let h = c .before .before in
-    answered h _ (second-ends (held (first h) (n h)) (held (second h) (m h)) (same h) (h .loop .i) (h .loop .inv .3) (omega (arith, first-long h, c .before .loop-test .taken)) (omega (arith, second-long h, c .if2 .taken)))
+    answered h _ (second-ends (left h) (right h) (same h) (h .loop .i) (h .loop .inv .3) (omega (arith, left-long h, c .before .loop-test .taken)) (omega (arith, right-long h, c .if2 .taken)))
 
 mul-x : tie.Need-mul-x Inv-loop μ-loop
 mul-x c = search needs
@@ -136,9 +146,9 @@ returns-3 c =
     let s = c .before .before in
     let h = at s in
     answered h _
-    (they-differ (held (first h) (n h)) (held (second h) (m h)) (same h) (h .loop .i) (h .loop .inv .3)
-    (omega (arith, first-long h, in-first s))
-    (omega (arith, second-long h, in-second s))
+    (they-differ (left h) (right h) (same h) (h .loop .i) (h .loop .inv .3)
+    (omega (arith, left-long h, in-first s))
+    (omega (arith, right-long h, in-second s))
     (met s ∙ not-true (s .same-tuple .result) (c .before .if3 .taken))
     (c .compare-tuples .result)
     (c .compare-tuples .ensures ∙ ap₂ {C = Order} (pairOrder byNumber) (x-is s) (y-is s)))
@@ -157,21 +167,21 @@ loop-again c =
       h .loop .inv .1,
       h .loop .inv .2,
       rw add-one
-          (goes-on (held (first h) (n h)) (held (second h) (m h)) (same h) (h .loop .i) (h .loop .inv .3)
-          (omega (arith, first-long h, in-first s))
-          (omega (arith, second-long h, in-second s))
+          (goes-on (left h) (right h) (same h) (h .loop .i) (h .loop .inv .3)
+          (omega (arith, left-long h, in-first s))
+          (omega (arith, right-long h, in-second s))
           (met s ∙ not-false (s .same-tuple .result) (c .if3 .left))),
     )
 
 returns-4 : tie.Need-returns-4 Inv-loop μ-loop
 returns-4 c =
     let h = c .before .before in
-    answered h _ (first-ends (held (first h) (n h)) (held (second h) (m h)) (same h) (h .loop .i) (h .loop .inv .3) (omega (arith, first-long h, c .before .loop-test .left)) (omega (arith, second-long h, h .loop .inv .0, c .if4 .taken)))
+    answered h _ (first-ends (left h) (right h) (same h) (h .loop .i) (h .loop .inv .3) (omega (arith, left-long h, c .before .loop-test .left)) (omega (arith, right-long h, h .loop .inv .0, c .if4 .taken)))
 
 returns-5 : tie.Need-returns-5 Inv-loop μ-loop
 returns-5 c =
     let h = c .before .before in
-    answered h _ (both-end (held (first h) (n h)) (held (second h) (m h)) (same h) (h .loop .i) (h .loop .inv .3) (omega (arith, first-long h, c .before .loop-test .left)) (omega (arith, second-long h, c .before .loop-test .left, c .if4 .left)))
+    answered h _ (both-end (left h) (right h) (same h) (h .loop .i) (h .loop .inv .3) (omega (arith, left-long h, c .before .loop-test .left)) (omega (arith, right-long h, c .before .loop-test .left, c .if4 .left)))
 
 pub compare-spec : {M : Type 1} → statement M
 compare-spec =
