@@ -88,13 +88,14 @@ static uint64_t full(void)
     return rounds("c77c10d00e00e70s70d60l67l76s10", 10000);
 }
 
+/* Each item goes into the sum with its place, which tells their order. */
 static uint64_t waiting(void)
 {
     struct gevrolen_report report;
     uint64_t sum = 0;
     gevrolen_waiting(state, 7, &report);
     for (uint32_t k = 0; k < report.count; k++)
-        sum += report.items[k];
+        sum += (uint64_t)(k + 1) * report.items[k];
     return sum;
 }
 

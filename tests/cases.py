@@ -8,7 +8,7 @@
 `script`, `long` and `empty` are scripts; so is the example of crates/gevrolen. The lines of `calls`, beside those of a script:
 
     # ..                        a comment, answered as it is
-    w SITE                      waiting report: the number, how many items, the items in rising order
+    w SITE                      waiting report: the number, how many items, the items as they come, and behind them such places as are not 0: there are none
     t NUMBER OPERATION          origin of a read, by its record and operation: the number, the kind (1 start, 2 commit; 0 where refused), the commit's record number
     v EPOCH LENGTH TUPLES ..    two timestamps compared, each as a struct: its epoch, its length field, the tuples in front of places full of EE (- for none). The order,
                                 whether the epochs differ (1) or not (0), how many leading tuples are shared; then the same with the two exchanged
@@ -33,6 +33,7 @@ import zlib
 import files
 import layout
 import model
+from limits import ITEMS
 
 ROOT = pathlib.Path(__file__).resolve().parent.parent
 CASES = ROOT / "tests" / "cases"
@@ -47,7 +48,7 @@ class Model:
     def __init__(self):
         self.engine = model.Engine()
         self.laid = [0] * layout.WORDS
-        for name in ("script", "waiting", "commit", "commit_lists"):
+        for name in ("script", "commit", "commit_lists"):
             setattr(self, name, getattr(self.engine, name))
 
     def words(self):
@@ -58,6 +59,10 @@ class Model:
             self.laid = layout.words(self.engine.network)
         self.laid[place] = word
         self.engine.take(layout.load(self.laid))
+
+    def waiting(self, site):
+        number, items = self.engine.waiting(site)
+        return number, len(items), list(items) + [0] * (ITEMS - len(items))
 
     def origin(self, k, a):
         number, kind, record = self.engine.origin(k, a)
@@ -126,8 +131,8 @@ class Calls:
         return text if text[0] == "0" else text + (" unchanged" if self.side.words() == before else " changed")
 
     def waiting(self, site):
-        number, items = self.side.waiting(site)
-        return joined([number, len(items)] + sorted(items))
+        number, count, places = self.side.waiting(site)
+        return joined([number, count] + places[:count] + [place for place in places[count:] if place])
 
     def origin(self, k, a):
         return joined(self.side.origin(k, a))

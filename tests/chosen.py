@@ -13,7 +13,7 @@ from limits import HELD, ITEMS, OPERATIONS, RECORDS, SITES, U32
 # How often each call stands in a list. A run takes one of these by chance: what it does most decides which corners it reaches.
 BALANCED = dict(
     commit=8, commit_lists=2, dummy=4, epoch=1, deliver=14, schedule=12, waiting=2, table=2, stamp=2, line=2, origin=2,
-    export=1, script=4, run=1, poke=2, copy=1, set_up=1, state=0.2, noise=0.1, file=2, record_from=1, compare=2, compare_lent=2,
+    export=1, script=4, run=1, poke=2, copy=1, set_up=1, state=0.2, held=0, noise=0.1, file=2, record_from=1, compare=2, compare_lent=2,
 )
 MOODS = [
     BALANCED,
@@ -25,6 +25,7 @@ MOODS = [
     dict(BALANCED, script=20, run=5),
     dict(BALANCED, set_up=20),
     dict(BALANCED, origin=20, state=3),
+    dict(BALANCED, waiting=60, held=15, schedule=4),
 ]
 
 EDGES = [0, 1, 2, 7, 8, 9, 15, 16, 17, 63, 64, 65, 255, 256, 257, 2**31 - 1, 2**31, U32 - 1, U32]
@@ -351,14 +352,17 @@ class Chooser:
         moving = sorted(line for line in n.lines if n.arrived[line] < len(n.held[line])) if n else []
         return ("deliver",) + self.likely(moving, self.pair(engine))
 
+    def children(self, engine):
+        """The sites with parents."""
+        return sorted({c for _, c in engine.network.lines}) if engine.network else []
+
     def schedule(self, engine):
-        n = engine.network
-        inner = sorted({c for _, c in n.lines}) if n else []
+        n, inner = engine.network, self.children(engine)
         ready = [j for j in inner if all(n.arrived[p, j] for p in n.parents(j))]
         return ("schedule", self.likely(ready, self.likely(inner, self.site(engine))))
 
     def waiting(self, engine):
-        return ("waiting", self.site(engine))
+        return ("waiting", self.likely(self.children(engine), self.site(engine)))
 
     def table(self, engine):
         return ("table", self.site(engine))
@@ -406,6 +410,11 @@ class Chooser:
         self.undo.clear()
         rng = self.rng
         return ("state", rng.randrange(2**32), rng.choice([0, 3, 20, 254, RECORDS]), rng.choice([0, 1, 3, HELD]))
+
+    def held(self, engine):
+        """A state with many messages on its lines, whose commits often share items and timestamps."""
+        self.undo.clear()
+        return ("state", self.rng.randrange(2**32), self.rng.choice([8, 20, 60]), HELD)
 
     def noise(self, engine):
         self.undo.clear()

@@ -29,7 +29,7 @@ sys.path.insert(0, os.environ.get("GEVROLEN_FOLDER", str(ROOT / "target" / "gevr
 import gevrolen  # noqa: E402
 
 SHRINKING = 30  # seconds
-SHOWN = ("read", "origin", "compare", "compare_lent")  # what has cases that the runs must show
+SHOWN = ("read", "origin", "waiting", "compare", "compare_lent")  # what has cases that the runs must show
 LOOKS = {"waiting", "table", "stamp", "line", "origin", "export", "read", "record", "records", "record_from", "compare", "compare_lent"}
 UNNUMBERED = {"script", "run", "records", "compare", "compare_lent"}  # answers that do not start with a number
 POISON = 0xEE
@@ -92,7 +92,7 @@ def struct_bytes(name, fields):
     return array.array("I", [n % 2**32 for n in STRUCTS[name](*fields)]).tobytes()
 
 
-# ---- what reads, origins and comparisons have to show: a plainer rule would answer otherwise
+# ---- what reads, origins, reports and comparisons have to show: a plainer rule would answer otherwise
 def shown_by_read(table, ops, a):
     """How the value that operation a of a commit gave, a read, stands to the table before the commit and to the commit's writes."""
     _, item, value = ops[a]
@@ -129,6 +129,68 @@ def shown_by_origin(n, k, a, named):
         "not the reader, which writes the item behind the read": not own and k in writers,
         "not the reader, which writes another item before the read": not own and any(kind == 1 for kind, _, _ in ops[:a]),
         "not the reader, which reads the item before": not own and any(x == item for _, x, _ in ops[:a]),
+    }
+
+
+Write = collections.namedtuple("Write", "item parent place arrived record stamp")
+
+
+def waiting_writes(n, site):
+    """Every write of an item with a copy at a site by a message on a line into it, line by line in the order sent."""
+    return [
+        Write(item, p, k, k < n.arrived[p, site], message, n.message_stamp(message))
+        for p in n.parents(site)
+        for k, message in enumerate(n.held[p, site])
+        for item, _ in n.writes(message)
+        if n.items[item][1] >> site & 1
+    ]
+
+
+def items_by(writes, key, choose=min):
+    """The items of writes by the least of a key over those of the item, or by the one chosen, then by number."""
+    keys = collections.defaultdict(list)
+    for write in writes:
+        keys[write.item].append(key(write))
+    return tuple(sorted(keys, key=lambda item: (choose(keys[item]), item)))
+
+
+def first_of(writes, key):
+    """Of writes with the same key the first."""
+    return list({key(write): write for write in reversed(writes)}.values())
+
+
+def shown_by_waiting(n, site, items):
+    """How the order of a report stands to those that other rules would give."""
+    writes = waiting_writes(n, site)
+    rank = lambda write: model.rank(write.stamp)
+    lines = collections.defaultdict(set)
+    for write in writes:
+        lines[write.item].add(write.parent)
+    arrived = {write.item for write in writes if write.arrived}
+    written = {item for p in n.parents(site) for message in n.held[p, site] for item, _ in n.writes(message)}
+    return {
+        "nothing, though there are parents": items == () and n.parents(site) != [],
+        "more items than a commit can write": len(items) > layout.OPERATIONS,
+        "not the order of numbers": items != tuple(sorted(items)),
+        "not that of numbers, nor falling": items not in (tuple(sorted(items)), tuple(sorted(items, reverse=True))),
+        "not the order of lines": items != items_by(writes, lambda write: (write.parent, write.place)),
+        "not the order of places on the lines": items != items_by(writes, lambda write: (write.place, write.parent)),
+        "not the order made": items != items_by(writes, lambda write: write.record),
+        "not by the latest writes": items != items_by(writes, rank, max),
+        "not by the first writes on the lines": items != items_by(first_of(writes, lambda write: (write.parent, write.item)), rank),
+        "not by the first lines": items != items_by([write for write in writes if write.parent == min(lines[write.item])], rank),
+        "not by the last lines": items != items_by([write for write in writes if write.parent == max(lines[write.item])], rank),
+        "not the arrived ones alone": len(arrived) not in (0, len(items)),
+        "not the arrived writes, where an item has one": items != items_by([write for write in writes if write.arrived or write.item not in arrived], rank),
+        "not the higher number first of equal timestamps": items != tuple(-item for item in items_by([write._replace(item=-write.item) for write in writes], rank)),
+        "not the order made of equal timestamps": items != items_by(writes, lambda write: (rank(write), write.record)),
+        "not by epochs alone": items != items_by(writes, lambda write: write.stamp[0]),
+        "not without epochs": items != items_by(writes, lambda write: rank(write)[1]),
+        "not by the last tuples": items != items_by(writes, lambda write: (write.stamp[0], rank(write)[1][-1])),
+        "not with the lower site earlier": items != items_by(writes, lambda write: write.stamp),
+        "not with a proper prefix later": items != items_by(writes, lambda write: (write.stamp[0], rank(write)[1] + [(1, 0)])),
+        "not an item without a copy, which a message writes": any(n.items[item][0] != site for item in written - set(items)),
+        "not an item of the site's own, which a message writes": any(n.items[item][0] == site for item in written),
     }
 
 
@@ -250,9 +312,8 @@ class Pair:
 
     def waiting(self, name, site):
         answer, expected = self.plain(name, site)
-        if len(set(answer[1])) == len(answer[1]) and frozenset(answer[1]) == expected[1]:
-            # the order is left open
-            expected = (expected[0], answer[1])
+        if answer == expected and answer[0] == 0:
+            self.shown[name].update(shown_by_waiting(self.engine.network, site, answer[1]))
         return answer, expected
 
     def commit(self, name, site, *given):

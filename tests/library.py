@@ -29,6 +29,11 @@ class Library:
     def poke(self, place, word):
         self.network._words[place] = word
 
+    def waiting(self, site):
+        answer = gevrolen._Report(EE, (ctypes.c_uint32 * gevrolen.ITEMS)(*[EE] * gevrolen.ITEMS))
+        number = gevrolen._library.waiting(self.network._words, site, ctypes.byref(answer))
+        return number, answer.count, list(answer.items)
+
     def origin(self, k, a):
         answer = gevrolen._Origin(EE, EE)
         number = gevrolen._library.origin(self.network._words, k, a, ctypes.byref(answer))

@@ -24,11 +24,15 @@ NO_STAMP = (0, ())
 Compared = collections.namedtuple("Compared", "order shared")
 
 
+def rank(stamp):
+    """What timestamps are put in order by: with sites negated the tuples rank as numbers do, and a proper prefix ranks first."""
+    epoch, tuples = stamp
+    return (epoch, [(-site, count) for site, count in tuples])
+
+
 def compare(a, b):
     """-1 where timestamp a is the earlier, 1 where b is, 0 where they are the same; and how many leading tuples they share, None where the epochs differ."""
-    # with sites negated the tuples rank as numbers do, and a proper prefix ranks first
-    first, second = [(epoch, [(-site, count) for site, count in tuples]) for epoch, tuples in (a, b)]
-    order = (first > second) - (first < second)
+    order = (rank(a) > rank(b)) - (rank(a) < rank(b))
     if a[0] != b[0]:
         return Compared(order, None)
     fronts = range(min(len(a[1]), len(b[1])) + 1)
@@ -273,12 +277,17 @@ class Engine:
         return best, stamp
 
     # ---- calls that only look
-    @call(frozenset())
+    @call(())
     def waiting(self, j):
-        """The items, whose order is left open."""
+        """The items with a copy here that messages on the lines into the site write: by the earliest timestamp of those messages, then by number."""
         n = self.at(j)
-        written = {item for p in n.parents(j) for message in n.held[p, j] for item, _ in n.writes(message)}
-        return (frozenset(item for item in written if n.items[item][1] >> j & 1),)
+        ranks = {}  # of every message that writes the item
+        for p in n.parents(j):
+            for message in n.held[p, j]:
+                for item, _ in n.writes(message):
+                    if n.items[item][1] >> j & 1:
+                        ranks.setdefault(item, []).append(rank(n.message_stamp(message)))
+        return (tuple(sorted(ranks, key=lambda item: (min(ranks[item]), item))),)
 
     @call(())
     def table(self, i):
@@ -303,7 +312,7 @@ class Engine:
         if values_written(item, n.history[k][2][:a]):
             return "commit", k
         # sorting leaves equal timestamps in the order made
-        rising = sorted(range(len(n.history)), key=functools.cmp_to_key(lambda i, j: compare(n.history[i][1], n.history[j][1]).order))
+        rising = sorted(range(len(n.history)), key=lambda i: rank(n.history[i][1]))
         writers = [i for i in rising[: rising.index(k)] if values_written(item, n.history[i][2])]
         return ("commit", writers[-1]) if writers else ("start", 0)
 

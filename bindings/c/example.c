@@ -1,5 +1,5 @@
-/* The ten lines of the worked example by calls, each answer printed as a script would print it, and two of its timestamps side by side; then two sales in one commit, and
-   where two timestamps part, which the exit status judges. */
+/* The ten lines of the worked example by calls, each answer printed as a script would print it, and two of its timestamps side by side; then two sales in one commit, what
+   waits for a site after them, and where two timestamps part, which the exit status judges. */
 #include <inttypes.h>
 #include <stdio.h>
 
@@ -127,6 +127,13 @@ static int sold_twice(void)
         && gevrolen_origin(state, 3, 4, &after) == GEVROLEN_ACCEPTED && after.kind == GEVROLEN_COMMIT && after.record == 3;
 }
 
+/* What waits for site 2 then, the earliest waiting write first: whether it is site 1's of item 1 at 0.1,1.1, and behind it the sales at 0.2. */
+static int waits(void)
+{
+    struct gevrolen_report report;
+    return gevrolen_waiting(state, 2, &report) == GEVROLEN_ACCEPTED && report.count == 2 && report.items[0] == 1 && report.items[1] == 0;
+}
+
 int main(void)
 {
     const uint32_t primaries[] = {0, 1};
@@ -147,5 +154,5 @@ int main(void)
     schedule(2);
     commit(2, seen, 2);
     sites_side_by_side(1, 2);
-    return sold_twice() && parted() ? 0 : 1;
+    return sold_twice() && waits() && parted() ? 0 : 1;
 }

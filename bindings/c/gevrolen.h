@@ -114,7 +114,7 @@ struct gevrolen_scheduled {
     struct gevrolen_stamp stamp;
 };
 
-/* Of a waiting report: the items, the first `count`, each once, in an order that is left open; the rest are 0. */
+/* Of a waiting report: the items, the first `count`, each once, that with the earliest waiting write first; the rest are 0. */
 struct gevrolen_report {
     uint32_t count;
     uint32_t items[GEVROLEN_ITEMS];
@@ -209,7 +209,8 @@ uint32_t gevrolen_schedule(uint32_t state[GEVROLEN_WORDS], uint32_t site, struct
 
 /* ---- calls that only look */
 
-/* The items that messages on the lines into a site write and that it has a copy of. 6, 7. */
+/* The items that messages on the lines into a site write, arrived or not, and that it has a copy of: by the timestamp of the earliest of the messages that write the item,
+   those of equal timestamps by number. 6, 7. */
 uint32_t gevrolen_waiting(const uint32_t state[GEVROLEN_WORDS], uint32_t site, struct gevrolen_report *answer);
 
 /* A site's table. 6, 7. */

@@ -19,6 +19,8 @@ A house (here: a site) owns some items and keeps copies of others'. It commits o
     (7, 6)
     >>> network.origin(2, 0).record, network.origin(2, 2).record
     (1, 2)
+    >>> network.waiting(2).items    # the earliest waiting write first: that of item 0 at 0.1, then that of item 1 at 0.1,1.1
+    (0, 1)
     >>> answer = network.schedule(2)
     >>> answer.number == Number.PARENT_SILENT
     True
@@ -336,7 +338,9 @@ class Network:
         return Scheduled(number, answer.parent, answer.stamp.value())
 
     def waiting(self, site):
-        """The items that messages on the lines into a site write and that it has a copy of, each once, in an order that is left open. 6, 7."""
+        """The items that messages on the lines into a site write, arrived or not, and that it has a copy of, each once: by the timestamp of the earliest of the messages that
+        write the item, those of equal timestamps by number. 6, 7.
+        """
         answer = _Report()
         number = _library.waiting(self._words, _word(site), _byref(answer))
         return Report(number, tuple(answer.items[: answer.count]))

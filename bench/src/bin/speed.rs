@@ -2,7 +2,6 @@
 //! one; or, with a letter as its argument, one kind of call again and again.
 use peer::file::{self, Record};
 use peer::network::{Network, Op, ITEMS};
-use peer::timestamp::bits;
 use peer::{Answer, Cause};
 use std::hint::black_box;
 
@@ -73,12 +72,17 @@ fn digest(r: &Record) -> u64 {
     r.site as u64 + r.len as u64 + r.stamp.epoch as u64 + own as u64 + ops
 }
 
+/// Items with their places in a sum, which tells their order.
+fn ordered(items: &[u8]) -> u64 {
+    items.iter().zip(1u64..).map(|(&item, place)| place * item as u64).sum()
+}
+
 fn once(letter: &str, state: &mut Network, buffer: &mut [u8]) -> u64 {
     match letter {
         "e" => almost_empty(state),
         "f" => full(state),
         "h" => black_box(&*state).well_shaped() as u64,
-        "w" => bits(black_box(&*state).waiting(7).unwrap_or(0)).map(|item| item as u64).sum(),
+        "w" => black_box(&*state).waiting(7).map_or(0, |report| ordered(&report.items[..report.len])),
         "o" => black_box(&*state).origin(255, 0).ok().flatten().unwrap_or(0) as u64,
         "x" => black_box(&*state).export(buffer).unwrap_or(0) as u64,
         "k" => file::read(black_box(&*buffer)).map_or(0, |f| f.records as u64),

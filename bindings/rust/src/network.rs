@@ -127,7 +127,21 @@ impl Network {
         answered(number, || Scheduled { parent: answer.parent, stamp: Stamp::of(&answer.stamp) })
     }
 
-    /// The items that messages on the lines into a site write and that it has a copy of, each once, in an order that is left open. 6, 7.
+    /// The items that messages on the lines into a site write, arrived or not, and that it has a copy of, each once: by the timestamp of the earliest of the messages that
+    /// write the item, those of equal timestamps by number. 6, 7.
+    ///
+    /// ```
+    /// # use gevrolen::{Network, Operation};
+    /// # fn main() -> Result<(), gevrolen::Refusal> {
+    /// let mut network = Network::new();
+    /// network.set_up(3, 4, &[0, 0, 1, 0], &[4, 4, 4, 4])?;
+    /// network.commit(0, &[Operation::write(3, 5), Operation::write(1, 5)])?; // at 0.1
+    /// network.commit(0, &[Operation::write(0, 5), Operation::write(3, 4)])?; // at 0.2
+    /// network.commit(1, &[Operation::write(2, 5)])?; // at 1.1, which is earlier than 0.1
+    /// assert_eq!(network.waiting(2)?, [2, 1, 3, 0]);
+    /// # Ok(())
+    /// # }
+    /// ```
     pub fn waiting(&self, site: u32) -> Result<Vec<u32>, Refusal> {
         let mut answer = raw::Report { count: 0, items: [0; ITEMS] };
         let number = unsafe { raw::gevrolen_waiting(&*self.words, site, &mut answer) };

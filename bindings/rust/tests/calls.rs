@@ -62,6 +62,39 @@ fn reads_beside_own_writes() {
 }
 
 #[test]
+fn reports_in_order() {
+    let mut network = Network::new();
+    let write = |item| Operation::write(item, 1);
+    network.set_up(3, 5, &[1, 0, 0, 0, 0], &[4, 6, 4, 4, 0]).unwrap();
+    assert_eq!(network.waiting(2).unwrap(), []);
+    // one commit: by number, without item 4, of which there is no copy
+    network.commit(0, &[write(3), write(4), write(1)]).unwrap();
+    assert_eq!(network.waiting(2).unwrap(), [1, 3]);
+    assert_eq!(network.waiting(1).unwrap(), [1]);
+    // a later write of an item leaves it in its place
+    network.commit(0, &[write(2), write(1)]).unwrap();
+    assert_eq!(network.waiting(2).unwrap(), [1, 3, 2]);
+    // site 1 at 1.1 is earlier than site 0 at 0.1, arrived or not; at 0.1,1.2 it would be later
+    let mut heard = network.clone();
+    network.commit(1, &[write(0)]).unwrap();
+    assert_eq!(network.waiting(2).unwrap(), [0, 1, 3, 2]);
+    network.deliver(0, 2).unwrap();
+    assert_eq!(network.waiting(2).unwrap(), [0, 1, 3, 2]);
+    heard.deliver(0, 1).unwrap();
+    heard.schedule(1).unwrap();
+    assert_eq!(heard.commit(1, &[write(0)]).unwrap().stamp, stamp(&[(0, 1), (1, 1)]));
+    assert_eq!(heard.waiting(2).unwrap(), [1, 3, 0, 2]);
+    // an epoch is later than all before it
+    heard.epoch(0, 1).unwrap();
+    heard.commit(0, &[write(2), write(3)]).unwrap();
+    assert_eq!(heard.waiting(2).unwrap(), [1, 3, 0, 2]);
+    heard.deliver(0, 2).unwrap();
+    heard.deliver(1, 2).unwrap();
+    heard.schedule(2).unwrap();
+    assert_eq!(heard.waiting(2).unwrap(), [0, 1, 2, 3]);
+}
+
+#[test]
 fn refusals_leave_the_words() {
     let mut network = worked();
     let before = network.clone();
@@ -125,6 +158,7 @@ fn saved_and_loaded() {
     words[0] = 9;
     assert_eq!(Network::from_words(&words).table(0), Err(Refusal::NoState));
     assert_eq!(Network::from_words(&words).origin(0, 0), Err(Refusal::NoState));
+    assert_eq!(Network::from_words(&words).waiting(2), Err(Refusal::NoState));
     assert_eq!(Network::from_words(&[u32::MAX; WORDS]).export(), Err(Refusal::NoState));
 }
 

@@ -4,14 +4,14 @@ use mathlib.Core.List.{List, _∷_, _++_, append-nil, map-append}
 use Prim.Native.Nat.{ℕ, zero, suc, _+_, _-_, _≤_}
 use native.Mathlib.Omega.{arith}
 use lib.IntN.{ℤ, pos}
-use lib.ListN.{length, take, drop, replicate, length-map, length-drop, length-append, length-replicate, take-append-drop, drop-of-length-le}
+use lib.ListN.{length, take, drop, replicate, length-map, length-drop, length-append, drop-of-length-le}
 use lib.Seq.{length-take-le, drop-at}
 use mir.Val.{ofZ}
 use mir.Syntax.{w32}
 use Rattle.words.specs.Words.{put, laid}
 use Rattle.words.proofs.Walks.{laid-in}
-use Rattle.lists.specs.Lists.{Filled}
-use Rattle.network_lookup.specs.Lookup.{padded}
+use Rattle.lists.specs.Lists.{Filled, padded}
+use Rattle.lists.proofs.Filled.{filled-padded}
 use Rattle.c_answers.specs.Answers.{listed, valueWords}
 
 -- ---- values in places
@@ -30,9 +30,7 @@ listed-words places count vs e = ap₂ {C = List ℕ} (λ (n : ℕ) (l : List �
 pub filled-words : (places count : ℕ) (vs : List ℤ) → Filled (pos 0) places count vs → length vs ≡ places → count ∷ valueWords vs ≡ listed places (valueWords (take count vs))
 filled-words places count vs f whole =
     let size : count ≡ length (take count vs) = sym (length-take-le count vs (omega (arith, whole, f .fits))) in
-    let all : vs ≡ padded places (pos 0) (take count vs)
-    = sym (take-append-drop count vs) ∙ ap (λ (l : List ℤ). take count vs ++ l) (f .rest-is ∙ ap (λ (n : ℕ). replicate (places - n) (pos 0)) size) in
-    ap (λ (l : List ℤ). count ∷ valueWords l) all ∙ listed-words places count (take count vs) size
+    ap (λ (l : List ℤ). count ∷ valueWords l) (filled-padded (pos 0) places count vs f) ∙ listed-words places count (take count vs) size
 
 -- ---- parts of words, the last written first
 pub last-put : (w ys : List ℕ) (k n : ℕ) → length w ≡ k + length ys → length ys ≤ n → drop k (put w k n ys) ≡ ys
@@ -50,9 +48,3 @@ front-behind w xs ys k n size e h =
     let front : length (take k w) ≡ k = length-take-le k w (omega arith) in
     let room : length xs ≤ length p = simp length-append (omega arith) in
     front-laid p xs room ∙ ap (λ (j : ℕ). xs ++ drop j p) size ∙ ap (λ (l : List ℕ). xs ++ l) (last-put w ys k n e h)
-
--- a table's values fill its places
-pub few-values : (places : ℕ) (vs all : List ℤ) → all ≡ padded places (pos 0) vs → length all ≡ places → length vs ≤ places
-few-values places vs all e whole =
-    let size : length (padded places (pos 0) vs) ≡ length vs + (places - length vs) = simp (length-append, length-replicate) in
-    omega (arith, size, whole, ap length e)

@@ -5,9 +5,9 @@ use lib.IntN.{ℤ, pos, negsuc}
 use lib.ListN.{length}
 use mir.Val.{ofZ}
 use mir.Syntax.{w32}
+use Rattle.lists.specs.Lists.{padded}
 use Rattle.timestamp_order.specs.declared.Order.{Order}
 use Rattle.timestamp_order.specs.declared.Order.the-variants.{Earlier, Equal, Later}
-use Rattle.network_lookup.specs.Lookup.{padded}
 
 -- how many there are, and a place for each; 0 in the places past them
 abbrev pub listed : ℕ → List ℕ → List ℕ

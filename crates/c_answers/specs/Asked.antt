@@ -8,8 +8,7 @@ use Rattle.limits.specs.Limits.{opsMost, itemsMost}
 use Rattle.timestamp_words.specs.InWords.{stampSize}
 use Rattle.network_layout.specs.declared.Committed.{Committed}
 use Rattle.network_layout.specs.declared.Tabled.{Tabled}
-use Rattle.network_lookup.specs.Lookup.{padded}
-use Rattle.lists.specs.Lists.{Filled}
+use Rattle.lists.specs.Lists.{Filled, padded}
 
 -- a word for how many there are, and one for each place
 pub record ForList (w : List ℕ) (count places : ℕ) : Type 0 where

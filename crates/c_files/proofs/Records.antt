@@ -4,6 +4,7 @@ use mathlib.Core.List.{List, [], _∷_, _++_}
 use Prim.Native.Nat.{ℕ, zero, suc, _+_, _-_, _≤_}
 use native.Mathlib.Omega.{arith}
 use lib.ListN.{length, getD, set, drop, replicate}
+use Rattle.lists.specs.Lists.{padded}
 use Rattle.limits.specs.Limits.{opsMost}
 use Rattle.words.specs.Words.{laid}
 use Rattle.words.proofs.Walks.{laid-in}
@@ -12,7 +13,6 @@ use Rattle.timestamp_words.specs.InWords.{stampWords}
 use Rattle.site_operations.specs.Operations.{Op, noOp}
 use Rattle.site_operations.specs.InWords.{opsIn, opsSize}
 use Rattle.protocol.specs.Steps.{opsOf}
-use Rattle.network_lookup.specs.Lookup.{padded}
 use Rattle.history_file.specs.Promises.{Step, Gives, placesFrom}
 use Rattle.history_file.specs.declared.Found.{Found}
 use Rattle.c_files.specs.Laid.{RecordLaid}

@@ -10,6 +10,7 @@ use Rattle.words.specs.Words.{part}
 use Rattle.timestamp_words.specs.InWords.{stampWords}
 use Rattle.protocol.specs.Calls.{Call, Outcome, perform}
 use Rattle.network_layout.specs.InWords.{meaning}
+use Rattle.network_waiting.specs.Report.{reportAnswer}
 use Rattle.network_readers.specs.Readers.{tableAnswer, heldAnswer, arrivedAnswer}
 use Rattle.network_origin.specs.Answer.{originIn}
 use Rattle.script_notation.specs.Fields.{position}
@@ -38,7 +39,10 @@ pub record Answered (call : Call) (answerWords : Outcome → List ℕ) (entry ex
   pub after-is : meaning exit ≡ perform (meaning entry) call .after
   pub kept : (number ≡ 0 → ⊥) → exit ≡ entry
 
--- ---- the readers
+-- ---- the calls that only look
+abbrev pub reportWords : ℕ → List ℕ → List ℕ
+reportWords site w = listed itemsMost (reportAnswer site w)
+
 abbrev pub tableWords : ℕ → List ℕ → List ℕ
 tableWords site w = listed itemsMost (valueWords (tableAnswer site w))
 

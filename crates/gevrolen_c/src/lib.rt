@@ -3,15 +3,14 @@ use network::WORDS;
 use script::ANSWER;
 ghost use mathlib.Core.Path.{_≡_};
 ghost use mathlib.Core.List.{[], map};
-ghost use lib.ListN.{getD, drop};
 ghost use Rattle.timestamp_words.specs.InWords.{stampIn, stampWords};
 ghost use Rattle.timestamp_order.specs.Order.{order};
 ghost use Rattle.timestamp_order.specs.Parting.{parting};
 ghost use Rattle.protocol.specs.Network.{noStamp};
-ghost use Rattle.protocol.specs.Questions.{table as tableOf, stamp as stampOf, line as lineOf, origin};
+ghost use Rattle.protocol.specs.Questions.{waiting as waitingOf, table as tableOf, stamp as stampOf, line as lineOf, origin};
 ghost use Rattle.protocol.specs.Calls.{setUp, commit, dummy, epoch, deliver, schedule, ask};
 ghost use Rattle.network_layout.specs.InWords.{meaning};
-ghost use Rattle.network_layout.specs.Promises.{Performed, Reported};
+ghost use Rattle.network_layout.specs.Promises.{Performed};
 ghost use Rattle.network_operations.specs.Gathered.{operationsCall};
 ghost use Rattle.network_readers.specs.Readers.{stampAnswer};
 ghost use Rattle.history_file.specs.Promises.{exportOf, stepNumbered, stepOf};
@@ -21,7 +20,7 @@ ghost use Rattle.c_parting.specs.Fields.{partingWords};
 ghost use Rattle.c_answers.specs.Answers.{orderNumber};
 ghost use Rattle.c_files.specs.Laid.{RecordLaid};
 ghost use Rattle.c_operations.specs.Operations.{operationOf};
-ghost use Rattle.gevrolen_c.specs.Answers.{committedWords, dummiedWords, scheduledWords, Answered, tableWords, lineWords, originLaid, FileRead, LinesRun};
+ghost use Rattle.gevrolen_c.specs.Answers.{committedWords, dummiedWords, scheduledWords, Answered, reportWords, tableWords, lineWords, originLaid, FileRead, LinesRun};
 
 // The words of the header's structs.
 const STAMP: usize = timestamp_words::WORDS;
@@ -122,7 +121,7 @@ pub extern "C" fn gevrolen_waiting(
     site: u32,
     answer: &mut [u32; LISTED],
 ) -> u32
-    ensures { λ r. ⌜ Reported site (now (state .entry)) r (getD (now (answer .exit)) 0 0) (drop 1 (now (answer .exit))) ⌝ }
+    ensures { λ r. ⌜ Performed (ask (waitingOf site)) (now (state .entry)) (now (state .entry)) r 0 noStamp [] × (now (answer .exit) ≡ reportWords site (now (state .entry))) ⌝ }
 {
     c_answers::put_report(answer, network::waiting(state, site))
 }
@@ -176,9 +175,7 @@ pub extern "C" fn gevrolen_compare(
 ) -> i32
     ensures { λ r. ⌜ (r ≡ orderNumber (order (stampIn (now (first .entry))) (stampIn (now (second .entry))))) × (now (answer .exit) ≡ partingWords (parting (stampIn (now (first .entry))) (stampIn (now (second .entry))))) ⌝ }
 {
-    let a = timestamp_words::from_words(first);
-    let b = timestamp_words::from_words(second);
-    let found = timestamp_comparison::compare(a, b);
+    let found = timestamp_comparison::compare_words(first, second);
     let parting = found.parting;
     let order = found.order;
     c_parting::put_parting(answer, parting);

@@ -3,20 +3,13 @@ ghost use mathlib.Core.Path.{_≡_};
 ghost use Prim.Native.Nat.{_≤_};
 ghost use lib.ListN.{length};
 ghost use Rattle.timestamp_order.specs.Timestamp.{room};
-ghost use Rattle.timestamp_words.specs.InWords.{stampIn, stampSize};
 ghost use Rattle.site_operations.specs.InWords.{opsIn};
 ghost use Rattle.network_layout.specs.At.{HasRecord};
 ghost use Rattle.network_layout.specs.InWords.{networkIn};
-ghost use Rattle.network_layout.specs.Lent.{Lent};
 ghost use Rattle.history_file.specs.Bytes.{joined};
 ghost use Rattle.history_file.specs.File.{opBytes, recordBytes};
 ghost use Rattle.history_record_bytes.specs.Asked.{frontBytes, ForOps, ForFront, ForOpsOf, ForRecord, Counted, ForRecords};
 ghost use Rattle.protocol.specs.Network.{nthRecord};
-
-// Where a record's words have its timestamp, and where that ends.
-const STAMP: usize = 2;
-
-const STAMP_END: usize = STAMP + timestamp_words::WORDS;
 
 // The first n operations of the words, eight bytes each.
 fn put_operations(b: &mut [u8], ops: &[u32], n: usize)
@@ -33,21 +26,12 @@ fn put_operations(b: &mut [u8], ops: &[u32], n: usize)
     }
 }
 
-// The words of record k's timestamp.
-fn stamp_at(state: &[u32], k: usize) -> &[u32]
-    requires { ⌜ HasRecord (now state) k ⌝ }
-    ensures { λ r. ⌜ Lent stampSize stampIn (nthRecord (networkIn (now (state .entry))) k .stamp) (now r) ⌝ }
-{
-    let w = network_records::record_at(state, k);
-    &w[STAMP..STAMP_END]
-}
-
-// How many tuples its timestamp has.
+// How many tuples the timestamp of record k has.
 fn tuples(state: &[u32], k: usize) -> usize
     requires { ⌜ HasRecord (now state) k ⌝ }
     ensures { λ r. ⌜ (r ≡ length (nthRecord (networkIn (now (state .entry))) k .stamp .tuples)) × (r ≤ room) ⌝ }
 {
-    history_tuple_bytes::tuple_count(stamp_at(state, k))
+    timestamp_words::size_in(network_records::stamp_at(state, k))
 }
 
 // How many bytes it takes.
@@ -63,7 +47,7 @@ fn put_front(b: &mut [u8], state: &[u32], k: usize, n: usize, count: usize)
     requires { ⌜ ForFront (now b) (now state) k n count ⌝ }
     ensures { λ r. ⌜ now (b .exit) ≡ frontBytes (nthRecord (networkIn (now (state .entry))) k) ⌝ }
 {
-    let w = stamp_at(state, k);
+    let w = network_records::stamp_at(state, k);
     let site = network_records::record_site(state, k);
     let a = 8 + 8 * n;
     history_units::put_unit(

@@ -1,25 +1,9 @@
-// The tuples of a timestamp in words, counted and written as bytes.
-use limits::SITES_WIDE;
+// The tuples of a timestamp in words, written as bytes.
 ghost use mathlib.Core.Path.{_≡_};
-ghost use Prim.Native.Nat.{_≤_};
-ghost use lib.ListN.{length};
-ghost use Rattle.timestamp_order.specs.Timestamp.{room};
-ghost use Rattle.timestamp_words.specs.InWords.{stampIn, stampSize};
+ghost use Rattle.timestamp_words.specs.InWords.{stampIn};
 ghost use Rattle.history_file.specs.Bytes.{joined};
 ghost use Rattle.history_file.specs.File.{pairBytes};
 ghost use Rattle.history_tuple_bytes.specs.Asked.{ForTuples};
-
-// How many tuples it has: eight at most.
-pub fn tuple_count(w: &[u32]) -> usize
-    requires { ⌜ length (now w) ≡ stampSize ⌝ }
-    ensures { λ r. ⌜ (r ≡ length (stampIn (now (w .entry)) .tuples)) × (r ≤ room) ⌝ }
-{
-    let n = words::wide(w[1]);
-    if SITES_WIDE < n {
-        return SITES_WIDE;
-    }
-    n
-}
 
 // Its n tuples, eight bytes each.
 pub fn put_tuples(b: &mut [u8], w: &[u32], n: usize)

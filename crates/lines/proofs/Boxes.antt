@@ -1,25 +1,25 @@
 -- The messages that a line's words hold: how many there are, one of them, and what each step does at its edge.
-use mathlib.Core.Path.{_≡_, refl, sym, ap, subst, _∙_, ap₂}
+use mathlib.Core.Path.{_≡_, refl, sym, ap, _∙_, ap₂}
 use mathlib.Core.Bool.{Bool, false, true}
 use mathlib.Core.List.{List, []}
 use Prim.Native.Nat.{ℕ, _+_, _-_, _*_, _≤_, _<_, min}
 use native.Mathlib.Omega.{arith}
 use lib.ListN.{length, getD, length-map, length-take, List·getD-map, List·getD-eq-default}
 use lib.Seq.{getD-take}
-use lib.Dec.{eqb, leb}
-use borrow.Author.Tests.{lt-ltb, le-ltb, le-leb, lt-leb, leb-true, eq-eqb, ne-eqb, eqb-true, eqb-false}
+use lib.Dec.{eqb, ltb, leb}
+use borrow.Author.Tests.{ltb-true, ltb-false, lt-ltb, le-ltb, le-leb, lt-leb, leb-true, eq-eqb, ne-eqb, eqb-true, eqb-false}
 use Rattle.lists.proofs.Every.{and-true}
 use Rattle.lists.specs.Lists.{every}
 use Rattle.words.specs.Words.{part, chunks}
 use Rattle.words.proofs.Parts.{part-part, part-getD, part-length}
 use Rattle.words.proofs.Chunks.{chunks-length, chunks-at}
-use Rattle.messages.specs.declared.Message.{Message as MessageValue}
-use Rattle.messages.specs.Messages.{Message, commit, nameOf}
+use Rattle.timestamp_words.specs.InWords.{stampIn, stampSize}
+use Rattle.messages.specs.Messages.{Message, commit, nameOf, ownStamp}
 use Rattle.lines.specs.Lines.{Line, sent, delivered, taken, sentOrSame, deliveredOrSame, takenOrSame}
 use Rattle.limits.specs.Limits.{heldMost, recordsMost}
-use Rattle.messages.specs.InWords.{messageSize, messageIn, PlainMessage, messageRange}
-use Rattle.lines.specs.InWords.{boxesAt, boxesSize, lineSize, boxesIn, lineIn, lineCounted, First, lineFrom, lineRange}
-use Rattle.messages.proofs.Messages.{name-in}
+use Rattle.messages.specs.InWords.{messageSize, messageIn, messageRange}
+use Rattle.lines.specs.InWords.{boxesAt, boxesSize, lineSize, boxesIn, lineIn, lineCounted, lineFrom, lineRange}
+use Rattle.messages.proofs.Messages.{name-in, own-in}
 
 -- ---- how many there are
 pub boxes-length : (w : List ℕ) → length (boxesIn w) ≡ min (getD w 0 0) heldMost
@@ -120,21 +120,14 @@ module _ (w : List ℕ) (i : ℕ) where
       let is : x ≡ getD own 0 0 = e ∙ ap (λ (j : ℕ). getD w j 0) place ∙ sym (part-getD w at messageSize 0 (omega arith)) in
       ap (λ (y : ℕ). min y recordsMost) is ∙ name-in own ∙ sym (ap nameOf (message-at w i h))
 
--- ---- the oldest message
-module _ (w : List ℕ) (size : length w ≡ lineSize) where
-  pub first-none : (n : ℕ) → n ≡ min (getD w 0 0) heldMost → n ≡ 0 → (v : MessageValue) → PlainMessage (commit 0) v → First w v
-  first-none n is z v e =
-      record {
-        sized = λ s. subst (λ (m : Message). PlainMessage m v) (sym (List·getD-eq-default (lineIn w .messages) (commit 0) {n = 0} (omega (arith, messages-length w)))) e;
-        unsized = λ no-size. absurd (no-size size);
-      }
-
-  pub first-some : (n : ℕ) → n ≡ min (getD w 0 0) heldMost → (n ≡ 0 → ⊥) → (v : MessageValue) → PlainMessage (messageIn (part w boxesAt messageSize)) v → First w v
-  first-some n is some v e =
-      record {
-        sized = λ s. subst (λ (m : Message). PlainMessage m v) (sym (message-at w 0 (omega (arith, messages-length w)))) e;
-        unsized = λ no-size. absurd (no-size size);
-      }
-
-pub first-unsized : (w : List ℕ) (v : MessageValue) → (length w ≡ lineSize → ⊥) → PlainMessage (commit 0) v → First w v
-first-unsized w v no-size e = record { sized = λ s. absurd (no-size s); unsized = λ n. e }
+-- ---- the words of the timestamp of an oldest message that is a dummy
+pub first-own : (w : List ℕ) → nameOf (getD (lineIn w .messages) 0 (commit 0)) ≡ recordsMost → stampIn (part w (boxesAt + 1) stampSize) ≡ ownStamp (getD (lineIn w .messages) 0 (commit 0))
+first-own w e = go (ltb 0 (length (lineIn w .messages))) refl
+  where
+    go : (b : Bool) → ltb 0 (length (lineIn w .messages)) ≡ b → stampIn (part w (boxesAt + 1) stampSize) ≡ ownStamp (getD (lineIn w .messages) 0 (commit 0))
+    go true h =
+        let is = message-at w 0 (ltb-true 0 (length (lineIn w .messages)) h) in
+        ap stampIn (sym (part-part w boxesAt messageSize 1 stampSize (omega arith))) ∙ own-in (part w boxesAt messageSize) (ap nameOf (sym is) ∙ e) ∙ ap ownStamp (sym is)
+    go false h =
+        let none = List·getD-eq-default (lineIn w .messages) (commit 0) {n = 0} (ltb-false 0 (length (lineIn w .messages)) h) in
+        absurd (omega (arith, e, ap nameOf none))

@@ -1,16 +1,13 @@
 -- A line in words: how many messages it holds, how many have arrived, and 16 places of a message.
 use mathlib.Core.Bool.{Bool, _&&_}
-use mathlib.Core.Path.{_≡_}
 use mathlib.Core.List.{List, map}
 use Prim.Native.Nat.{ℕ, _+_, _*_}
-use lib.ListN.{length, take, getD}
+use lib.ListN.{take, getD}
 use lib.Dec.{leb}
 use Rattle.limits.specs.Limits.{heldMost}
 use Rattle.lists.specs.Lists.{every}
 use Rattle.words.specs.Words.{part, chunks}
-use Rattle.messages.specs.declared.Message.{Message as MessageValue}
-use Rattle.messages.specs.Messages.{commit}
-use Rattle.messages.specs.InWords.{messageSize, messageIn, messageRange, PlainMessage}
+use Rattle.messages.specs.InWords.{messageSize, messageIn, messageRange}
 use Rattle.lines.specs.Lines.{Line}
 
 -- where its messages start, and the words of all of them
@@ -40,8 +37,3 @@ lineRange w = leb (getD w 0 0) heldMost && every messageRange (boxesIn w)
 -- it says at most 16 messages, and no more of them arrived
 unfoldable pub lineCounted : List ℕ → Bool
 lineCounted w = leb (getD w 0 0) heldMost && leb (getD w 1 0) (getD w 0 0)
-
--- the oldest message of a line; the commit of number 0 where there is none, or the words are no line
-pub record First (w : List ℕ) (v : MessageValue) : Type 0 where
-  pub sized : length w ≡ lineSize → PlainMessage (getD (lineIn w .messages) 0 (commit 0)) v
-  pub unsized : (length w ≡ lineSize → ⊥) → PlainMessage (commit 0) v

@@ -1,24 +1,21 @@
-// A line of messages in words of a lent slice: how many it holds, how many have arrived, and one of them.
+// A line of messages in words of a lent slice: how many it holds, how many have arrived, and the name of one of them.
 use limits::MESSAGES;
 use limits::MESSAGES_WIDE;
 use messages::MESSAGE;
-use messages::Message;
 ghost use mathlib.Core.Path.{_≡_};
 ghost use Prim.Native.Nat.{min, _≤_};
 ghost use lib.ListN.{length, getD};
 ghost use lib.Dec.{eqb};
 ghost use Rattle.limits.specs.Limits.{heldMost};
 ghost use Rattle.messages.specs.Messages.{commit, nameOf};
-ghost use Rattle.lines.specs.InWords.{lineIn, lineCounted, First};
+ghost use Rattle.lines.specs.InWords.{lineIn, lineCounted};
 
-// Where a line has how many messages it holds, how many have arrived, the oldest message and the next; and its size.
+// Where a line has how many messages it holds, how many have arrived, and its messages; and its size.
 pub const HELD: usize = 0;
 
 pub const ARRIVED: usize = HELD + 1;
 
 pub const BOXES: usize = ARRIVED + 1;
-
-const SECOND: usize = BOXES + MESSAGE;
 
 pub const WORDS: usize = BOXES + MESSAGES_WIDE * MESSAGE;
 
@@ -52,19 +49,6 @@ pub fn counted(l: &[u32]) -> bool
         return false;
     }
     words::word(l, ARRIVED) <= said
-}
-
-// The oldest message, its name 256 where it is a dummy; the name 0 where there is none, or the slice is no line.
-pub fn first(l: &[u32]) -> Message
-    ensures { λ r. ⌜ First (now (l .entry)) r ⌝ }
-{
-    if l.len() != WORDS {
-        return message_words::named(0);
-    }
-    if held_word(l) == 0 {
-        return message_words::named(0);
-    }
-    message_words::message_in(&l[BOXES..SECOND])
 }
 
 // The name of message i: 256 where it is a dummy, 0 where there is none.

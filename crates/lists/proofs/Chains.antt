@@ -1,7 +1,10 @@
--- What holds of each element of a list, and of each with those after it; of those that pass a test too.
+-- What holds of each element of a list, and of each with those after it; by places, and of those that pass a test too.
 use mathlib.Core.Path.{_≡_, refl, ap, _∙_}
 use mathlib.Core.Bool.{Bool, true, false, cond}
 use mathlib.Core.List.{List, [], _∷_, _++_, map}
+use Prim.Native.Nat.{ℕ, zero, suc, _<_}
+use native.Mathlib.Omega.{arith}
+use lib.ListN.{length, getD}
 use Rattle.lists.specs.Lists.{keep}
 
 -- ---- what holds of each element, and of each with those after it
@@ -29,6 +32,27 @@ module _ {A : Type 0} where
   pub chain-implied : (R S : A → A → Type 0) → ((x y : A) → R x y → S x y) → (xs : List A) → Chain R xs → Chain S xs
   chain-implied R S f [] h = tt
   chain-implied R S f (x ∷ xs) h = (each-implied (R x) (S x) (f x) xs (h .0), chain-implied R S f xs (h .1))
+
+  -- ---- by their places
+  pub each-at : (P : A → Type 0) (xs : List A) (d : A) → Each P xs → (a : ℕ) → a < length xs → P (getD xs a d)
+  each-at P [] d h a l = absurd (omega arith)
+  each-at P (x ∷ xs) d h zero l = h .0
+  each-at P (x ∷ xs) d h (suc a) l = each-at P xs d (h .1) a (omega arith)
+
+  pub each-by : (P : A → Type 0) (xs : List A) (d : A) → ((a : ℕ) → a < length xs → P (getD xs a d)) → Each P xs
+  each-by P [] d f = tt
+  each-by P (x ∷ xs) d f = (f 0 (omega arith), each-by P xs d (λ a l. f (suc a) (omega arith)))
+
+  pub chain-at : (R : A → A → Type 0) (xs : List A) (d : A) → Chain R xs → (a b : ℕ) → a < b → b < length xs → R (getD xs a d) (getD xs b d)
+  chain-at R [] d h a b l m = absurd (omega arith)
+  chain-at R (x ∷ xs) d h zero zero l m = absurd (omega arith)
+  chain-at R (x ∷ xs) d h zero (suc b) l m = each-at (R x) xs d (h .0) b (omega arith)
+  chain-at R (x ∷ xs) d h (suc a) zero l m = absurd (omega arith)
+  chain-at R (x ∷ xs) d h (suc a) (suc b) l m = chain-at R xs d (h .1) a b (omega arith) (omega arith)
+
+  pub chain-by : (R : A → A → Type 0) (xs : List A) (d : A) → ((a b : ℕ) → a < b → b < length xs → R (getD xs a d) (getD xs b d)) → Chain R xs
+  chain-by R [] d f = tt
+  chain-by R (x ∷ xs) d f = (each-by (R x) xs d (λ a l. f 0 (suc a) (omega arith) (omega arith)), chain-by R xs d (λ a b l m. f (suc a) (suc b) (omega arith) (omega arith)))
 
   -- ---- of those that pass a test
   module _ (p : A → Bool) where

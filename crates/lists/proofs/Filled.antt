@@ -3,9 +3,9 @@ use mathlib.Core.Path.{_≡_, refl, sym, ap, ap₂, _∙_}
 use mathlib.Core.List.{List, _∷_, _++_}
 use Prim.Native.Nat.{ℕ, zero, suc, _+_, _-_, _≤_, _<_}
 use native.Mathlib.Omega.{arith}
-use lib.ListN.{length, set, take, drop, replicate, length-set, take-append-drop, List·getD-eq-default}
+use lib.ListN.{length, set, take, drop, replicate, length-set, length-append, length-replicate, take-append-drop, List·getD-eq-default}
 use lib.Seq.{drop-drop, drop-set-lt, length-take-le}
-use Rattle.lists.specs.Lists.{Filled, spell}
+use Rattle.lists.specs.Lists.{Filled, spell, padded}
 
 module _ {A : Type 0} (z : A) where
   same : (m n : ℕ) → m ≡ n → replicate m z ≡ replicate n z
@@ -59,6 +59,17 @@ module _ {A : Type 0} (z : A) where
         sized = spell-length 0 places l;
         rest-is = spell-drop (length l) 0 places l h ∙ spell-past (0 + length l) (places - length l) l (omega arith);
       }
+
+  -- the used ones, and z past them
+  pub filled-padded : (places count : ℕ) (vs : List A) → Filled z places count vs → vs ≡ padded places z (take count vs)
+  filled-padded places count vs f =
+      let size : count ≡ length (take count vs) = sym (length-take-le count vs (omega (arith, f .sized, f .fits))) in
+      sym (take-append-drop count vs) ∙ ap (λ (l : List A). take count vs ++ l) (f .rest-is ∙ same (places - count) (places - length (take count vs)) (ap (λ (n : ℕ). places - n) size))
+
+  pub padded-few : (places : ℕ) (vs all : List A) → all ≡ padded places z vs → length all ≡ places → length vs ≤ places
+  padded-few places vs all e whole =
+      let size : length (padded places z vs) ≡ length vs + (places - length vs) = simp (length-append, length-replicate) in
+      omega (arith, size, whole, ap length e)
 
   -- the used places tell how many they are, and all of them
   module _ (places count count′ : ℕ) (vs vs′ : List A) (f : Filled z places count vs) (f′ : Filled z places count′ vs′) (e : take count vs ≡ take count′ vs′) where

@@ -6,4 +6,7 @@ pub mod Numbers
 pub mod Chains
 pub mod Last
 pub mod Sorting
+pub mod First
+pub mod Occurrences
+pub mod Folds
 pub mod Matched

@@ -1,6 +1,6 @@
 -- Laws of a test that some element of a list, or some number below another, passes.
 use mathlib.Core.Path.{_≡_, refl, sym, ap, _∙_}
-use mathlib.Core.Bool.{Bool, true, false, _||_, or-true, false≢true}
+use mathlib.Core.Bool.{Bool, true, false, cond, _||_, or-true, false≢true}
 use mathlib.Core.List.{List, [], _∷_}
 use Prim.Native.Nat.{ℕ, zero, suc, _+_, _≤_, _<_}
 use native.Mathlib.Omega.{arith}
@@ -10,7 +10,7 @@ use lib.ListN.{length, getD, drop, drop-of-length-le}
 use lib.Seq.{drop-cons}
 use lib.Dec.{ltb}
 use borrow.Author.Tests.{ltb-true, ltb-false}
-use Rattle.lists.specs.Lists.{any, someBelow}
+use Rattle.lists.specs.Lists.{any, someBelow, keep}
 use Rattle.lists.proofs.Numbers.{or-false}
 
 -- ---- by a walk that leaves at the first that passes
@@ -75,3 +75,16 @@ none-below f (suc k) c e h = go (ltb c k) refl (none-below f k c (or-false (f k)
     go : (b : Bool) → ltb c k ≡ b → (c < k → f c ≡ false) → f c ≡ false
     go true t rest = rest (ltb-true c k t)
     go false t rest = let same : c ≡ k = omega (arith, ltb-false c k t) in ap f same ∙ or-false (f k) (someBelow f k) e .0
+
+-- ---- where some element passes, those that pass are not none; where none does, they are
+pub some-kept : {A : Type 0} (p : A → Bool) (xs : List A) → any p xs ≡ true → 0 < length (keep p xs)
+some-kept p [] e = absurd (false≢true e)
+some-kept p (x ∷ xs) e = go (p x) e (some-kept p xs)
+  where
+    go : (b : Bool) → (b || any p xs) ≡ true → (any p xs ≡ true → 0 < length (keep p xs)) → 0 < length (cond b (x ∷ keep p xs) (keep p xs))
+    go true f rest = omega arith
+    go false f rest = rest f
+
+pub none-kept : {A : Type 0} (p : A → Bool) (xs : List A) → any p xs ≡ false → keep p xs ≡ []
+none-kept p [] e = refl
+none-kept p (x ∷ xs) e = let both = or-false (p x) (any p xs) e in rw (both .0) (none-kept p xs (both .1))

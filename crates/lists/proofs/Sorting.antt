@@ -1,12 +1,27 @@
 -- Laws of the stable sort: what inserting and sorting keep, and that leaving some out first or afterwards comes to the same.
-use mathlib.Core.Path.{_≡_, refl, ap, sym, _∙_}
+use mathlib.Core.Path.{_≡_, refl, ap, ap₂, sym, _∙_}
 use mathlib.Core.Bool.{Bool, true, false, cond, _||_}
 use mathlib.Core.List.{List, [], _∷_}
+use Prim.Native.Nat.{suc}
+use lib.ListN.{length}
 use Rattle.lists.specs.Lists.{any, keep}
 use Rattle.lists.specs.Sorting.{insert, sorted}
 use Rattle.lists.proofs.Chains.{Each, Chain, chain-all, each-implied, each-keep}
 
 module _ {A : Type 0} (before : A → A → Bool) where
+  -- ---- as many elements
+  pub length-insert : (x : A) (ys : List A) → length (insert before x ys) ≡ suc (length ys)
+  length-insert x [] = refl
+  length-insert x (y ∷ ys) = go (before x y) (length-insert x ys)
+    where
+      go : (b : Bool) → length (insert before x ys) ≡ suc (length ys) → length (cond b (x ∷ (y ∷ ys)) (y ∷ insert before x ys)) ≡ suc (suc (length ys))
+      go true r = refl
+      go false r = ap suc r
+
+  pub length-sorted : (xs : List A) → length (sorted before xs) ≡ length xs
+  length-sorted [] = refl
+  length-sorted (x ∷ xs) = length-insert x (sorted before xs) ∙ ap suc (length-sorted xs)
+
   -- ---- what holds of each element
   module _ (P : A → Type 0) where
     pub each-insert : (x : A) (ys : List A) → P x → Each P ys → Each P (insert before x ys)
@@ -103,3 +118,17 @@ module _ {A : Type 0} (before : A → A → Bool) where
           go : (b : Bool) → cond b (insert before x (sorted before (keep p xs))) (sorted before (keep p xs)) ≡ sorted before (cond b (x ∷ keep p xs) (keep p xs))
           go true = refl
           go false = refl
+
+      -- those that pass a test and are in order already stay as they are
+      pub stable : (xs : List A) → Chain InOrder (keep p xs) → keep p (sorted before xs) ≡ keep p xs
+      stable xs h = keep-sorted xs ∙ sorted-same (keep p xs) h
+
+-- ---- two tests that agree on the elements sort them alike
+module _ {A : Type 0} (before first : A → A → Bool) where
+  insert-alike : (x : A) (ys : List A) → Each (λ y. before x y ≡ first x y) ys → insert before x ys ≡ insert first x ys
+  insert-alike x [] h = refl
+  insert-alike x (y ∷ ys) h = ap₂ {C = List A} (λ b l. cond b (x ∷ (y ∷ ys)) (y ∷ l)) (h .0) (insert-alike x ys (h .1))
+
+  pub sorted-alike : (xs : List A) → Chain (λ x y. before x y ≡ first x y) xs → sorted before xs ≡ sorted first xs
+  sorted-alike [] h = refl
+  sorted-alike (x ∷ xs) h = insert-alike x (sorted before xs) (each-sorted before (λ y. before x y ≡ first x y) xs (h .0)) ∙ ap (insert first x) (sorted-alike xs (h .1))

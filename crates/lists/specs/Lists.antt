@@ -1,10 +1,11 @@
--- Tests over the elements of a list, the elements that pass one, and places of which the first are used.
+-- Tests over the elements of a list, the elements that pass one, how often a number stands in it, a value changed by each; and places of which the first are used.
 use mathlib.Core.Path.{_≡_}
 use mathlib.Core.Bool.{Bool, true, false, cond, _&&_, _||_}
-use mathlib.Core.List.{List, [], _∷_}
+use mathlib.Core.List.{List, [], _∷_, _++_}
 use mathlib.Core.Option.{Option, none, some}
-use Prim.Native.Nat.{ℕ, zero, suc, _-_, _≤_}
+use Prim.Native.Nat.{ℕ, zero, suc, _+_, _-_, _≤_}
 use lib.ListN.{length, getD, drop, replicate}
+use lib.Dec.{eqb}
 
 abbrev pub isEmpty : {A : Type 0} → List A → Bool
 isEmpty [] = true
@@ -55,10 +56,24 @@ abbrev pub upTo : ℕ → ℕ → List ℕ
 upTo k zero = []
 upTo k (suc n) = k ∷ upTo (suc k) n
 
+-- how often a number stands in a list
+abbrev pub occurrences : ℕ → List ℕ → ℕ
+occurrences k [] = 0
+occurrences k (x ∷ xs) = cond (eqb x k) 1 0 + occurrences k xs
+
+-- a value changed by one element after another
+abbrev pub fold : {A B : Type 0} → (B → A → B) → B → List A → B
+fold f b [] = b
+fold f b (x ∷ xs) = fold f (f b x) xs
+
 -- n elements from place i on, d past the end
 abbrev pub spell : {A : Type 0} → A → ℕ → ℕ → List A → List A
 spell d i zero l = []
 spell d i (suc n) l = getD l i d ∷ spell d (suc i) n l
+
+-- some elements, and z in the places past them
+abbrev pub padded : {A : Type 0} → ℕ → A → List A → List A
+padded places z vs = vs ++ replicate (places - length vs) z
 
 -- of so many places the first `count` are used, and the rest are z
 pub record Filled {A : Type 0} (z : A) (places count : ℕ) (vs : List A) : Type 0 where

@@ -1,25 +1,22 @@
--- One message: what is written of it is read back, its name, and its value.
+-- One message: what is written of it is read back, its name, and a dummy's timestamp.
 use mathlib.Core.Path.{_≡_, refl, sym, ap, ap₂, _∙_}
 use mathlib.Core.Bool.{Bool, true, false, cond, _||_}
 use mathlib.Core.List.{List}
-use Prim.Native.Nat.{ℕ, _-_, _≤_, _<_, min}
+use Prim.Native.Nat.{ℕ, _-_, _≤_, min}
 use native.Mathlib.Omega.{arith}
 use lib.ListN.{length, getD, set, length-set}
 use lib.Seq.{getD-set-same}
 use lib.Dec.{ltb}
-use borrow.Author.Tests.{lt-ltb, le-ltb, le-leb, ltb-true, ltb-false}
+use borrow.Author.Tests.{le-leb, ltb-true, ltb-false}
 use Rattle.words.specs.Words.{part, put, overlaid}
 use Rattle.words.proofs.Parts.{part-length, put-length, put-here, put-getD-below}
 use Rattle.words.proofs.Walks.{overlaid-same}
-use Rattle.timestamp_order.specs.Timestamp.{Stamp, noStamp, room}
-use Rattle.timestamp.specs.declared.Timestamp.{Timestamp}
-use Rattle.timestamp.specs.Value.{PlainValue}
+use Rattle.timestamp_order.specs.Timestamp.{Stamp, room}
 use Rattle.timestamp_words.specs.InWords.{stampIn, stampSize, stampRange, stampWords}
 use Rattle.timestamp_words.proofs.Words.{words-back, words-length}
-use Rattle.messages.specs.declared.Message.{Message as MessageValue}
-use Rattle.messages.specs.Messages.{commit, dummy, nameOf}
+use Rattle.messages.specs.Messages.{commit, dummy, nameOf, ownStamp}
 use Rattle.limits.specs.Limits.{recordsMost}
-use Rattle.messages.specs.InWords.{messageSize, messageIn, messageRange, PlainMessage}
+use Rattle.messages.specs.InWords.{messageSize, messageIn, messageRange}
 
 -- ---- in words
 or-true : (b : Bool) → (b || true) ≡ true
@@ -70,13 +67,13 @@ named-by x s = go (ltb x recordsMost) refl
 pub name-in : (w : List ℕ) → min (getD w 0 0) recordsMost ≡ nameOf (messageIn w)
 name-in w = named-by (getD w 0 0) (stampIn (part w 1 stampSize))
 
--- ---- as a value
-pub commit-value : (k : ℕ) (t : Timestamp) → k < recordsMost → PlainValue noStamp t → PlainMessage (commit k) (record { name = k; stamp = t })
-commit-value k t h v = record { means = rw (lt-ltb k recordsMost h); name-is = refl; stamp-is = v }
+-- the words of a dummy's timestamp
+own-by : (x : ℕ) (s : Stamp) → nameOf (cond (ltb x recordsMost) (commit x) (dummy s)) ≡ recordsMost → s ≡ ownStamp (cond (ltb x recordsMost) (commit x) (dummy s))
+own-by x s = go (ltb x recordsMost) refl
+  where
+    go : (b : Bool) → ltb x recordsMost ≡ b → nameOf (cond b (commit x) (dummy s)) ≡ recordsMost → s ≡ ownStamp (cond b (commit x) (dummy s))
+    go true h e = absurd (omega (arith, ltb-true x recordsMost h))
+    go false h e = refl
 
-module _ (w : List ℕ) (name : ℕ) (is : name ≡ getD w 0 0) where
-  pub value-commit : name < recordsMost → (v : MessageValue) → PlainMessage (commit name) v → PlainMessage (messageIn w) v
-  value-commit h v p = rw (lt-ltb (getD w 0 0) recordsMost (omega arith), ← is) p
-
-  pub value-dummy : recordsMost ≤ name → (t : Timestamp) → PlainValue (stampIn (part w 1 stampSize)) t → PlainMessage (messageIn w) (record { name = recordsMost; stamp = t })
-  value-dummy h t p = rw (le-ltb (getD w 0 0) recordsMost (omega arith)) (record { means = ap dummy (p .means); name-is = refl; stamp-is = p })
+pub own-in : (w : List ℕ) → nameOf (messageIn w) ≡ recordsMost → stampIn (part w 1 stampSize) ≡ ownStamp (messageIn w)
+own-in w e = own-by (getD w 0 0) (stampIn (part w 1 stampSize)) e

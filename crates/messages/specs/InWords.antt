@@ -1,5 +1,4 @@
 -- A message in words: its name, and the timestamp of a dummy.
-use mathlib.Core.Path.{_≡_}
 use mathlib.Core.Bool.{Bool, cond, _||_}
 use mathlib.Core.List.{List}
 use Prim.Native.Nat.{ℕ, _+_}
@@ -7,10 +6,10 @@ use lib.ListN.{getD}
 use lib.Dec.{ltb}
 use Rattle.limits.specs.Limits.{recordsMost}
 use Rattle.words.specs.Words.{part}
-use Rattle.timestamp.specs.Value.{stampOf, PlainValue}
+use Rattle.timestamp.specs.Value.{stampOf}
 use Rattle.timestamp_words.specs.InWords.{stampIn, stampSize, stampRange}
 use Rattle.messages.specs.declared.Message.{Message as MessageValue}
-use Rattle.messages.specs.Messages.{Message, commit, dummy, nameOf, ownStamp}
+use Rattle.messages.specs.Messages.{Message, commit, dummy}
 
 abbrev pub messageSize : ℕ
 messageSize = 1 + stampSize
@@ -25,9 +24,3 @@ messageRange w = ltb (getD w 0 0) recordsMost || stampRange (part w 1 stampSize)
 -- what a value of the code means
 abbrev pub messageOf : MessageValue → Message
 messageOf m = cond (ltb (m .name) recordsMost) (commit (m .name)) (dummy (stampOf (m .stamp)))
-
--- the value of a message: its name, 256 of every dummy, and its own timestamp, plain
-pub record PlainMessage (m : Message) (v : MessageValue) : Type 0 where
-  pub means : messageOf v ≡ m
-  pub name-is : v .name ≡ nameOf m
-  pub stamp-is : PlainValue (ownStamp m) (v .stamp)

@@ -18,6 +18,11 @@ pub record Best (n : Network) (j k parent : ℕ) (stamp : Timestamp) : Type 0 wh
   pub is : parent ≡ earliest n j k
   pub stamped : parent < sitesMost → PlainValue (headStamp n parent j) stamp
 
+-- the same parent, before its timestamp is read: where it is a site it is a parent
+pub record Leading (n : Network) (j k parent : ℕ) : Type 0 where
+  pub is : parent ≡ earliest n j k
+  pub line : parent < sitesMost → isLine (n .items) parent j ≡ true
+
 -- ---- what is asked: the words of a network, with
 -- site j, whose schedule no cause refuses
 pub record Choosing (w : List ℕ) (j : ℕ) : Type 0 where
@@ -30,8 +35,8 @@ pub record ChoosingFrom (w : List ℕ) (p j : ℕ) : Type 0 where
   pub line : isLine (networkIn w .items) p j ≡ true
 
 -- the same, a number p that may be a parent, and the best parent below it
-pub record Comparing (w : List ℕ) (mask p j parent : ℕ) (stamp : Timestamp) : Type 0 where
+pub record Comparing (w : List ℕ) (mask p j parent : ℕ) : Type 0 where
   pub free : Choosing w j
   pub few : p < sitesMost
   pub parents : mask ≡ parentsMask (networkIn w .items) j
-  pub best : Best (networkIn w) j p parent stamp
+  pub best : Leading (networkIn w) j p parent

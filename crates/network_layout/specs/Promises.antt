@@ -6,18 +6,15 @@ use lib.IntN.{ℤ, pos}
 use lib.ListN.{take}
 use Rattle.timestamp_order.specs.Timestamp.{Stamp}
 use Rattle.timestamp.specs.Value.{stampOf, Plain}
-use Rattle.limits.specs.Limits.{itemsMost, opsMost}
+use Rattle.limits.specs.Limits.{opsMost}
 use Rattle.lists.specs.Lists.{Filled}
-use Rattle.protocol.specs.Network.{noStamp}
-use Rattle.protocol.specs.Questions.{waiting}
-use Rattle.protocol.specs.Calls.{Call, dummy, schedule, ask, perform}
-use Rattle.protocol.specs.Waiting.{EachOnce}
+use Rattle.protocol.specs.Calls.{Call, dummy, schedule, perform}
 use Rattle.network_layout.specs.declared.Committed.{Committed}
 use Rattle.network_layout.specs.declared.Dummied.{Dummied}
 use Rattle.network_layout.specs.declared.Scheduled.{Scheduled}
 use Rattle.network_layout.specs.declared.Origin.{Origin}
 use Rattle.network_layout.specs.declared.Origin.the-variants.{Refused, Start, Commit}
-use Rattle.network_layout.specs.InWords.{networkIn, meaning}
+use Rattle.network_layout.specs.InWords.{meaning}
 
 pub record Performed (call : Call) (entry exit : List ℕ) (number parent : ℕ) (stamp : Stamp) (values : List ℤ) : Type 0 where
   pub number-is : number ≡ perform (meaning entry) call .number
@@ -42,13 +39,6 @@ pub record DummyAnswered (site : ℕ) (entry exit : List ℕ) (r : Dummied) : Ty
 pub record ScheduleAnswered (site : ℕ) (entry exit : List ℕ) (r : Scheduled) : Type 0 where
   pub performed : Performed (schedule site) entry exit (r .number) (r .parent) (stampOf (r .stamp)) []
   pub plain : Plain (r .stamp)
-
--- what a waiting report at a site answers, the first `count` of 64 places being its items; the state is as it was
-pub record Reported (site : ℕ) (entry : List ℕ) (number count : ℕ) (items : List ℕ) : Type 0 where
-  pub performed : Performed (ask (waiting site)) entry entry number 0 noStamp []
-  pub each-once : number ≡ 0 → EachOnce (networkIn entry) site (take count items)
-  pub none-refused : (number ≡ 0 → ⊥) → count ≡ 0
-  pub filled : Filled 0 itemsMost count items
 
 -- the number that the answer about an origin has: 0 where it is not refused
 abbrev pub originNumber : Origin → ℕ

@@ -8,13 +8,20 @@ ghost use Prim.Native.Nat.{_≤_};
 ghost use lib.ListN.{length, getD};
 ghost use Rattle.limits.specs.Limits.{heldMost};
 ghost use Rattle.lines.specs.Lines.{noLine, sentOrSame, deliveredOrSame, takenOrSame};
-ghost use Rattle.messages.specs.Messages.{commit};
+ghost use Rattle.timestamp_words.specs.InWords.{stampIn};
+ghost use Rattle.messages.specs.Messages.{nameOf, ownStamp};
 ghost use Rattle.lines.specs.InWords.{lineIn, lineSize};
-ghost use Rattle.messages.specs.InWords.{messageOf, PlainMessage};
+ghost use Rattle.messages.specs.InWords.{messageOf};
 ghost use Rattle.protocol.specs.Network.{lineNumber};
 ghost use Rattle.network_layout.specs.InWords.{networkIn, LineStep};
 ghost use Rattle.network_layout.specs.At.{AtLine, HasLine};
 ghost use Rattle.network_layout.specs.Lent.{Lent};
+ghost use Rattle.network_lines.specs.First.{firstOn, HasDummy};
+
+// Where a line's words have the timestamp of its oldest message, and where that ends.
+const FIRST_STAMP: usize = lines::BOXES + messages::STAMP;
+
+const FIRST_END: usize = lines::BOXES + messages::MESSAGE;
 
 // The number of the line from site p to site c.
 pub fn line_number(p: u32, c: u32) -> usize
@@ -47,11 +54,21 @@ pub fn line_arrived(state: &[u32], k: usize) -> usize
     lines::arrived(line_at(state, k))
 }
 
-pub fn line_first(state: &[u32], k: usize) -> Message
+// The name of the oldest message: 256 where it is a dummy, 0 where there is none.
+pub fn line_first_name(state: &[u32], k: usize) -> u32
     requires { ⌜ HasLine (now state) k ⌝ }
-    ensures { λ r. ⌜ PlainMessage (getD (getD (networkIn (now (state .entry)) .lines) k noLine .messages) 0 (commit 0)) r ⌝ }
+    ensures { λ r. ⌜ r ≡ nameOf (firstOn (networkIn (now (state .entry))) k) ⌝ }
 {
-    lines::first(line_at(state, k))
+    lines::name(line_at(state, k), 0)
+}
+
+// The words of the timestamp of an oldest message that is a dummy.
+pub fn line_first_stamp(state: &[u32], k: usize) -> &[u32]
+    requires { ⌜ HasDummy (now state) k ⌝ }
+    ensures { λ r. ⌜ stampIn (now r) ≡ ownStamp (firstOn (networkIn (now (state .entry))) k) ⌝ }
+{
+    let w = line_at(state, k);
+    &w[FIRST_STAMP..FIRST_END]
 }
 
 pub fn line_send(state: &mut [u32], k: usize, m: Message)

@@ -7,6 +7,7 @@ use native.Mathlib.Numerals.{add-one}
 use lib.IntN.{ℤ}
 use lib.ListN.{length, getD, set, take, replicate, length-map}
 use lib.Seq.{set-at, append-snoc, take-suc, length-take-le}
+use Rattle.lists.specs.Lists.{padded}
 use Rattle.words.specs.Words.{part}
 use Rattle.words.proofs.Parts.{part-length}
 use Rattle.timestamp_words.specs.InWords.{stampSize}
@@ -19,7 +20,7 @@ use Rattle.network_layout.specs.At.{AtSite}
 use Rattle.network_layout.proofs.Performs.{items-count}
 use Rattle.network_layout.proofs.Assembled.{partsOf, range-parts}
 use Rattle.network_layout.specs.Lent.{Lent}
-use Rattle.network_lookup.specs.Lookup.{padded, tableOf, Values}
+use Rattle.network_lookup.specs.Lookup.{tableOf, Values}
 
 -- ---- values
 module _ {A : Type 0} (places : ℕ) (z : A) (vs : List A) (i : ℕ) (there : i < length vs) (few : i < places) where

@@ -1,16 +1,13 @@
 -- What is read of a network by number: the values of a table, and the counts of a line.
 use mathlib.Core.Path.{_≡_}
-use mathlib.Core.List.{List, _++_}
-use Prim.Native.Nat.{ℕ, _-_, _≤_}
+use mathlib.Core.List.{List}
+use Prim.Native.Nat.{ℕ, _≤_}
 use lib.IntN.{ℤ, pos}
-use lib.ListN.{length, getD, take, replicate}
+use lib.ListN.{length, getD, take}
 use Rattle.limits.specs.Limits.{itemsMost, heldMost}
+use Rattle.lists.specs.Lists.{padded}
 use Rattle.lines.specs.Lines.{noLine}
 use Rattle.protocol.specs.Network.{Network, siteAt}
-
--- some values, and the same one in the places past them
-abbrev pub padded : {A : Type 0} → ℕ → A → List A → List A
-padded places z vs = vs ++ replicate (places - length vs) z
 
 -- ---- a table: a value for each item
 abbrev pub tableOf : ℕ → Network → List ℤ

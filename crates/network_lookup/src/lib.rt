@@ -5,11 +5,12 @@ use network_layout::Tabled;
 ghost use mathlib.Core.Path.{_≡_};
 ghost use lib.IntN.{pos};
 ghost use lib.ListN.{take};
+ghost use Rattle.lists.specs.Lists.{padded};
 ghost use Rattle.limits.specs.Limits.{itemsMost};
 ghost use Rattle.site_operations.specs.InWords.{tableIn};
 ghost use Rattle.network_layout.specs.InWords.{networkIn};
 ghost use Rattle.network_layout.specs.At.{AtSite, HasLine};
-ghost use Rattle.network_lookup.specs.Lookup.{padded, tableOf, TableAt, LineAt, Values};
+ghost use Rattle.network_lookup.specs.Lookup.{tableOf, TableAt, LineAt, Values};
 
 // Where a site's words have its table.
 const TABLE: usize = timestamp_words::WORDS;

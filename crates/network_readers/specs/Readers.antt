@@ -4,6 +4,7 @@ use mathlib.Core.List.{List, []}
 use Prim.Native.Nat.{ℕ, _≤_}
 use lib.IntN.{ℤ, pos}
 use lib.ListN.{length}
+use Rattle.lists.specs.Lists.{padded}
 use Rattle.limits.specs.Limits.{itemsMost, heldMost}
 use Rattle.timestamp.specs.declared.Timestamp.{Timestamp}
 use Rattle.timestamp.specs.Value.{stampOf, Plain}
@@ -13,7 +14,7 @@ use Rattle.protocol.specs.Questions.{table, stamp, line, answer}
 use Rattle.protocol.specs.Calls.{ask}
 use Rattle.network_layout.specs.InWords.{meaning}
 use Rattle.network_layout.specs.Promises.{Performed}
-use Rattle.network_lookup.specs.Lookup.{padded, tableOf}
+use Rattle.network_lookup.specs.Lookup.{tableOf}
 
 -- ---- a table: a value for each item
 abbrev pub tableAnswer : ℕ → List ℕ → List ℤ

@@ -2,12 +2,17 @@
 use network_layout::HISTORY;
 use network_layout::RECORD;
 use network_layout::RECORD_COUNT;
+use record_codes::CODES;
+use record_codes::STAMP;
 use site_operations::OPERATIONS;
 use timestamp::Timestamp;
+use timestamp_order::Compared;
 ghost use mathlib.Core.Path.{_≡_};
 ghost use Prim.Native.Nat.{min, _≤_};
 ghost use lib.ListN.{length, take};
 ghost use Rattle.timestamp.specs.Value.{stampOf, PlainValue};
+ghost use Rattle.timestamp_order.specs.Parting.{Compares};
+ghost use Rattle.timestamp_words.specs.InWords.{stampIn, stampSize};
 ghost use Rattle.site_operations.specs.Operations.{touches};
 ghost use Rattle.site_operations.specs.InWords.{opsIn, OpsLaid};
 ghost use Rattle.limits.specs.Limits.{opsMost};
@@ -17,6 +22,7 @@ ghost use Rattle.protocol.specs.Network.{nthRecord};
 ghost use Rattle.network_layout.specs.InWords.{networkIn, RecordStep};
 ghost use Rattle.network_layout.specs.At.{AtRoom, HasRecord};
 ghost use Rattle.network_layout.specs.Lent.{Lent};
+ghost use Rattle.network_records.specs.Asked.{HasRecords};
 
 // How many there are.
 pub fn record_count(state: &[u32]) -> u32
@@ -41,6 +47,23 @@ pub fn record_site(state: &[u32], k: usize) -> u32
     ensures { λ r. ⌜ r ≡ nthRecord (networkIn (now (state .entry))) k .site ⌝ }
 {
     records::site(record_at(state, k))
+}
+
+// The words of its timestamp.
+pub fn stamp_at(state: &[u32], k: usize) -> &[u32]
+    requires { ⌜ HasRecord (now state) k ⌝ }
+    ensures { λ r. ⌜ Lent stampSize stampIn (nthRecord (networkIn (now (state .entry))) k .stamp) (now r) ⌝ }
+{
+    let w = record_at(state, k);
+    &w[STAMP..CODES]
+}
+
+// The timestamps of two records, compared where they lie.
+pub fn compare_records(state: &[u32], j: usize, k: usize) -> Compared
+    requires { ⌜ HasRecords (now state) j k ⌝ }
+    ensures { λ r. ⌜ Compares (nthRecord (networkIn (now (state .entry))) j .stamp) (nthRecord (networkIn (now (state .entry))) k .stamp) r ⌝ }
+{
+    timestamp_comparison::compare_words(stamp_at(state, j), stamp_at(state, k))
 }
 
 pub fn record_stamp(state: &[u32], k: usize) -> Timestamp

@@ -100,14 +100,14 @@ fn head_writes(state: &[u32], p: u32, j: u32) -> Writes
     requires { ⌜ ChoosingFrom (now state) p j ⌝ }
     ensures { λ r. ⌜ Laid opsMost (r .count) (r .ops) (writesFor (networkIn (now (state .entry))) j (head (networkIn (now (state .entry))) p j)) ⌝ }
 {
-    let m = network_lines::line_first(state, network_lines::line_number(p, j));
-    if limits::RECORDS <= m.name {
+    let name = network_lines::line_first_name(state, network_lines::line_number(p, j));
+    if limits::RECORDS <= name {
         return Writes {
             count: 0,
             ops: [0u32; site_operations::OPERATIONS],
         };
     }
-    record_writes(state, words::wide(m.name), j)
+    record_writes(state, words::wide(name), j)
 }
 
 // Those of record k.

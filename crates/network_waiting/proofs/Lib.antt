@@ -1,1 +1,1 @@
-pub mod WaitingLaws
+pub mod ReportLaws

@@ -1,20 +1,19 @@
-// Waiting report: the items that messages on the lines into a site write and that it has a copy of.
+// Waiting report: the items that messages on the lines into a site write and that it has a copy of, the one with the earliest write first.
 use limits::ITEMS_WIDE;
-use limits::SITES;
 use network_layout::Report;
 use network_layout::WORDS;
 ghost use mathlib.Core.Path.{_≡_};
-ghost use lib.ListN.{length, getD};
-ghost use Rattle.lists.specs.Lists.{any};
-ghost use Rattle.messages.specs.Messages.{commit};
+ghost use Prim.Native.Nat.{_-_, _<_};
+ghost use lib.ListN.{length};
+ghost use Rattle.lists.specs.Sorting.{placeIn};
 ghost use Rattle.protocol.specs.Waiting.{isWaiting};
 ghost use Rattle.network_layout.specs.Layout.{stateSize};
 ghost use Rattle.network_layout.specs.InWords.{networkIn};
-ghost use Rattle.network_layout.specs.At.{AtSite, AtLine};
-ghost use Rattle.network_layout.specs.Promises.{Reported};
-ghost use Rattle.network_waiting.specs.Collected.{onIt, carries, Collecting, Collected, AllCollected};
+ghost use Rattle.network_layout.specs.At.{AtSite};
+ghost use Rattle.network_waiting.specs.Report.{Reported};
+ghost use Rattle.network_waiting.specs.Places.{earliestOf, earliestBefore, BothWritten, Seeking, Narrowing, Narrowed, Asking, Putting, PutIn, AllPut};
 
-// The waiting report of a site. It answers its number and the items.
+// The waiting report of a site. It answers its number and the items, by the timestamp of the earliest waiting write, then by number.
 pub fn waiting(state: &[u32; WORDS], site: u32) -> Report
     ensures { λ r. ⌜ Reported site (now (state .entry)) (r .number) (r .count) (r .items) ⌝ }
 {
@@ -33,21 +32,21 @@ fn waiting_in(state: &[u32], site: u32) -> Report
             items: [0; ITEMS_WIDE],
         };
     }
-    collect(state, site)
+    report(state, site)
 }
 
-// The items that are waiting at a site, from item 0 on.
-fn collect(state: &[u32], site: u32) -> Report
+// The items from the last down, so that of those with one timestamp each comes before the ones above it.
+fn report(state: &[u32], site: u32) -> Report
     requires { ⌜ AtSite (now state) site ⌝ }
-    ensures { λ r. ⌜ AllCollected (networkIn (now (state .entry))) site (r .number) (r .count) (r .items) ⌝ }
+    ensures { λ r. ⌜ AllPut (networkIn (now (state .entry))) site (r .number) (r .count) (r .items) ⌝ }
 {
+    let writers = network_earliest_writes::earliest_writes(state, site);
     let mut items = [0u32; ITEMS_WIDE];
-    let placed = network_placement::item_count(state);
     let mut count = 0usize;
-    let mut k = 0u32;
-    while k < placed {
-        count = collect_one(&mut items, count, state, site, k);
-        k += 1;
+    let mut k = network_placement::item_count(state);
+    while 0 < k {
+        k -= 1;
+        count = put_item(&mut items, count, &writers, state, site, k);
     }
     Report {
         number: 0,
@@ -56,60 +55,90 @@ fn collect(state: &[u32], site: u32) -> Report
     }
 }
 
-// Item k, where it is waiting, after the `count` items before it; answers how many there are then.
-fn collect_one(items: &mut [u32], count: usize, state: &[u32], site: u32, k: u32) -> usize
-    requires { ⌜ Collecting (now items) (now state) site count k ⌝ }
-    ensures { λ r. ⌜ Collected (isWaiting (networkIn (now (state .entry))) site k) (now (items .entry)) (now (items .exit)) count r k ⌝ }
+// Item k put among the `count` items above it, where it is waiting; answers how many there are then.
+fn put_item(
+    items: &mut [u32],
+    count: usize,
+    writers: &[u32],
+    state: &[u32],
+    site: u32,
+    k: u32,
+) -> usize
+    requires { ⌜ Putting (now items) (now state) (now writers) count site k ⌝ }
+    ensures { λ r. ⌜ PutIn (now (state .entry)) (now (writers .entry)) site k count r (now (items .entry)) (now (items .exit)) ⌝ }
 {
-    if !is_waiting(state, site, k) {
+    if !is_waiting(writers, state, site, k) {
         return count;
     }
-    items[count] = k;
-    count + 1
+    let at = place_in(&items[0..count], writers, state, k);
+    let end = count + 1;
+    word_insertion::insert(&mut items[0..end], at, k);
+    end
 }
 
-// Whether the site has a copy of the item and a message on some line into it writes it.
-fn is_waiting(state: &[u32], site: u32, item: u32) -> bool
-    requires { ⌜ AtSite (now state) site ⌝ }
+// Whether a message on a line into the site writes the item, and the site has a copy of it.
+fn is_waiting(writers: &[u32], state: &[u32], site: u32, item: u32) -> bool
+    requires { ⌜ Asking (now state) (now writers) site item ⌝ }
     ensures { λ r. ⌜ r ≡ isWaiting (networkIn (now (state .entry))) site item ⌝ }
 {
-    if !network_placement::is_copied(state, item, site) {
+    if network_records::record_count(state) <= writers[words::wide(item)] {
         return false;
     }
-    let mut p = 0u32;
-    while p < SITES {
-        if on_line(state, network_lines::line_number(p, site), item) {
-            return true;
-        }
-        p += 1;
-    }
-    false
+    network_placement::is_copied(state, item, site)
 }
 
-// Whether a message on line k, arrived or not, writes the item.
-fn on_line(state: &[u32], k: usize, item: u32) -> bool
-    requires { ⌜ AtLine (now state) k ⌝ }
-    ensures { λ r. ⌜ r ≡ any (carries (now (state .entry)) item) (onIt (now (state .entry)) k) ⌝ }
-{
-    let n = network_lines::line_held(state, k);
-    let mut i = 0;
-    while i < n {
-        if in_message(state, k, i, item) {
-            return true;
-        }
-        i += 1;
-    }
-    false
+// Places of which one is sought.
+struct Range {
+    low: usize,
+    high: usize,
 }
 
-// Whether message i of line k writes the item: a dummy names no record, and writes nothing.
-fn in_message(state: &[u32], k: usize, i: usize, item: u32) -> bool
-    requires { ⌜ AtLine (now state) k ⌝ }
-    ensures { λ r. ⌜ r ≡ carries (now (state .entry)) item (getD (onIt (now (state .entry)) k) i (commit 0)) ⌝ }
+// The place of item k among items that are in order: before the first that it is not behind.
+fn place_in(items: &[u32], writers: &[u32], state: &[u32], k: u32) -> usize
+    requires { ⌜ Seeking (now items) (now state) (now writers) k ⌝ }
+    ensures { λ r. ⌜ r ≡ placeIn (earliestBefore (now (state .entry)) (now (writers .entry))) k (now (items .entry)) ⌝ }
 {
-    let name = lines::name(network_lines::line_at(state, k), i);
-    if network_records::record_count(state) <= name {
-        return false;
+    let mut range = Range {
+        low: 0,
+        high: items.len(),
+    };
+    while range.low < range.high {
+        range = narrow(items, writers, state, k, range);
     }
-    network_records::record_touches(state, words::wide(name), item)
+    range.low
+}
+
+// The half of the places that has the one sought.
+fn narrow(items: &[u32], writers: &[u32], state: &[u32], k: u32, range: Range) -> Range
+    requires { ⌜ Narrowing (now items) (now state) (now writers) k (range .low) (range .high) ⌝ }
+    ensures { λ r. ⌜ Narrowed (now (items .entry)) (now (state .entry)) (now (writers .entry)) k (range .high - range .low) (r .low) (r .high) ⌝ }
+{
+    let low = range.low;
+    let high = range.high;
+    let middle = low + (high - low) / 2;
+    if earliest_before(writers, state, k, items[middle]) {
+        return Range { low, high: middle };
+    }
+    Range {
+        low: middle + 1,
+        high,
+    }
+}
+
+// Whether the earliest write of item j is not later than that of item k.
+fn earliest_before(writers: &[u32], state: &[u32], j: u32, k: u32) -> bool
+    requires { ⌜ BothWritten (now state) (now writers) j k ⌝ }
+    ensures { λ r. ⌜ r ≡ earliestBefore (now (state .entry)) (now (writers .entry)) j k ⌝ }
+{
+    let first = record_of(writers, j);
+    let second = record_of(writers, k);
+    network_records::compare_records(state, first, second).not_later()
+}
+
+// The record with an item's earliest write.
+fn record_of(writers: &[u32], item: u32) -> usize
+    requires { ⌜ item < length (now writers) ⌝ }
+    ensures { λ r. ⌜ r ≡ earliestOf (now (writers .entry)) item ⌝ }
+{
+    words::wide(writers[words::wide(item)])
 }

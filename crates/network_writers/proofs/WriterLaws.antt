@@ -1,5 +1,5 @@
 -- The read that is looked for; the last writer of an item among one record more.
-use mathlib.Core.Path.{_≡_, refl, sym, ap, ap₂, _∙_, subst}
+use mathlib.Core.Path.{_≡_, refl, sym, ap, _∙_, subst}
 use mathlib.Core.Bool.{Bool, true, false, cond, true≢false}
 use mathlib.Core.List.{List}
 use mathlib.Core.Option.{Option, none, some}
@@ -9,19 +9,15 @@ use native.Mathlib.Numerals.{add-one}
 use lib.ListN.{length, getD}
 use borrow.Author.Tests.{lt-ltb, le-ltb, le-leb, lt-leb}
 use Rattle.limits.specs.Limits.{recordsMost}
-use Rattle.timestamp_order.specs.Timestamp.{Stamp}
-use Rattle.timestamp_order.specs.Order.{byNumber}
-use Rattle.timestamp.specs.declared.Timestamp.{Timestamp}
-use Rattle.timestamp.specs.Value.{stampOf}
 use Rattle.site_operations.specs.Operations.{Op, noOp, reads, touches}
 use Rattle.site_operations.specs.InWords.{opAt as opIn, OpsLaid}
 use Rattle.site_operations.proofs.Laws.{ops-at}
 use Rattle.protocol.specs.Network.{Network, nthRecord, placeOf}
 use Rattle.protocol.specs.Questions.{nthOp, askedRead}
 use Rattle.protocol.proofs.Places.{places-apart}
-use Rattle.origins.specs.Statements.{turnAt, precedesBy, precedes, writesBefore, LastBelow, FoundBelow}
+use Rattle.origins.specs.Statements.{writesBefore, LastBelow, FoundBelow}
 use Rattle.origins.proofs.Found.{none-yet, found-first, found-later, found-kept, found-skip}
-use Rattle.network_writers.specs.Writers.{SoughtIs, writerOf, StampIs, LastSoFar, LastStamped}
+use Rattle.network_writers.specs.Writers.{SoughtIs, comesBefore, writerOf, LastSoFar}
 
 -- ---- the read that is looked for
 module _ (n : Network) (k a : ℕ) where
@@ -54,16 +50,8 @@ module _ (n : Network) (k x : ℕ) where
   abbrev writes : ℕ → Bool
   writes i = touches x (nthRecord n i .ops)
 
-  abbrev comesBefore : ℕ → ℕ → Bool
-  comesBefore i m = precedes place (turnAt (n .history) i) (turnAt (n .history) m)
-
-  pub none-looked-at : (t : Timestamp) → LastStamped n k x 0 recordsMost t
-  none-looked-at t = record { last = record { found = none-yet place (places-apart (n .items)) (n .history) k x; few = omega arith }; stamped = λ h. absurd (omega arith) }
-
-  -- two records are compared by their numbers and timestamps
-  compared : (i m : ℕ) (s t : Timestamp) (b : Bool) → StampIs n i s → StampIs n m t → precedesBy byNumber i (stampOf s) m (stampOf t) ≡ b → comesBefore i m ≡ b
-  unfolding placeOf
-  compared i m s t b p q e = sym (ap₂ (λ (u v : Stamp). precedesBy byNumber i u m v) p q) ∙ e
+  pub none-looked-at : LastSoFar n k x 0 recordsMost
+  none-looked-at = record { found = none-yet place (places-apart (n .items)) (n .history) k x; few = omega arith }
 
   named : (b : ℕ) → b < recordsMost → writerOf b ≡ some b
   named b low = rw (lt-ltb b recordsMost low)
@@ -72,51 +60,32 @@ module _ (n : Network) (k x : ℕ) where
     next : (b : ℕ) (o : Option ℕ) → b ≤ recordsMost → writerOf b ≡ o → Found (suc j) o → LastSoFar n k x (j + 1) b
     next b o few e f = record { found = rw (add-one j) (subst (Found (suc j)) (sym e) f); few = few }
 
-    module _ (b : ℕ) (t : Timestamp) (so-far : LastStamped n k x j b t) where
-      skipped : writesBefore place (n .history) k x j ≡ false → LastStamped n k x (j + 1) b t
-      skipped e =
-          record {
-            last = next b (writerOf b) (so-far .last .few) refl (found-skip place (places-apart (n .items)) (n .history) k x j (λ w. true≢false (sym w ∙ e)) (writerOf b) (so-far .last .found));
-            stamped = so-far .stamped;
-          }
+    module _ (b : ℕ) (so-far : LastSoFar n k x j b) where
+      skipped : writesBefore place (n .history) k x j ≡ false → LastSoFar n k x (j + 1) b
+      skipped e = next b (writerOf b) (so-far .few) refl (found-skip place (places-apart (n .items)) (n .history) k x j (λ w. true≢false (sym w ∙ e)) (writerOf b) (so-far .found))
 
-      pub not-written : writes j ≡ false → LastStamped n k x (j + 1) b t
+      pub not-written : writes j ≡ false → LastSoFar n k x (j + 1) b
       not-written e = skipped (rw e)
 
-      -- record j writes the item; the timestamps of the reader and of record j
-      module _ (written : writes j ≡ true) (r s : Timestamp) (reader : StampIs n k r) (is : StampIs n j s) where
-        pub not-before : precedesBy byNumber j (stampOf s) k (stampOf r) ≡ false → LastStamped n k x (j + 1) b t
-        not-before e = skipped (rw (written, compared j k s r false is reader e))
+      -- the best so far, where there is one
+      pub last-below : b < recordsMost → LastBelow place (n .history) k x j b
+      last-below low = subst (Found j) (named b low) (so-far .found)
 
-        module _ (before : precedesBy byNumber j (stampOf s) k (stampOf r) ≡ true) where
+      -- record j writes the item
+      module _ (written : writes j ≡ true) where
+        pub not-before : comesBefore n j k ≡ false → LastSoFar n k x (j + 1) b
+        not-before e = skipped (rw (written, e))
+
+        module _ (before : comesBefore n j k ≡ true) where
           writer : writesBefore place (n .history) k x j ≡ true
-          writer = rw (written, compared j k s r true is reader before)
+          writer = rw (written, before)
 
-          pub taken-first : j < recordsMost → recordsMost ≤ b → LastStamped n k x (j + 1) j s
+          pub taken-first : j < recordsMost → recordsMost ≤ b → LastSoFar n k x (j + 1) j
           taken-first few high =
               let unnamed : writerOf b ≡ none = rw (le-ltb b recordsMost high) in
-              record {
-                last = next j (some j) (omega arith) (named j few) (found-first place (places-apart (n .items)) (n .history) k x j writer (subst (Found j) unnamed (so-far .last .found)));
-                stamped = λ _. is;
-              }
+              next j (some j) (omega arith) (named j few) (found-first place (places-apart (n .items)) (n .history) k x j writer (subst (Found j) unnamed (so-far .found)))
 
-          -- another was found
-          module _ (low : b < recordsMost) where
-            last : LastBelow place (n .history) k x j b
-            last = subst (Found j) (named b low) (so-far .last .found)
-
-            order-is : (c : Bool) → precedesBy byNumber b (stampOf t) j (stampOf s) ≡ c → comesBefore b j ≡ c
-            order-is c e = compared b j t s c (so-far .stamped low) is e
-
-            -- the one that comes last of the two
-            pub taken-last : j < recordsMost → (c : Bool) → precedesBy byNumber b (stampOf t) j (stampOf s) ≡ c → LastStamped n k x (j + 1) (cond c j b) (cond c s t)
-            taken-last few true e =
-                record {
-                  last = next j (some j) (omega arith) (named j few) (found-later place (places-apart (n .items)) (n .history) k x j b writer last (order-is true e));
-                  stamped = λ _. is;
-                }
-            taken-last few false e =
-                record {
-                  last = next b (some b) (so-far .last .few) (named b low) (found-kept place (places-apart (n .items)) (n .history) k x j b writer last (order-is false e));
-                  stamped = so-far .stamped;
-                }
+          -- the one that comes last of the two
+          pub taken-last : b < recordsMost → j < recordsMost → (c : Bool) → comesBefore n b j ≡ c → LastSoFar n k x (j + 1) (cond c j b)
+          taken-last low few true e = next j (some j) (omega arith) (named j few) (found-later place (places-apart (n .items)) (n .history) k x j b writer (last-below low) e)
+          taken-last low few false e = next b (some b) (so-far .few) (named b low) (found-kept place (places-apart (n .items)) (n .history) k x j b writer (last-below low) e)

@@ -1,17 +1,15 @@
 -- What the inner functions ask and answer about the read that is looked for and the writers of its item.
 use mathlib.Core.Path.{_≡_}
-use mathlib.Core.Bool.{cond}
+use mathlib.Core.Bool.{Bool, cond}
 use mathlib.Core.List.{List}
 use mathlib.Core.Option.{Option, none, some}
 use Prim.Native.Nat.{ℕ, _≤_, _<_}
 use lib.ListN.{length}
 use lib.Dec.{eqb, ltb}
 use Rattle.limits.specs.Limits.{recordsMost}
-use Rattle.timestamp.specs.declared.Timestamp.{Timestamp}
-use Rattle.timestamp.specs.Value.{stampOf}
-use Rattle.protocol.specs.Network.{Network, nthRecord, placeOf}
+use Rattle.protocol.specs.Network.{Network, placeOf}
 use Rattle.protocol.specs.Questions.{nthOp, askedRead}
-use Rattle.origins.specs.Statements.{FoundBelow}
+use Rattle.origins.specs.Statements.{turnAt, precedes, FoundBelow}
 use Rattle.network_layout.specs.InWords.{networkIn}
 use Rattle.network_layout.specs.At.{AtNetwork, HasRecord}
 
@@ -25,9 +23,9 @@ pub record OnRecord (w : List ℕ) (k : ℕ) : Type 0 where
   pub net : AtNetwork w
   pub there : k < length (networkIn w .history)
 
--- the timestamp of record k
-abbrev pub StampIs : Network → ℕ → Timestamp → Type 0
-StampIs n k t = stampOf t ≡ nthRecord n k .stamp
+-- record i comes before record m
+abbrev pub comesBefore : Network → ℕ → ℕ → Bool
+comesBefore n i m = precedes (placeOf (n .items)) (turnAt (n .history) i) (turnAt (n .history) m)
 
 -- a record's number, or one that no record has
 abbrev pub writerOf : ℕ → Option ℕ
@@ -38,13 +36,8 @@ pub record LastSoFar (n : Network) (k x j b : ℕ) : Type 0 where
   pub found : FoundBelow (placeOf (n .items)) (n .history) k x j (writerOf b)
   pub few : b ≤ recordsMost
 
--- the same, with that record's timestamp
-pub record LastStamped (n : Network) (k x j b : ℕ) (t : Timestamp) : Type 0 where
-  pub last : LastSoFar n k x j b
-  pub stamped : b < recordsMost → StampIs n b t
-
--- one more is looked at, record j; the reader's timestamp is s
-pub record LookingAt (w : List ℕ) (k : ℕ) (s : Timestamp) (x j b : ℕ) (t : Timestamp) : Type 0 where
-  pub reader : StampIs (networkIn w) k s
+-- one more is looked at, record j
+pub record LookingAt (w : List ℕ) (k x j b : ℕ) : Type 0 where
+  pub reader : HasRecord w k
   pub next : HasRecord w j
-  pub so-far : LastStamped (networkIn w) k x j b t
+  pub so-far : LastSoFar (networkIn w) k x j b

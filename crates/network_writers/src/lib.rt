@@ -1,18 +1,15 @@
 // A read found in the history; whether its own commit writes the item before it; and the last commit before its own that does.
-use limits::RECORDS;
+use limits::RECORDS_WIDE;
 use site_operations::READ;
-use timestamp::Timestamp;
 ghost use mathlib.Core.Path.{_≡_};
 ghost use Prim.Native.Nat.{_+_};
 ghost use lib.ListN.{length};
-ghost use Rattle.timestamp_order.specs.Order.{byNumber};
-ghost use Rattle.timestamp.specs.Value.{stampOf};
 ghost use Rattle.site_operations.specs.Operations.{touches};
 ghost use Rattle.origins.specs.Origin.{opsBefore};
-ghost use Rattle.origins.specs.Statements.{precedesBy};
 ghost use Rattle.network_layout.specs.InWords.{networkIn};
 ghost use Rattle.network_layout.specs.At.{AtNetwork, HasRecord};
-ghost use Rattle.network_writers.specs.Writers.{SoughtIs, OnRecord, LastSoFar, LastStamped, LookingAt};
+ghost use Rattle.network_records.specs.Asked.{HasRecords};
+ghost use Rattle.network_writers.specs.Writers.{SoughtIs, OnRecord, comesBefore, LastSoFar, LookingAt};
 
 // A read that was looked for: 0 and its item, or the number for which it is refused and 0.
 pub struct Sought {
@@ -65,63 +62,49 @@ pub fn own_write(state: &[u32], k: u32, item: u32, a: u32) -> bool
     network_records::record_touches_before(state, words::wide(k), item, words::wide(a))
 }
 
-// A record's number and timestamp; the number is RECORDS where there is none.
-struct Turn {
-    number: u32,
-    stamp: Timestamp,
-}
-
 // The last commit before record k that writes the item; RECORDS where there is none.
 pub fn last_writer(state: &[u32], k: u32, item: u32) -> u32
     requires { ⌜ OnRecord (now state) k ⌝ }
     ensures { λ r. ⌜ LastSoFar (networkIn (now (state .entry))) k item (length (networkIn (now (state .entry)) .history)) r ⌝ }
 {
-    let made = network_records::record_count(state);
-    let stamp = network_records::record_stamp(state, words::wide(k));
-    let reader = Turn { number: k, stamp };
-    let mut best = Turn {
-        number: RECORDS,
-        stamp,
-    };
+    let made = words::wide(network_records::record_count(state));
+    let reader = words::wide(k);
+    let mut best = RECORDS_WIDE;
     let mut j = 0;
     while j < made {
         best = later_writer(state, reader, item, j, best);
         j += 1;
     }
-    best.number
+    best as u32
 }
 
 // Record j, where it writes the item before the reader and not before the best so far; else that one.
-fn later_writer(state: &[u32], reader: Turn, item: u32, j: u32, best: Turn) -> Turn
-    requires { ⌜ LookingAt (now state) (reader .number) (reader .stamp) item j (best .number) (best .stamp) ⌝ }
-    ensures { λ r. ⌜ LastStamped (networkIn (now (state .entry))) (reader .number) item (j + 1) (r .number) (r .stamp) ⌝ }
+fn later_writer(state: &[u32], reader: usize, item: u32, j: usize, best: usize) -> usize
+    requires { ⌜ LookingAt (now state) reader item j best ⌝ }
+    ensures { λ r. ⌜ LastSoFar (networkIn (now (state .entry))) reader item (j + 1) r ⌝ }
 {
-    let at = words::wide(j);
-    if !network_records::record_touches(state, at, item) {
+    if !network_records::record_touches(state, j, item) {
         return best;
     }
-    let next = Turn {
-        number: j,
-        stamp: network_records::record_stamp(state, at),
-    };
-    if !precedes(next, reader) {
+    if !precedes(state, j, reader) {
         return best;
     }
-    if RECORDS <= best.number {
-        return next;
+    if RECORDS_WIDE <= best {
+        return j;
     }
-    if precedes(best, next) {
-        return next;
+    if precedes(state, best, j) {
+        return j;
     }
     best
 }
 
-// Whether the first comes before the second: by timestamp, equal ones in the order made.
-fn precedes(first: Turn, second: Turn) -> bool
-    ensures { λ r. ⌜ r ≡ precedesBy byNumber (first .number) (stampOf (first .stamp)) (second .number) (stampOf (second .stamp)) ⌝ }
+// Whether the first of two records comes before the second: by timestamp, equal ones in the order made.
+fn precedes(state: &[u32], first: usize, second: usize) -> bool
+    requires { ⌜ HasRecords (now state) first second ⌝ }
+    ensures { λ r. ⌜ r ≡ comesBefore (networkIn (now (state .entry))) first second ⌝ }
 {
-    let found = timestamp_comparison::compare(first.stamp, second.stamp);
-    if first.number < second.number {
+    let found = network_records::compare_records(state, first, second);
+    if first < second {
         return found.not_later();
     }
     found.is_earlier()

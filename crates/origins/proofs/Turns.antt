@@ -9,14 +9,14 @@ use lib.Dec.{eqb}
 use borrow.Author.Tests.{eqb-true}
 use Rattle.lists.specs.Lists.{beforeFirst}
 use Rattle.records.specs.Records.{Record}
-use Rattle.lists.proofs.Chains.{Each, Chain, chain-implied}
-use Rattle.lists.proofs.Sorting.{each-sorted, chain-sorted}
+use Rattle.lists.proofs.Chains.{Each, Chain}
+use Rattle.lists.proofs.Sorting.{each-sorted}
 use Rattle.protocol.specs.Network.{recordAt}
 use Rattle.protocol.specs.Run.{Turn, numbered, comesFirst, inTurn}
 use Rattle.protocol.proofs.Turns.{has, chain-numbered, has-turn}
 use Rattle.origins.specs.Origin.{turnsBefore}
 use Rattle.origins.specs.Statements.{turnAt, precedes}
-use Rattle.origins.proofs.Precedes.{lower-is, lower-precedes, precedes-trans, precedes-one-way, precedes-turned}
+use Rattle.protocol.proofs.Precedes.{numberOf, stampOf, precedes-one-way, sorted-precede}
 
 -- ---- every turn is a commit of the history, with its number
 pub record Of (h : List Record) (c : Turn) : Type 0 where
@@ -53,12 +53,7 @@ module _ (place : ℕ → ℕ) (apart : (a b : ℕ) → place a ≡ place b → 
       same i = omega arith
 
   pub turns-chain : Chain Precedes (inTurn place h)
-  turns-chain =
-      chain-sorted (comesFirst place) Precedes (precedes-trans place apart) (numbered 0 h)
-      (chain-implied (λ c d. c .number < d .number) _ (λ c d l. (lower-precedes place apart c d l, placed c d l)) (numbered 0 h) (chain-numbered 0 h))
-    where
-      placed : (c d : Turn) → c .number < d .number → comesFirst place c d ≡ false → Precedes d c
-      placed c d l e = precedes-turned place apart c d l (lower-is place apart c d l ∙ e)
+  turns-chain = sorted-precede place apart numberOf stampOf (numbered 0 h) (chain-numbered 0 h)
 
   -- ---- those before commit k
   module _ (k : ℕ) where
@@ -82,10 +77,10 @@ module _ (place : ℕ → ℕ) (apart : (a b : ℕ) → place a ≡ place b → 
         at-reader s true t e =
             let same : i ≡ k = sym (eqb-true (c .number) i t) ∙ s in
             let self : Precedes (turnAt h k) (turnAt h k) = subst (λ (m : ℕ). Precedes (turnAt h m) (turnAt h k)) same p in
-            precedes-one-way place apart (turnAt h k) (turnAt h k) self self
+            precedes-one-way place apart numberOf stampOf (turnAt h k) (turnAt h k) self self
         at-reader s false t e =
             let is : c ≡ turnAt h k = q .0 .is ∙ ap (turnAt h) s in
-            precedes-one-way place apart (turnAt h i) (turnAt h k) p (each-at h (Precedes (turnAt h k)) i cs (q .1) (subst (λ (d : Turn). Each (Precedes d) cs) is (f .0)) e)
+            precedes-one-way place apart numberOf stampOf (turnAt h i) (turnAt h k) p (each-at h (Precedes (turnAt h k)) i cs (q .1) (subst (λ (d : Turn). Each (Precedes d) cs) is (f .0)) e)
 
         keeps : (b : Bool) → (b || has i cs) ≡ true → (has i cs ≡ true → has i (beforeFirst isIt cs) ≡ true) → (b || has i (beforeFirst isIt cs)) ≡ true
         keeps true e rest = refl

@@ -7,12 +7,11 @@ use mathlib.Core.Option.{Option, none, some}
 use Prim.Native.Nat.{ℕ, _<_}
 use lib.IntN.{pos}
 use lib.ListN.{length, take}
-use lib.Dec.{eqb, ltb}
-use Rattle.timestamp_order.specs.Timestamp.{Stamp}
-use Rattle.timestamp_order.specs.Order.{orderBy, notLater, isEarlier}
+use lib.Dec.{eqb}
 use Rattle.site_operations.specs.Operations.{Op, touches, lastWritten}
 use Rattle.records.specs.Records.{Record}
 use Rattle.protocol.specs.Network.{Network, recordAt, nthRecord, placeOf}
+use Rattle.protocol.specs.Precedes.{precedesBy}
 use Rattle.protocol.specs.Run.{Turn}
 use Rattle.protocol.specs.Questions.{origin, nthOp, questionNumber}
 use Rattle.protocol.specs.Agreement.{Known, Always}
@@ -24,10 +23,6 @@ abbrev pub turnAt : List Record → ℕ → Turn
 turnAt h k = record { number = k; commit = recordAt h k }
 
 -- a commit comes before another: by timestamp, equal ones in the order made
-abbrev pub precedesBy : (ℕ → ℕ) → ℕ → Stamp → ℕ → Stamp → Bool
-precedesBy place m s k t = let o = orderBy place s t in cond (ltb m k) (notLater o) (isEarlier o)
-
--- the same of two turns
 abbrev pub precedes : (ℕ → ℕ) → Turn → Turn → Bool
 precedes place c d = precedesBy place (c .number) (c .commit .stamp) (d .number) (d .commit .stamp)
 

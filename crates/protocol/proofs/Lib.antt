@@ -6,6 +6,7 @@ pub mod Keeps
 pub mod Chosen
 pub mod Sent
 pub mod Values
+pub mod Precedes
 pub mod Turns
 pub mod Runs
 pub mod Alike
@@ -19,4 +20,5 @@ pub mod SetUp
 pub mod Follows
 pub mod Theorem
 pub mod Beside
+pub mod WaitingLaws
 pub mod Examples

@@ -6,10 +6,11 @@ use lib.IntN.{ℤ, pos}
 use lib.ListN.{getD}
 use Rattle.limits.specs.Limits.{sitesMost}
 use Rattle.lists.specs.Lists.{keep, upTo}
+use Rattle.site_operations.specs.Operations.{Op}
 use Rattle.site.specs.Site.{Site}
 use Rattle.protocol.specs.Network.{Network}
 use Rattle.protocol.specs.Steps.{setUpNetwork, commitNetwork, deliverNetwork, scheduleNetwork}
-use Rattle.protocol.specs.Waiting.{isWaiting}
+use Rattle.protocol.specs.Waiting.{isWaiting, waitingItems}
 
 -- p 3 2 0 6 1 4, then c 0 w0=5, l 0 1, s 1
 abbrev pub afterCommit : Network
@@ -20,6 +21,23 @@ afterDeliver = deliverNetwork afterCommit 0 1
 
 abbrev pub afterSchedule : Network
 afterSchedule = scheduleNetwork afterDeliver 1
+
+-- p 3 2 0 6 1 4, then c 0 w0=5, c 1 w1=7: of their timestamps 0.1 and 1.1 the second is the earlier one, as the higher site comes first; and c 0 w0=6
+abbrev pub afterBoth : Network
+afterBoth = commitNetwork afterCommit 1 (record { kind = 1; item = 1; value = pos 7 } ∷ [])
+
+abbrev pub afterThree : Network
+afterThree = commitNetwork afterBoth 0 (record { kind = 1; item = 0; value = pos 6 } ∷ [])
+
+-- p 2 4 0 2 0 2 0 2 0 2, then c 0 w3=1 w1=1, c 0 w0=1 w3=1
+abbrev pub write : ℕ → Op
+write k = record { kind = 1; item = k; value = pos 1 }
+
+abbrev pub afterFirst : Network
+afterFirst = commitNetwork (setUpNetwork 2 (0 ∷ 0 ∷ 0 ∷ 0 ∷ []) (2 ∷ 2 ∷ 2 ∷ 2 ∷ [])) 0 (write 3 ∷ write 1 ∷ [])
+
+abbrev pub afterSecond : Network
+afterSecond = commitNetwork afterFirst 0 (write 0 ∷ write 3 ∷ [])
 
 -- the sites at which an item is waiting
 abbrev pub waitingAt : Network → ℕ → List ℕ
@@ -39,3 +57,9 @@ pub record ExampleHolds : Type 0 where
   -- scheduled there, it is in that table and waits at site 2 alone
   pub copied : valuesOf afterSchedule 0 ≡ pos 5 ∷ pos 5 ∷ pos 0 ∷ []
   pub left : waitingAt afterSchedule 0 ≡ 2 ∷ []
+  -- the report of site 2 has the item with the earlier write first, and a later write of another changes nothing
+  pub in-order : waitingItems afterBoth 2 ≡ 1 ∷ 0 ∷ []
+  pub still : waitingItems afterThree 2 ≡ 1 ∷ 0 ∷ []
+  -- of the items of one commit the lower number comes first, and an item that is written again keeps its place
+  pub one-commit : waitingItems afterFirst 1 ≡ 1 ∷ 3 ∷ []
+  pub two-commits : waitingItems afterSecond 1 ≡ 1 ∷ 3 ∷ 0 ∷ []

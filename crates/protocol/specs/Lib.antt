@@ -1,6 +1,7 @@
 pub mod Network
 pub mod Steps
 pub mod Allowed
+pub mod Precedes
 pub mod Waiting
 pub mod Questions
 pub mod Examples

@@ -1,29 +1,83 @@
--- The waiting report: the items written by messages on the lines into a site, arrived or not, that it has a copy of.
+-- The waiting report: the items written by messages on the lines into a site, arrived or not, that it has a copy of; by the timestamp of the earliest of these writes,
+-- then by number.
 use mathlib.Core.Path.{_≡_}
-use mathlib.Core.Bool.{Bool, cond, _&&_}
-use mathlib.Core.List.{List, [], _∷_}
-use Prim.Native.Nat.{ℕ, _+_}
-use lib.Dec.{eqb}
+use mathlib.Core.Bool.{Bool, true, cond, _&&_}
+use mathlib.Core.List.{List, [], _++_, map}
+use Prim.Native.Nat.{ℕ, zero, suc, _<_}
+use lib.ListN.{length, getD}
 use Rattle.site_operations.specs.Operations.{touches}
-use Rattle.lists.specs.Lists.{any, someBelow}
+use Rattle.lists.specs.Lists.{any, keep, upTo, occurrences}
+use Rattle.lists.specs.Sorting.{sorted}
+use Rattle.timestamp_order.specs.Timestamp.{Stamp}
+use Rattle.timestamp_order.specs.Order.{orderBy, notLater, NotLater}
 use Rattle.placement.specs.Placement.{copies}
 use Rattle.limits.specs.Limits.{sitesMost}
 use Rattle.messages.specs.Messages.{Message}
-use Rattle.protocol.specs.Network.{Network, lineAt, messageOps}
+use Rattle.protocol.specs.Network.{Network, lineAt, messageOps, messageStamp, placeOf, noStamp}
+use Rattle.protocol.specs.Precedes.{precedesBy}
 
--- a message on the line from p to site i writes item k
-abbrev pub onLine : Network → ℕ → ℕ → ℕ → Bool
-onLine n i k p = any (λ (m : Message). touches k (messageOps (n .history) m)) (lineAt n p i .messages)
+-- ---- which items
+-- the messages on the lines into site i from the sites below p, arrived or not
+abbrev pub intoFrom : Network → ℕ → ℕ → List Message
+intoFrom n i zero = []
+intoFrom n i (suc p) = intoFrom n i p ++ lineAt n p i .messages
+
+-- .. from all sites
+abbrev pub into : Network → ℕ → List Message
+into n i = intoFrom n i sitesMost
+
+-- a message writes item k
+abbrev pub carries : Network → ℕ → Message → Bool
+carries n k m = touches k (messageOps (n .history) m)
 
 -- site i has a copy of item k, and a message on some line into it writes it
 unfoldable pub isWaiting : Network → ℕ → ℕ → Bool
-isWaiting n i k = copies (n .items) i k && someBelow (onLine n i k) sitesMost
+isWaiting n i k = copies (n .items) i k && any (carries n k) (into n i)
 
--- how often a number stands in a list
-abbrev pub occurrences : ℕ → List ℕ → ℕ
-occurrences k [] = 0
-occurrences k (x ∷ xs) = cond (eqb x k) 1 0 + occurrences k xs
+-- ---- their order
+-- the first timestamp is not later than the second
+abbrev pub noLater : Network → Stamp → Stamp → Bool
+noLater n s t = notLater (orderBy (placeOf (n .items)) s t)
 
+-- the timestamps of the messages on the lines into site i that write item k
+abbrev pub writeStamps : Network → ℕ → ℕ → List Stamp
+writeStamps n i k = map (messageStamp (n .history)) (keep (carries n k) (into n i))
+
+-- the earliest of them
+unfoldable pub earliestWrite : Network → ℕ → ℕ → Stamp
+earliestWrite n i k = getD (sorted (noLater n) (writeStamps n i k)) 0 noStamp
+
+-- items with one timestamp stay in the order of their numbers, as the sort is stable
+unfoldable pub waitingItems : Network → ℕ → List ℕ
+waitingItems n i = sorted (λ j k. noLater n (earliestWrite n i j) (earliestWrite n i k)) (keep (isWaiting n i) (upTo 0 (length (n .items))))
+
+-- ---- what is shown of it, of any network
 -- each item that is waiting at site i stands in the list exactly once, and no other stands in it
 abbrev pub EachOnce : Network → ℕ → List ℕ → Type 0
 EachOnce n i xs = (k : ℕ) → occurrences k xs ≡ cond (isWaiting n i k) 1 0
+
+-- of two items in it the one with the earlier write comes first; where they are equal, the one with the lower number
+abbrev pub ReportOrder : Network → ℕ → List ℕ → Type 0
+ReportOrder n i xs =
+    (a b : ℕ) → a < b → b < length xs
+    → let j = getD xs a 0 in
+    let k = getD xs b 0 in
+    precedesBy (placeOf (n .items)) j (earliestWrite n i j) k (earliestWrite n i k) ≡ true
+
+-- the report has both, and no other list has
+pub record ReportIs (n : Network) (i : ℕ) : Type 0 where
+  pub each-once : EachOnce n i (waitingItems n i)
+  pub in-order : ReportOrder n i (waitingItems n i)
+  pub alone : (xs : List ℕ) → EachOnce n i xs → ReportOrder n i xs → xs ≡ waitingItems n i
+
+-- t is the timestamp of a message on a line into site i that writes item k, and none of these is earlier
+pub record Earliest (n : Network) (i k : ℕ) (t : Stamp) : Type 0 where
+  pub write : ℕ
+  pub there : write < length (writeStamps n i k)
+  pub stamp-is : getD (writeStamps n i k) write noStamp ≡ t
+  pub none-earlier : (a : ℕ) → a < length (writeStamps n i k) → NotLater (placeOf (n .items)) t (getD (writeStamps n i k) a noStamp)
+
+-- of an item that is waiting there is one such timestamp
+pub record EarliestIs (n : Network) (i k : ℕ) : Type 0 where
+  pub is : isWaiting n i k ≡ true → Earliest n i k (earliestWrite n i k)
+  pub alone : (t : Stamp) → Earliest n i k t → t ≡ earliestWrite n i k

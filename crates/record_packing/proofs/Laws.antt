@@ -1,6 +1,6 @@
 -- Laws of codes and values: the operations read from them, and the words that packing leaves.
 use mathlib.Core.Path.{_≡_, refl, sym, ap, ap₂, _∙_}
-use mathlib.Core.Bool.{Bool, true, false, _&&_}
+use mathlib.Core.Bool.{Bool, true, false, cond, _&&_}
 use mathlib.Core.List.{List, [], _∷_}
 use Prim.Native.Nat.{ℕ, zero, suc, _+_, _*_, _/_, _%_, _<_}
 use native.Mathlib.Omega.{arith}
@@ -14,9 +14,9 @@ use Rattle.lanes.specs.Lanes.{bytes}
 use Rattle.lanes.proofs.Laws.{bytes-length, bytes-of-two}
 use Rattle.words.specs.Words.{part}
 use Rattle.words.proofs.Parts.{part-getD}
-use Rattle.site_operations.specs.Operations.{noOp, writesItem}
+use Rattle.site_operations.specs.Operations.{noOp, writesItem, writtenItem}
 use Rattle.site_operations.specs.InWords.{opAt}
-use Rattle.limits.specs.Limits.{opsMost}
+use Rattle.limits.specs.Limits.{itemsMost, opsMost}
 use Rattle.record_codes.specs.Codes.{valuesAt, packedSize, opOfCode, opsOf, joined, codeNumber, codesIn, placesIn, codeOf, Packed}
 
 -- ---- read
@@ -44,6 +44,15 @@ module _ (w : List ℕ) where
   module _ (i : ℕ) (h : i < opsMost) (c : ℕ) (is : c ≡ getD (codesIn w) i 0) where
     pub unpacked : (v : ℕ) → v ≡ getD w (valuesAt + i) 0 → opOfCode c v ≡ getD (placesIn w) i noOp
     unpacked v e = ap₂ opOfCode is e ∙ sym (place-at i h)
+
+    coded-item : writtenItem (getD (placesIn w) i noOp) ≡ cond (eqb (c % 2) 1) (c / 2) itemsMost
+    coded-item = ap writtenItem (sym (unpacked (getD w (valuesAt + i) 0) refl))
+
+    pub item-none : (c % 2 ≡ 1 → ⊥) → itemsMost ≡ writtenItem (getD (placesIn w) i noOp)
+    item-none z = sym (coded-item ∙ ap (λ (b : Bool). cond b (c / 2) itemsMost) (ne-eqb (c % 2) 1 z))
+
+    pub item-written : c % 2 ≡ 1 → c / 2 ≡ writtenItem (getD (placesIn w) i noOp)
+    item-written e = sym (coded-item ∙ ap (λ (b : Bool). cond b (c / 2) itemsMost) (eq-eqb (c % 2) 1 e))
 
     coded-write : (item : ℕ) → writesItem item (getD (placesIn w) i noOp) ≡ (eqb (c % 2) 1 && eqb (c / 2) item)
     coded-write item = ap (writesItem item) (sym (unpacked (getD w (valuesAt + i) 0) refl))

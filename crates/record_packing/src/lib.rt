@@ -1,4 +1,5 @@
 // The operations of a record, packed: of each its code and the word of its value; and read from them one by one.
+use limits::ITEMS;
 use limits::OPERATIONS_WIDE;
 use record_codes::CODE_WORDS;
 use record_codes::VALUES;
@@ -8,7 +9,7 @@ use site_operations::WRITE;
 ghost use mathlib.Core.Path.{_≡_};
 ghost use Prim.Native.Nat.{_+_, _*_};
 ghost use lib.ListN.{getD};
-ghost use Rattle.site_operations.specs.Operations.{writesItem, noOp};
+ghost use Rattle.site_operations.specs.Operations.{writesItem, writtenItem, noOp};
 ghost use Rattle.site_operations.specs.InWords.{opAt, Put};
 ghost use Rattle.record_codes.specs.Codes.{codeOf, placesIn, AtPlace, PackedWords, Packed};
 
@@ -45,6 +46,18 @@ pub fn unpack(out: &mut [u32; site_operations::OPERATIONS], w: &[u32], i: usize)
 {
     let c = code(w, i);
     site_operations::put(out, i, c % 2, c / 2, words::word(w, VALUES + i));
+}
+
+// The item that operation i writes; ITEMS where it writes none.
+pub fn written_item(w: &[u32], i: usize) -> u32
+    requires { ⌜ AtPlace i ⌝ }
+    ensures { λ r. ⌜ r ≡ writtenItem (getD (placesIn (now (w .entry))) i noOp) ⌝ }
+{
+    let c = code(w, i);
+    if c % 2 == WRITE {
+        return c / 2;
+    }
+    ITEMS // of a read
 }
 
 // Whether operation i writes the item.

@@ -6,6 +6,7 @@ use Prim.Native.Nat.{ℕ}
 use lib.IntN.{ℤ, pos}
 use lib.ListN.{set, getD}
 use lib.Dec.{eqb}
+use Rattle.limits.specs.Limits.{itemsMost}
 use Rattle.lists.specs.Lists.{any, lastOf}
 
 -- an operation: kind 0 reads, kind 1 writes
@@ -27,6 +28,10 @@ writes o = eqb (o .kind) 1
 -- the operation writes item k
 abbrev pub writesItem : ℕ → Op → Bool
 writesItem k o = writes o && eqb (o .item) k
+
+-- the item that an operation writes, or a number that no item has
+abbrev pub writtenItem : Op → ℕ
+writtenItem o = cond (writes o) (o .item) itemsMost
 
 -- some operation writes item k
 abbrev pub touches : ℕ → List Op → Bool

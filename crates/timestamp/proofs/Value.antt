@@ -4,7 +4,7 @@ use mathlib.Core.List.{List, map}
 use Prim.Native.Nat.{ℕ, _-_, _≤_, _<_, min}
 use native.Mathlib.Omega.{arith}
 use lib.ListN.{length, take, getD, length-map, length-take, List·getD-map, List·getD-eq-default}
-use lib.Seq.{getD-take, take-take, take-length}
+use lib.Seq.{getD-take}
 use Rattle.timestamp.specs.declared.Tuple.{Tuple}
 use Rattle.timestamp_order.specs.Timestamp.{Pair, noPair, room, lastPair}
 use Rattle.timestamp_order.proofs.Timestamp.{last-at}
@@ -16,13 +16,6 @@ pairs n l = map pairOf (take n l)
 
 abbrev pub noTuple : Tuple
 noTuple = record { site = 0; count = record { 0 = 0 } }
-
--- as many places as there are tuples hold all of them
-pub used-law : (l : List Tuple) (len n : ℕ) → n ≡ length (pairs len l) → pairs n l ≡ pairs len l
-used-law l len n e =
-    let held = take len l in
-    ap (λ (k : ℕ). pairs k l) (e ∙ length-map held pairOf)
-    ∙ ap (map pairOf) (sym (take-take (length held) len l (omega (arith, length-take len l))) ∙ take-length held)
 
 -- the tuple at a used place
 pub tuple-law : (l : List Tuple) (len i : ℕ) → i < len → pairOf (getD l i noTuple) ≡ getD (pairs len l) i noPair

@@ -10,25 +10,41 @@ use tuple_comparison::number_order;
 use tuple_comparison::same_tuple;
 ghost use mathlib.Core.Path.{_≡_};
 ghost use Rattle.timestamp.specs.Value.{stampOf};
-ghost use Rattle.timestamp_order.specs.Order.{numberOrder};
-ghost use Rattle.timestamp_order.specs.Parting.{Compares};
+ghost use Rattle.timestamp_order.specs.Order.{numberOrder, pairOrder, byNumber};
+ghost use Rattle.timestamp_order.specs.Parting.{samePair, Compares};
+ghost use Rattle.timestamp_words.specs.InWords.{stampIn, tupleIn};
 
-// The lower epoch is earlier. With equal epochs the shared tuples are counted, and what stands behind them decides.
+// Two values, by their words.
 pub fn compare(a: Timestamp, b: Timestamp) -> Compared
     ensures { λ r. ⌜ Compares (stampOf a) (stampOf b) r ⌝ }
 {
-    let e = a.epoch;
-    let f = b.epoch;
+    let first = timestamp_words::to_words(a);
+    let second = timestamp_words::to_words(b);
+    compare_words(&first, &second)
+}
+
+// Two timestamps where their words lie. The lower epoch is earlier. Words past the end count as 0, and more than eight tuples as eight.
+pub fn compare_words(a: &[u32], b: &[u32]) -> Compared
+    ensures { λ r. ⌜ Compares (stampIn (now (a .entry))) (stampIn (now (b .entry))) r ⌝ }
+{
+    let e = timestamp_words::epoch_in(a);
+    let f = timestamp_words::epoch_in(b);
     if e.0 != f.0 {
         return Compared {
             order: compare_epochs(e, f),
             parting: Parting::Epochs,
         };
     }
-    let n = a.size();
-    let m = b.size();
-    let xs = a.tuples; // once, since an index into a field copies all of it
-    let ys = b.tuples;
+    compare_lists(a, b)
+}
+
+// With equal epochs the shared tuples are counted, and what stands behind them decides.
+fn compare_lists(a: &[u32], b: &[u32]) -> Compared
+    requires { ⌜ stampIn (now a) .epoch ≡ stampIn (now b) .epoch ⌝ }
+    ensures { λ r. ⌜ Compares (stampIn (now (a .entry))) (stampIn (now (b .entry))) r ⌝ }
+{
+    let n = timestamp_words::size_in(a);
+    let m = timestamp_words::size_in(b);
     let mut i = 0;
     while i < n {
         if m <= i {
@@ -37,11 +53,9 @@ pub fn compare(a: Timestamp, b: Timestamp) -> Compared
                 parting: Parting::After(i),
             };
         }
-        let x = xs[i];
-        let y = ys[i];
-        if !same_tuple(x, y) {
+        if !same_at(a, b, i) {
             return Compared {
-                order: compare_tuples(x, y),
+                order: order_at(a, b, i),
                 parting: Parting::After(i), // where they differ
             };
         }
@@ -57,6 +71,26 @@ pub fn compare(a: Timestamp, b: Timestamp) -> Compared
         order: Order::Equal,
         parting: Parting::After(i),
     }
+}
+
+// Whether two timestamps have the same tuple at place i.
+fn same_at(a: &[u32], b: &[u32], i: usize) -> bool
+    ensures { λ r. ⌜ r ≡ samePair (tupleIn (now (a .entry)) i) (tupleIn (now (b .entry)) i) ⌝ }
+{
+    same_tuple(
+        timestamp_words::tuple_in(a, i),
+        timestamp_words::tuple_in(b, i),
+    )
+}
+
+// The order of their tuples there.
+fn order_at(a: &[u32], b: &[u32], i: usize) -> Order
+    ensures { λ r. ⌜ r ≡ pairOrder byNumber (tupleIn (now (a .entry)) i) (tupleIn (now (b .entry)) i) ⌝ }
+{
+    compare_tuples(
+        timestamp_words::tuple_in(a, i),
+        timestamp_words::tuple_in(b, i),
+    )
 }
 
 // The lower epoch is earlier.

@@ -14,6 +14,7 @@ use Rattle.timestamp_order.specs.declared.Order.{Order}
 use Rattle.timestamp_order.specs.declared.Order.the-variants.{Earlier, Equal, Later}
 use Rattle.timestamp_order.specs.declared.Parting.{Parting}
 use Rattle.timestamp_order.specs.declared.Parting.the-variants.{Epochs, After}
+use Rattle.timestamp_order.specs.declared.Compared.{Compared}
 use Rattle.timestamp_order.specs.Timestamp.{Pair, Stamp, noPair}
 use Rattle.timestamp_order.specs.Order.{thenBy, numberOrder, pairOrder, tuplesOrder, orderBy, byNumber}
 use Rattle.timestamp_order.specs.Parting.{samePair, shared, parting, sharedOf, Compares, PartsAfter, PartsAt, PartThere, EqualShareAll, orderThere, DecidedThere}
@@ -211,3 +212,7 @@ module _ (a b : Stamp) where
     both-end p q =
         let end = drop-of-length-le xs {i = i} p in
         answers (so-far ∙ rw end (omega arith)) Equal (rw (end, drop-of-length-le ys {i = i} q))
+
+-- the same answer, of timestamps said another way
+pub compares-as : {a b s t : Stamp} {r : Compared} → a ≡ s → b ≡ t → Compares a b r → Compares s t r
+compares-as {b = b} {s = s} {r = r} e f p = subst (λ (y : Stamp). Compares s y r) f (subst (λ (x : Stamp). Compares x b r) e p)

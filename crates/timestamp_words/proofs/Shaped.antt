@@ -1,17 +1,17 @@
--- The words of a timestamp that a site made: the tuples that they hold, and the test from what is found to the answer.
+-- The tuples that a timestamp's words hold; and the test that a site made it, from what is found to the answer.
 use mathlib.Core.Path.{_≡_, refl, sym, ap, ap₂, _∙_}
 use mathlib.Core.Bool.{Bool, true, false, _&&_}
 use mathlib.Core.List.{List}
-use Prim.Native.Nat.{ℕ, zero, suc, _+_, _*_, _-_, _≤_, _<_}
+use Prim.Native.Nat.{ℕ, zero, suc, _+_, _*_, _-_, _≤_, _<_, min}
 use native.Mathlib.Omega.{arith}
 use native.Mathlib.Nat.{not-suc-le-zero}
-use lib.ListN.{length, getD, take}
+use lib.ListN.{length, getD, take, length-take}
 use lib.Seq.{getD-take, length-take-le}
 use lib.Dec.{ltb, eqb}
 use borrow.Author.Tests.{lt-ltb, le-ltb, le-leb, lt-leb}
 use Rattle.timestamp_order.specs.Timestamp.{Pair, noPair, room, lastPair}
 use Rattle.timestamp_order.specs.Order.{byNumber}
-use Rattle.timestamp_words.specs.InWords.{pairAt, pairsAt, pairsStart, pairSize, pairPlace, stampIn, stampShaped}
+use Rattle.timestamp_words.specs.InWords.{pairAt, pairsAt, tupleIn, pairsStart, pairSize, pairPlace, stampIn, stampShaped}
 use Rattle.timestamp_order.specs.Made.{rising, madeBy}
 use Rattle.timestamp_order.proofs.Timestamp.{last-at}
 
@@ -24,6 +24,16 @@ pub pairs-at : (w : List ℕ) (at n i : ℕ) → i < n → getD (pairsAt w at n)
 pairs-at w at zero i h = absurd (not-suc-le-zero h)
 pairs-at w at (suc n) zero h = let e : at ≡ at + 0 * pairSize = omega arith in ap (pairAt w) e
 pairs-at w at (suc n) (suc i) h = let e : at + pairSize + i * pairSize ≡ at + suc i * pairSize = omega arith in pairs-at w (at + pairSize) n i (omega arith) ∙ ap (pairAt w) e
+
+-- those of the timestamp: how many, and one of them
+module _ (w : List ℕ) where
+  pub size-law : length (stampIn w .tuples) ≡ min (getD w 1 0) room
+  unfolding stampIn
+  size-law = length-take (getD w 1 0) (pairsAt w pairsStart room) ∙ ap (min (getD w 1 0)) (pairs-length w pairsStart room)
+
+  pub tuple-law : (i : ℕ) → i < length (stampIn w .tuples) → getD (stampIn w .tuples) i noPair ≡ tupleIn w i
+  unfolding stampIn
+  tuple-law i h = getD-take (getD w 1 0) (pairsAt w pairsStart room) i noPair (omega (arith, size-law))
 
 module _ (w : List ℕ) (n : ℕ) (few : n ≤ room) where
   abbrev held : List Pair

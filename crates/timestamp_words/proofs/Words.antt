@@ -15,7 +15,7 @@ use Rattle.timestamp.specs.Value.{pairOf, stampOf}
 use Rattle.timestamp_words.specs.InWords.{pairsAt, stampIn, stampWords, stampSize}
 
 -- ---- read
-pub in-law : (w : List ℕ) (e : Epoch) (len : ℕ) (l : List Tuple) → e .0 ≡ getD w 0 0 → len ≡ getD w 1 0 → map pairOf l ≡ pairsAt w 2 room
+pub in-law : (w : List ℕ) (e : Epoch) (len : ℕ) (l : List Tuple) → e .0 ≡ stampIn w .epoch → len ≡ getD w 1 0 → map pairOf l ≡ pairsAt w 2 room
     → stampOf (record { epoch = e; len = len; tuples = l }) ≡ stampIn w
 unfolding stampIn
 in-law w e len l p q r =

@@ -31,6 +31,10 @@ abbrev pub pairsAt : List ℕ → ℕ → ℕ → List Pair
 pairsAt w at zero = []
 pairsAt w at (suc n) = pairAt w at ∷ pairsAt w (at + pairSize) n
 
+-- what place i of a timestamp's words has, nothing past the eighth
+abbrev pub tupleIn : List ℕ → ℕ → Pair
+tupleIn w i = getD (pairsAt w pairsStart room) i noPair
+
 unfoldable pub stampIn : List ℕ → Stamp
 stampIn w = record { epoch = getD w 0 0; tuples = take (getD w 1 0) (pairsAt w pairsStart room) }
 

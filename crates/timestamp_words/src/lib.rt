@@ -13,7 +13,7 @@ ghost use Rattle.timestamp.specs.Value.{stampOf, pairOf, PlainValue};
 ghost use Rattle.timestamp_order.specs.Timestamp.{room};
 ghost use Rattle.timestamp_order.specs.Order.{byNumber};
 ghost use Rattle.timestamp_order.specs.Made.{rising as risingOf};
-ghost use Rattle.timestamp_words.specs.InWords.{stampShaped, stampIn, stampWords, pairAt, pairsAt, pairsStart, pairPlace};
+ghost use Rattle.timestamp_words.specs.InWords.{stampShaped, stampIn, stampWords, pairAt, pairsAt, tupleIn, pairsStart, pairPlace};
 
 // Where the words have the epoch, the number of tuples and the tuples, of two words each; and their size.
 const EPOCH: usize = 0;
@@ -31,11 +31,45 @@ pub fn from_words(w: &[u32]) -> Timestamp
     ensures { λ r. ⌜ PlainValue (stampIn (now (w .entry))) r ⌝ }
 {
     let t = Timestamp {
-        epoch: Epoch(words::word(w, EPOCH)),
+        epoch: epoch_in(w),
         len: words::wide(words::word(w, COUNT)),
         tuples: tuples_in(w),
     };
     t.plain()
+}
+
+// The epoch of a timestamp's words.
+pub fn epoch_in(w: &[u32]) -> Epoch
+    ensures { λ r. ⌜ r .0 ≡ stampIn (now (w .entry)) .epoch ⌝ }
+{
+    Epoch(words::word(w, EPOCH))
+}
+
+// How many tuples they have: eight at most.
+pub fn size_in(w: &[u32]) -> usize
+    ensures { λ r. ⌜ (r ≡ length (stampIn (now (w .entry)) .tuples)) × (r ≤ room) ⌝ }
+{
+    let n = words::wide(words::word(w, COUNT));
+    if SITES_WIDE < n {
+        return SITES_WIDE;
+    }
+    n
+}
+
+// What their place i has, whether a tuple of theirs or not; site 0 and count 0 past the eighth.
+pub fn tuple_in(w: &[u32], i: usize) -> Tuple
+    ensures { λ r. ⌜ pairOf r ≡ tupleIn (now (w .entry)) i ⌝ }
+{
+    if SITES_WIDE <= i {
+        return Tuple {
+            site: 0,
+            count: Count(0),
+        };
+    }
+    Tuple {
+        site: site_in(w, i),
+        count: Count(words::word(w, TUPLES + i * TUPLE + 1)),
+    }
 }
 
 // Whether the words are those of a timestamp that the site made: sites rising, the last its own.
@@ -126,17 +160,6 @@ fn tuples_in(w: &[u32]) -> [Tuple; SITES_WIDE]
         tuple_in(w, 6),
         tuple_in(w, 7),
     ]
-}
-
-// Tuple i of a timestamp's words.
-fn tuple_in(w: &[u32], i: usize) -> Tuple
-    requires { ⌜ i < room ⌝ }
-    ensures { λ r. ⌜ pairOf r ≡ pairAt (now (w .entry)) (pairPlace i) ⌝ }
-{
-    Tuple {
-        site: site_in(w, i),
-        count: Count(words::word(w, TUPLES + i * TUPLE + 1)),
-    }
 }
 
 // The site of tuple i.

@@ -1,10 +1,13 @@
 -- `better` takes p where it is a parent and there was none before, or its message is earlier.
-use mathlib.Core.Path.{_≡_, sym, ap, _∙_}
-use mathlib.Core.Bool.{true}
+use mathlib.Core.Path.{_≡_, sym, ap, ap₂, _∙_}
+use mathlib.Core.Bool.{Bool, true}
 use borrow.Author.Tests.{not-true, not-false}
+use Rattle.timestamp_order.specs.Timestamp.{Stamp}
 use Rattle.timestamp_order.specs.Order.{order, isEarlier}
-use Rattle.timestamp.specs.Value.{stampOf}
+use Rattle.timestamp_words.specs.InWords.{stampIn}
 use Rattle.placement.specs.Placement.{isLine}
+use Rattle.protocol.specs.Network.{Network}
+use Rattle.protocol.specs.Steps.{headStamp}
 use Rattle.network_layout.specs.InWords.{networkIn}
 use Rattle.network_schedule_causes.proofs.CauseLaws.{parent-bit}
 use Rattle.network_choice.proofs.ChoiceLaws.{better-none, better-first, better-earlier, better-not}
@@ -12,15 +15,19 @@ use borrow.Author.Needs.{needs}
 use Rattle.network_choice.proofs.better.Statement.{statement}
 use Rattle.network_choice.proofs.better.Tie as tie
 
+abbrev net : tie.Start → Network
+net start = networkIn (start .args .state .now)
+
 -- whether p is a parent is its bit of the mask
-asked : (c : tie.After-bit) → isLine (networkIn (c .before .before .args .state .now) .items) (c .before .before .args .p) (c .before .before .args .j) ≡ c .bit .result
-asked c =
-    let start = c .before .before in
-    let A = start .args in
-    sym (c .bit .ensures ∙ parent-bit (networkIn (A .state .now) .items) (A .j) (A .mask) (A .p) (start .pre .parents) (start .pre .few))
+module _ (c : tie.After-bit) where
+  abbrev start : tie.Start
+  start = c .before .before
+
+  asked : isLine (net start .items) (start .args .p) (start .args .j) ≡ c .bit .result
+  asked = sym (c .bit .ensures ∙ parent-bit (net start .items) (start .args .j) (start .args .mask) (start .args .p) (start .pre .parents) (start .pre .few))
 
 -- p is a parent
-parented : (c : tie.Else1) → isLine (networkIn (c .before .before .before .args .state .now) .items) (c .before .before .before .args .p) (c .before .before .before .args .j) ≡ true
+parented : (c : tie.Else1) → let S = start (c .before) in isLine (net S .items) (S .args .p) (S .args .j) ≡ true
 parented c = asked (c .before) ∙ not-false (c .before .bit .result) (c .if1 .left)
 
 bit-requires : tie.Need-bit-requires
@@ -28,45 +35,58 @@ bit-requires c κs = search needs
 
 returns : tie.Need-returns
 returns c =
-    let start = c .before .before .before in
-    let A = start .args in
-    better-none (networkIn (A .state .now)) (A .j) (A .p) (A .best .parent) (A .best .stamp) (start .pre .best) (asked (c .before) ∙ not-true (c .before .bit .result) (c .if1 .taken))
-
-head-stamp-requires : tie.Need-head-stamp-requires
-head-stamp-requires c κs = record { free = c .before .before .before .pre .free; line = parented c }
+    let S = start (c .before) in
+    let A = S .args in
+    better-none (net S) (A .j) (A .p) (A .best) (S .pre .best) (asked (c .before) ∙ not-true (c .before .bit .result) (c .if1 .taken))
 
 returns-2 : tie.Need-returns-2
 returns-2 c =
-    let read = c .before .before in
-    let start = read .before .before .before .before in
-    let A = start .args in
-    better-first (networkIn (A .state .now)) (A .j) (A .p) (A .best .parent) (A .best .stamp) (start .pre .best) (parented (read .before)) (read .head-stamp .result) (read .head-stamp .ensures) (c .if2 .taken)
+    let S = start (c .before .before) in
+    let A = S .args in
+    better-first (net S) (A .j) (A .p) (A .best) (S .pre .best) (parented (c .before)) (c .if2 .taken)
 
-compare-requires : tie.Need-compare-requires
-compare-requires c κs = search needs
+head-words-requires : tie.Need-head-words-requires
+head-words-requires c κs = record { free = start (c .before .before) .pre .free; line = parented (c .before) }
+
+head-words-requires-2 : tie.Need-head-words-requires-2
+head-words-requires-2 c κs =
+    let second = c .before in
+    let S = start (second .before .before) in
+    record { free = S .pre .free; line = S .pre .best .line (second .if2 .left) }
+
+compare-words-requires : tie.Need-compare-words-requires
+compare-words-requires c κs = search needs
 
 is-earlier-requires : tie.Need-is-earlier-requires
 is-earlier-requires c κs = search needs
 
 -- the comparison of p's message with the best
-told : (c : tie.After-is-earlier) → isEarlier (order (stampOf (c .before .before .before .before .head-stamp .result)) (stampOf (c .before .before .before .before .before .before .before .before .args .best .stamp))) ≡ c .is-earlier .result
-told c = sym (c .is-earlier .ensures ∙ ap isEarlier (c .before .compare .ensures .order-is))
+module _ (c : tie.After-is-earlier) where
+  abbrev both : tie.After-head-words2
+  both = c .before .before
+
+  abbrev low : tie.Else2
+  low = both .before .before
+
+  abbrev from : tie.Start
+  from = start (low .before .before)
+
+  told : isEarlier (order (headStamp (net from) (from .args .p) (from .args .j)) (headStamp (net from) (from .args .best) (from .args .j))) ≡ c .is-earlier .result
+  told =
+      let found : c .is-earlier .result ≡ isEarlier (order (stampIn (both .before .head-words .result .now)) (stampIn (both .head-words2 .result .now))) = c .is-earlier .ensures ∙ ap isEarlier (c .before .compare-words .ensures .order-is) in
+      sym (found ∙ ap₂ {C = Bool} (λ (s t : Stamp). isEarlier (order s t)) (both .before .head-words .ensures) (both .head-words2 .ensures))
 
 returns-3 : tie.Need-returns-3
 returns-3 c =
-    let second = c .before .before .before in
-    let read = second .before .before in
-    let start = read .before .before .before .before in
-    let A = start .args in
-    better-earlier (networkIn (A .state .now)) (A .j) (A .p) (A .best .parent) (A .best .stamp) (start .pre .best) (parented (read .before)) (read .head-stamp .result) (read .head-stamp .ensures) (second .if2 .left) (told (c .before) ∙ c .if3 .taken)
+    let S = from (c .before) in
+    let A = S .args in
+    better-earlier (net S) (A .j) (A .p) (A .best) (S .pre .best) (parented (low (c .before) .before)) (low (c .before) .if2 .left) (told (c .before) ∙ c .if3 .taken)
 
 returns-4 : tie.Need-returns-4
 returns-4 c =
-    let second = c .before .before .before in
-    let read = second .before .before in
-    let start = read .before .before .before .before in
-    let A = start .args in
-    better-not (networkIn (A .state .now)) (A .j) (A .p) (A .best .parent) (A .best .stamp) (start .pre .best) (parented (read .before)) (read .head-stamp .result) (read .head-stamp .ensures) (second .if2 .left) (told (c .before) ∙ c .if3 .left)
+    let S = from (c .before) in
+    let A = S .args in
+    better-not (net S) (A .j) (A .p) (A .best) (S .pre .best) (parented (low (c .before) .before)) (low (c .before) .if2 .left) (told (c .before) ∙ c .if3 .left)
 
 pub better-spec : {M : Type 1} → statement M
 better-spec =
@@ -74,9 +94,10 @@ better-spec =
     (tie.spec
     bit-requires
     returns
-    head-stamp-requires
     returns-2
-    compare-requires
+    head-words-requires
+    head-words-requires-2
+    compare-words-requires
     is-earlier-requires
     returns-3
     returns-4)

@@ -1,8 +1,8 @@
 -- `table_at` gives the values in the site's own words.
 use mathlib.Core.Path.{refl, ap, _∙_}
 use lib.IntN.{pos}
+use Rattle.lists.specs.Lists.{padded}
 use Rattle.limits.specs.Limits.{itemsMost}
-use Rattle.network_lookup.specs.Lookup.{padded}
 use Rattle.network_lookup.proofs.TableLaws.{values-there, table-is, table-count}
 use borrow.Author.Needs.{needs}
 use Rattle.network_lookup.proofs.table_at.Statement.{statement}

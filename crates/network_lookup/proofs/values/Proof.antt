@@ -7,9 +7,9 @@ use lib.ListN.{length, getD, set, take, length-map, length-set, List·getD-map}
 use mir.Val.{toZ, ofZ}
 use mir.ValLaws.{toZ-ofZ}
 use mir.Syntax.{w32}
+use Rattle.lists.specs.Lists.{padded}
 use Rattle.limits.specs.Limits.{itemsMost}
 use Rattle.site_operations.specs.InWords.{tableIn}
-use Rattle.network_lookup.specs.Lookup.{padded}
 use Rattle.network_lookup.proofs.TableLaws.{padded-next}
 use native.Mathlib.Omega.{arith}
 use borrow.Author.Needs.{needs}

@@ -4,11 +4,12 @@ use mathlib.Core.List.{[]}
 use Prim.Native.Nat.{ℕ}
 use lib.IntN.{pos}
 use lib.ListN.{length}
+use Rattle.lists.specs.Lists.{padded}
 use Rattle.limits.specs.Limits.{itemsMost}
 use Rattle.protocol.specs.Questions.{table, questionNumber}
 use Rattle.network_layout.specs.InWords.{networkIn}
 use Rattle.network_layout.proofs.Questions.{asked, answered, unanswered, site-asked}
-use Rattle.network_lookup.specs.Lookup.{padded, tableOf}
+use Rattle.network_lookup.specs.Lookup.{tableOf}
 use borrow.Author.Needs.{needs}
 use Rattle.network_readers.proofs.table_in.Statement.{statement}
 use Rattle.network_readers.proofs.table_in.Tie as tie

@@ -1,8 +1,13 @@
--- `waiting_in` refuses with its number, or collects the items.
-use mathlib.Core.Path.{refl, sym, _∙_}
+-- `waiting_in` refuses with its number, or reports the items.
+use mathlib.Core.Path.{refl, sym, ap, _∙_}
+use mathlib.Core.List.{[]}
 use native.Mathlib.Omega.{arith}
+use lib.ListN.{length}
+use Rattle.limits.specs.Limits.{itemsMost}
+use Rattle.lists.specs.Lists.{padded}
 use Rattle.protocol.specs.Questions.{waiting, questionNumber}
-use Rattle.network_layout.proofs.Questions.{asked, site-asked}
+use Rattle.protocol.specs.Waiting.{waitingItems}
+use Rattle.network_layout.proofs.Questions.{asked, answered, unanswered, site-asked}
 use borrow.Author.Needs.{needs}
 use Rattle.network_waiting.proofs.waiting_in.Statement.{statement}
 use Rattle.network_waiting.proofs.waiting_in.Tie as tie
@@ -15,15 +20,16 @@ unfolding questionNumber
 returns c =
     let A = c .before .before .before .args in
     let n = c .before .site-number in
+    let none = unanswered (waiting (A .site)) (A .state .now) [] (λ m. waitingItems m (A .site)) (λ z. c .if1 .taken (n .ensures ∙ z)) in
     record {
       performed = asked (waiting (A .site)) (A .state .now) (n .result) (n .ensures);
-      each-once = λ z. absurd (c .if1 .taken z);
-      none-refused = λ _. refl;
-      filled = record { fits = omega arith; sized = refl; rest-is = refl };
+      count-is = ap length none;
+      items-are = ap (padded itemsMost 0) none;
+      few = omega arith;
     }
 
-collect-requires : tie.Need-collect-requires
-collect-requires c κs =
+report-requires : tie.Need-report-requires
+report-requires c κs =
     let A = c .before .before .before .args in
     site-asked (A .state .now) (c .before .before .before .pre) (A .site) _ refl (sym (c .before .site-number .ensures) ∙ c .if1 .left)
 
@@ -32,13 +38,15 @@ unfolding questionNumber
 returns-2 c =
     let A = c .before .before .before .before .args in
     let w = A .state .now in
-    let e = c .collect .ensures in
+    let none = sym (c .before .before .site-number .ensures) ∙ c .before .if1 .left in
+    let e = c .report .ensures in
+    let same = answered (waiting (A .site)) w [] (λ m. waitingItems m (A .site)) none in
     record {
-      performed = asked (waiting (A .site)) w _ (e .accepted ∙ sym (sym (c .before .before .site-number .ensures) ∙ c .before .if1 .left));
-      each-once = λ _. e .each-once;
-      none-refused = λ h. absurd (h (e .accepted));
-      filled = e .filled;
+      performed = asked (waiting (A .site)) w _ (e .accepted ∙ sym none);
+      count-is = e .count-is ∙ ap length same;
+      items-are = e .items-are ∙ ap (padded itemsMost 0) same;
+      few = e .few;
     }
 
 pub waiting-in-spec : {M : Type 1} → statement M
-waiting-in-spec = tie.close (tie.spec site-number-requires returns collect-requires returns-2)
+waiting-in-spec = tie.close (tie.spec site-number-requires returns report-requires returns-2)

@@ -1,21 +1,19 @@
 -- `last_writer` goes over the records: `best` is the last writer of those below j.
-use mathlib.Core.Path.{_≡_, refl, ap, subst, _∙_}
+use mathlib.Core.Path.{_≡_, refl, subst}
 use Prim.Native.Nat.{ℕ, _≤_, _-_}
 use native.Mathlib.Omega.{arith}
 use lib.ListN.{length}
-use Rattle.protocol.specs.Network.{nthRecord}
 use Rattle.network_layout.specs.InWords.{networkIn}
-use Rattle.network_layout.specs.At.{HasRecord}
 use Rattle.network_layout.proofs.Performs.{records-count}
 use Rattle.network_layout.proofs.OnNetwork.{at-record}
-use Rattle.network_writers.specs.Writers.{LastSoFar, LastStamped}
+use Rattle.network_writers.specs.Writers.{LastSoFar}
 use Rattle.network_writers.proofs.WriterLaws.{none-looked-at}
 use borrow.Author.Needs.{needs}
 use Rattle.network_writers.proofs.last_writer.Statement.{statement}
 use Rattle.network_writers.proofs.last_writer.Tie as tie
 
 abbrev Inv-loop : tie.InvT-loop
-Inv-loop state k item made reader best₀ j₀ best j = (j ≤ made) × LastStamped (networkIn state) k item j (best .number) (best .stamp)
+Inv-loop state k item made reader best₀ j₀ best j = (j ≤ made) × LastSoFar (networkIn state) reader item j best
 
 abbrev μ-loop : tie.MeasureT-loop
 μ-loop state k item made reader best₀ j₀ best j = made - j
@@ -26,29 +24,35 @@ record-count-requires c κs = let sized = c .before .pre .net .sized in search n
 wide-requires : tie.Need-wide-requires Inv-loop μ-loop
 wide-requires c κs = search needs
 
-record-stamp-requires : tie.Need-record-stamp-requires Inv-loop μ-loop
-record-stamp-requires c κs =
-    let start = c .before .before .before in
-    let w = start .args .state .now in
-    let at : HasRecord w (c .wide .result) = at-record w (start .pre .net) (start .args .k) (c .wide .result) (c .wide .ensures) (start .pre .there) in
-    search needs
+wide-requires-2 : tie.Need-wide-requires-2 Inv-loop μ-loop
+wide-requires-2 c κs = search needs
 
 loop-holds : tie.Need-loop-holds Inv-loop μ-loop
 loop-holds c =
     let A = c .before .before .before .before .args in
-    (omega arith, none-looked-at (networkIn (A .state .now)) (A .k) (A .item) (c .record-stamp .result))
+    (omega arith, none-looked-at (networkIn (A .state .now)) (c .wide2 .result) (A .item))
+
+-- ---- at the loop
+module _ (h : tie.At-loop Inv-loop μ-loop) where
+  abbrev start : tie.Start Inv-loop μ-loop
+  start = h .before .before .before .before .before
+
+  -- the reader and the number of records, as the code counts
+  reader-is : h .before .wide2 .result ≡ start .args .k
+  reader-is = h .before .wide2 .ensures
+
+  made-is : h .before .before .wide .result ≡ length (networkIn (start .args .state .now) .history)
+  made-is = omega (arith, records-count (start .args .state .now), h .before .before .wide .ensures, h .before .before .before .record-count .ensures)
 
 later-writer-requires : tie.Need-later-writer-requires Inv-loop μ-loop
 later-writer-requires c κs =
-    let turn = c .before in
-    let read = turn .before in
-    let counted = read .before .before in
-    let start = counted .before .before in
-    let w = start .args .state .now in
+    let h = c .before in
+    let S = start h in
+    let w = S .args .state .now in
     record {
-      reader = read .record-stamp .ensures .means ∙ ap (λ (i : ℕ). nthRecord (networkIn w) i .stamp) (read .before .wide .ensures);
-      next = at-record w (start .pre .net) (turn .loop .j) (turn .loop .j) refl (omega (arith, records-count w, counted .record-count .ensures, c .loop-test .taken));
-      so-far = turn .loop .inv .1;
+      reader = at-record w (S .pre .net) (S .args .k) (h .before .wide2 .result) (reader-is h) (S .pre .there);
+      next = at-record w (S .pre .net) (h .loop .j) (h .loop .j) refl (omega (arith, made-is h, c .loop-test .taken));
+      so-far = h .loop .inv .1;
     }
 
 add-j : tie.Need-add-j Inv-loop μ-loop
@@ -60,14 +64,17 @@ loop-less c = search needs
 loop-again : tie.Need-loop-again Inv-loop μ-loop
 loop-again c = (omega arith, c .later-writer .ensures)
 
+cast-result : tie.Need-cast-result Inv-loop μ-loop
+cast-result c = omega (arith, c .before .loop .inv .1 .few)
+
 returns : tie.Need-returns Inv-loop μ-loop
 returns c =
-    let turn = c .before in
-    let counted = turn .before .before .before in
-    let A = counted .before .before .args in
-    let w = A .state .now in
-    let all : turn .loop .j ≡ length (networkIn w .history) = omega (arith, records-count w, counted .record-count .ensures) in
-    subst (λ (j : ℕ). LastSoFar (networkIn w) (A .k) (A .item) j (turn .loop .best .number)) all (turn .loop .inv .1 .last)
+    let h = c .before in
+    let A = start h .args in
+    let n = networkIn (A .state .now) in
+    let all : h .loop .j ≡ length (n .history) = omega (arith, made-is h, c .loop-test .left, h .loop .inv .0) in
+    subst (λ (k : ℕ). LastSoFar n k (A .item) (length (n .history)) (h .loop .best)) (reader-is h)
+    (subst (λ (j : ℕ). LastSoFar n (h .before .wide2 .result) (A .item) j (h .loop .best)) all (h .loop .inv .1))
 
 pub last-writer-spec : {M : Type 1} → statement M
 last-writer-spec =
@@ -77,10 +84,11 @@ last-writer-spec =
     μ-loop
     record-count-requires
     wide-requires
-    record-stamp-requires
+    wide-requires-2
     loop-holds
     later-writer-requires
     add-j
     loop-less
     loop-again
+    cast-result
     returns)

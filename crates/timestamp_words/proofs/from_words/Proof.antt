@@ -6,11 +6,11 @@ use borrow.Author.Needs.{needs}
 use Rattle.timestamp_words.proofs.from_words.Statement.{statement}
 use Rattle.timestamp_words.proofs.from_words.Tie as tie
 
+epoch-in-requires : tie.Need-epoch-in-requires
+epoch-in-requires c κs = search needs
+
 word-requires : tie.Need-word-requires
 word-requires c κs = search needs
-
-word-requires-2 : tie.Need-word-requires-2
-word-requires-2 c κs = search needs
 
 wide-requires : tie.Need-wide-requires
 wide-requires c κs = search needs
@@ -25,17 +25,18 @@ returns : tie.Need-returns
 returns c =
     let q = c .before in
     let d = q .before .before in
+    let e = d .before .epoch-in in
     plain-as
-    (in-law (d .before .before .before .args .w .now) (record { 0 = d .before .word .result }) (q .before .wide .result) (q .tuples-in .result)
-    (d .before .word .ensures) (q .before .wide .ensures ∙ d .word2 .ensures) (q .tuples-in .ensures))
+    (in-law (d .before .before .before .args .w .now) (e .result) (q .before .wide .result) (q .tuples-in .result)
+    (e .ensures) (q .before .wide .ensures ∙ d .word .ensures) (q .tuples-in .ensures))
     (c .plain .ensures)
 
 pub from-words-spec : {M : Type 1} → statement M
 from-words-spec =
     tie.close
     (tie.spec
+    epoch-in-requires
     word-requires
-    word-requires-2
     wide-requires
     tuples-in-requires
     plain-requires

@@ -1,0 +1,257 @@
+-- The walk over the messages finds the earliest write of each item.
+use mathlib.Core.Path.{_≡_, refl, sym, ap, _∙_}
+use mathlib.Core.Bool.{Bool, true, false, cond, _&&_, _||_, true≢false}
+use mathlib.Core.List.{List, [], _∷_, map}
+use Prim.Native.Nat.{ℕ, _≤_, _<_}
+use native.Mathlib.Omega.{arith}
+use lib.ListN.{length, getD, set, replicate, length-set, length-replicate, getD-replicate, List·getD-eq-default}
+use lib.Seq.{set-out, set-getD, getD-set-same, getD-set-other}
+use lib.Dec.{eqb, ltb}
+use borrow.Author.Tests.{lt-ltb, le-ltb, ltb-true, ltb-false, eqb-true, eqb-false}
+use Rattle.limits.specs.Limits.{itemsMost, recordsMost}
+use Rattle.lists.specs.Lists.{any, keep, fold}
+use Rattle.lists.specs.Sorting.{sorted}
+use Rattle.lists.proofs.Chains.{Each, each-all, each-keep}
+use Rattle.lists.proofs.Some.{some-kept, none-kept}
+use Rattle.lists.proofs.First.{former, first-sorted}
+use Rattle.timestamp_order.specs.declared.Compared.{Compared}
+use Rattle.timestamp_order.specs.Timestamp.{Stamp}
+use Rattle.timestamp_order.specs.Order.{orderBy}
+use Rattle.timestamp_order.specs.Parting.{Compares}
+use Rattle.site_operations.specs.Operations.{Op, noOp, writes, writesItem, writtenItem, touches}
+use Rattle.messages.specs.Messages.{Message, commit, dummy, nameOf}
+use Rattle.record_codes.specs.Codes.{placesIn}
+use Rattle.records.specs.Records.{Record}
+use Rattle.records.specs.InWords.{recordIn}
+use Rattle.records.proofs.Laws.{op-at}
+use Rattle.protocol.specs.Network.{Network, noRecord, recordAt, noStamp, messageOps, messageStamp, placeOf}
+use Rattle.protocol.specs.Waiting.{into, carries, noLater, earliestWrite}
+use Rattle.protocol.proofs.Places.{timesAt}
+use Rattle.protocol.proofs.Times.{Times}
+use Rattle.protocol.proofs.WaitingLaws.{no-later-along, no-later-either}
+use Rattle.network_layout.specs.Layout.{recordCount}
+use Rattle.network_layout.specs.InWords.{networkIn}
+use Rattle.network_layout.specs.At.{AtState, HasRecord}
+use Rattle.network_layout.proofs.Assembled.{partsOf, range-parts}
+use Rattle.network_layout.proofs.Performs.{records-count}
+use Rattle.network_earliest_writes.specs.Noted.{stampAt, isSooner, sooner, noteItem, noteOps, noteMessage, noteMessages, earliestWriters, EarliestAre}
+
+-- ---- what the code has compared and tested
+pub compared : (n : Network) (j k : ℕ) (f : Compared) → Compares (stampAt n j) (stampAt n k) f → f .order ≡ orderBy (placeOf (n .items)) (stampAt n j) (stampAt n k)
+unfolding placeOf
+compared n j k f c = c .order-is
+
+pub few-made : (w : List ℕ) → AtState w → length (networkIn w .history) ≤ recordsMost
+unfolding partsOf
+few-made w at = omega (arith, records-count w, range-parts w (at .ranged) .few-records)
+
+-- a number below that of the records is one's name
+pub noted-there : (w : List ℕ) → AtState w → (k : ℕ) → k < recordCount w → HasRecord w k
+noted-there w at k l = record { sized = at .sized; there = l; few = omega (arith, l, records-count w, few-made w at) }
+
+-- a message is noted by its name
+module _ (w : List ℕ) (at : AtState w) (m : Message) (x : ℕ) (is : x ≡ nameOf m) where
+  abbrev h : List Record
+  h = networkIn w .history
+
+  ops-by-name : (m : Message) → messageOps h m ≡ recordAt h (nameOf m) .ops
+  ops-by-name (commit k) = refl
+  ops-by-name (dummy t) = sym (ap (λ (r : Record). r .ops) (List·getD-eq-default h noRecord {n = recordsMost} (few-made w at)))
+
+  pub message-noted : (vs : List ℕ) → noteOps (networkIn w) x vs (recordAt h x .ops) ≡ noteMessage (networkIn w) vs m
+  message-noted vs = ap (λ (k : ℕ). noteOps (networkIn w) k vs (recordAt h k .ops)) is ∙ ap (noteOps (networkIn w) (nameOf m) vs) (sym (ops-by-name m))
+
+  -- one that names no record writes nothing
+  pub none-noted : length h ≤ x → (vs : List ℕ) → vs ≡ noteMessage (networkIn w) vs m
+  none-noted high vs = sym (ap (λ (r : Record). noteOps (networkIn w) x vs (r .ops)) (List·getD-eq-default h noRecord {n = x} high)) ∙ message-noted vs
+
+-- an operation of a record, in its words
+pub op-there : (ws : List ℕ) (q : Record) → recordIn ws ≡ q → (a : ℕ) → a < length (recordIn ws .ops) → getD (placesIn ws) a noOp ≡ getD (q .ops) a noOp
+op-there ws q meant a h = sym (op-at ws a h) ∙ ap (λ (p : Record). getD (p .ops) a noOp) meant
+
+module _ (n : Network) (r : ℕ) (vs : List ℕ) (item x : ℕ) (at : x ≡ item) where
+  write-noted : (ws : List ℕ) → ws ≡ noteItem n r vs x → ws ≡ noteItem n r vs item
+  write-noted ws e = e ∙ ap (noteItem n r vs) at
+
+  pub none-there : length vs ≤ x → vs ≡ noteItem n r vs item
+  none-there h = write-noted vs (sym (set-out vs x (sooner n (getD vs x 0) r) h))
+
+  pub first-there : length (n .history) ≤ getD vs x 0 → set vs x r ≡ noteItem n r vs item
+  first-there h = write-noted (set vs x r) (ap (set vs x) (sym (rw (le-ltb (getD vs x 0) (length (n .history)) h))))
+
+  module _ (low : getD vs x 0 < length (n .history)) where
+    pub sooner-there : isSooner n r (getD vs x 0) ≡ true → set vs x r ≡ noteItem n r vs item
+    sooner-there e = write-noted (set vs x r) (ap (set vs x) (sym (rw (lt-ltb (getD vs x 0) (length (n .history)) low, e))))
+
+    pub sooner-stays : isSooner n r (getD vs x 0) ≡ false → vs ≡ noteItem n r vs item
+    sooner-stays e = write-noted vs (sym (ap (set vs x) (rw (lt-ltb (getD vs x 0) (length (n .history)) low, e)) ∙ set-getD vs x 0))
+
+module _ (n : Network) where
+  open Times (timesAt n) using (upto-self, before-test, test-fails, fails-later)
+
+  pub not-sooner : (r : ℕ) → false ≡ isSooner n r r
+  not-sooner r = sym (test-fails (stampAt n r) (stampAt n r) (upto-self (stampAt n r)))
+
+  -- ---- what is noted of one item, where record r writes items
+  module _ (r : ℕ) where
+    sooner-self : sooner n r r ≡ r
+    sooner-self = go (ltb r (length (n .history))) (isSooner n r r)
+      where
+        go : (a b : Bool) → cond a (cond b r r) r ≡ r
+        go true true = refl
+        go true false = refl
+        go false b = refl
+
+    sooner-twice : (f : ℕ) → sooner n (sooner n f r) r ≡ sooner n f r
+    sooner-twice f = go (ltb f (length (n .history))) refl (isSooner n r f) refl
+      where
+        go : (a : Bool) → ltb f (length (n .history)) ≡ a → (b : Bool) → isSooner n r f ≡ b → sooner n (cond a (cond b r f) r) r ≡ cond a (cond b r f) r
+        go true d true e = sooner-self
+        go true d false e = rw (d, e)
+        go false d b e = sooner-self
+
+    module _ (x : ℕ) (few : x < itemsMost) where
+      item-noted : (vs : List ℕ) (o : Op) → x < length vs → getD (noteItem n r vs (writtenItem o)) x 0 ≡ cond (writesItem x o) (sooner n (getD vs x 0) r) (getD vs x 0)
+      item-noted vs o l = go (writes o) refl (eqb (o .item) x) refl
+        where
+          other : (y : ℕ) → (y ≡ x → ⊥) → getD (noteItem n r vs y) x 0 ≡ getD vs x 0
+          other y apart = getD-set-other vs y x (sooner n (getD vs y 0) r) 0 (λ e. apart (sym e))
+
+          go : (a : Bool) → writes o ≡ a → (b : Bool) → eqb (o .item) x ≡ b → getD (noteItem n r vs (cond a (o .item) itemsMost)) x 0 ≡ cond (a && b) (sooner n (getD vs x 0) r) (getD vs x 0)
+          go true d true e =
+              let same : o .item ≡ x = eqb-true (o .item) x e in
+              ap (λ (y : ℕ). getD (noteItem n r vs y) x 0) same ∙ getD-set-same vs x (sooner n (getD vs x 0) r) 0 l
+          go true d false e = other (o .item) (eqb-false (o .item) x e)
+          go false d b e = other itemsMost (λ z. omega (arith, z))
+
+      ops-noted : (vs : List ℕ) (os : List Op) → x < length vs → getD (noteOps n r vs os) x 0 ≡ cond (touches x os) (sooner n (getD vs x 0) r) (getD vs x 0)
+      ops-noted vs [] l = refl
+      ops-noted vs (o ∷ os) l =
+          ops-noted (noteItem n r vs (writtenItem o)) os (omega (arith, length-set vs (writtenItem o) (sooner n (getD vs (writtenItem o) 0) r)))
+          ∙ ap (λ (f : ℕ). cond (touches x os) (sooner n f r) f) (item-noted vs o l)
+          ∙ both (writesItem x o) (touches x os)
+        where
+          both : (a b : Bool) → let f = cond a (sooner n (getD vs x 0) r) (getD vs x 0) in cond b (sooner n f r) f ≡ cond (a || b) (sooner n (getD vs x 0) r) (getD vs x 0)
+          both true true = sooner-twice (getD vs x 0)
+          both true false = refl
+          both false b = refl
+
+  ops-length : (r : ℕ) (vs : List ℕ) (os : List Op) → length (noteOps n r vs os) ≡ length vs
+  ops-length r vs [] = refl
+  ops-length r vs (o ∷ os) = ops-length r (noteItem n r vs (writtenItem o)) os ∙ length-set vs (writtenItem o) (sooner n (getD vs (writtenItem o) 0) r)
+
+  messages-length : (vs : List ℕ) (ms : List Message) → length (noteMessages n vs ms) ≡ length vs
+  messages-length vs [] = refl
+  messages-length vs (m ∷ ms) = messages-length (noteMessage n vs m) ms ∙ ops-length (nameOf m) vs (messageOps (n .history) m)
+
+  -- ---- the records that messages name, one after another
+  abbrev soonest : ℕ → List Message → ℕ
+  soonest f ms = fold (λ g m. sooner n g (nameOf m)) f ms
+
+  messages-noted : (x : ℕ) → x < itemsMost → (vs : List ℕ) (ms : List Message) → x < length vs → getD (noteMessages n vs ms) x 0 ≡ soonest (getD vs x 0) (keep (carries n x) ms)
+  messages-noted x few vs [] l = refl
+  messages-noted x few vs (m ∷ ms) l =
+      messages-noted x few (noteMessage n vs m) ms (omega (arith, ops-length (nameOf m) vs (messageOps (n .history) m)))
+      ∙ ap (λ (f : ℕ). soonest f (keep (carries n x) ms)) (ops-noted (nameOf m) x few vs (messageOps (n .history) m) l)
+      ∙ go (carries n x m)
+    where
+      go : (b : Bool) → soonest (cond b (sooner n (getD vs x 0) (nameOf m)) (getD vs x 0)) (keep (carries n x) ms) ≡ soonest (getD vs x 0) (cond b (m ∷ keep (carries n x) ms) (keep (carries n x) ms))
+      go true = refl
+      go false = refl
+
+  -- a message that writes an item names a record, and has its timestamp
+  pub record Named (m : Message) : Type 0 where
+    pub there : nameOf m < length (n .history)
+    pub stamp-is : messageStamp (n .history) m ≡ stampAt n (nameOf m)
+
+  named : (x : ℕ) (m : Message) → carries n x m ≡ true → Named m
+  named x (commit k) e = record { there = go (ltb k (length (n .history))) refl; stamp-is = refl }
+    where
+      go : (b : Bool) → ltb k (length (n .history)) ≡ b → k < length (n .history)
+      go true t = ltb-true k (length (n .history)) t
+      go false t = absurd (true≢false (sym e ∙ ap (λ (q : Record). touches x (q .ops)) (List·getD-eq-default (n .history) noRecord {n = k} (ltb-false k (length (n .history)) t))))
+  named x (dummy t) e = absurd (true≢false (sym e))
+
+  -- of two records the sooner has the former timestamp
+  sooner-stamp : (f r : ℕ) → f < length (n .history) → stampAt n (sooner n f r) ≡ former (noLater n) (stampAt n f) (stampAt n r)
+  sooner-stamp f r l = rw (lt-ltb f (length (n .history)) l) (go (noLater n (stampAt n f) (stampAt n r)) refl)
+    where
+      go : (b : Bool) → noLater n (stampAt n f) (stampAt n r) ≡ b → stampAt n (cond (isSooner n r f) r f) ≡ cond b (stampAt n f) (stampAt n r)
+      go true e = rw (test-fails (stampAt n r) (stampAt n f) e) refl
+      go false e = rw (before-test (stampAt n r) (stampAt n f) (fails-later (stampAt n f) (stampAt n r) e)) refl
+
+  sooner-named : (f r : ℕ) → f < length (n .history) → r < length (n .history) → sooner n f r < length (n .history)
+  sooner-named f r l m = go (ltb f (length (n .history))) (isSooner n r f)
+    where
+      go : (a b : Bool) → cond a (cond b r f) r < length (n .history)
+      go true true = m
+      go true false = l
+      go false b = m
+
+  abbrev stampsOf : List Message → List Stamp
+  stampsOf ms = map (messageStamp (n .history)) ms
+
+  earliest-noted : (f : ℕ) (ms : List Message) → f < length (n .history) → Each Named ms
+      → (soonest f ms < length (n .history)) × (stampAt n (soonest f ms) ≡ fold (former (noLater n)) (stampAt n f) (stampsOf ms))
+  earliest-noted f [] l h = (l, refl)
+  earliest-noted f (m ∷ ms) l h =
+      let rest = earliest-noted (sooner n f (nameOf m)) ms (sooner-named f (nameOf m) l (h .0 .there)) (h .1) in
+      let next : stampAt n (sooner n f (nameOf m)) ≡ former (noLater n) (stampAt n f) (messageStamp (n .history) m)
+      = sooner-stamp f (nameOf m) l ∙ ap (former (noLater n) (stampAt n f)) (sym (h .0 .stamp-is)) in
+      (rest .0, rest .1 ∙ ap (λ (s : Stamp). fold (former (noLater n)) s (stampsOf ms)) next)
+
+  -- from a number that no record has on
+  module _ (none : ℕ) (high : length (n .history) ≤ none) where
+    first-noted : (ms : List Message) → Each Named ms → 0 < length ms
+        → (soonest none ms < length (n .history)) × (stampAt n (soonest none ms) ≡ getD (sorted (noLater n) (stampsOf ms)) 0 noStamp)
+    first-noted [] h l = absurd (omega arith)
+    first-noted (m ∷ ms) h l =
+        let start : sooner n none (nameOf m) ≡ nameOf m = rw (le-ltb none (length (n .history)) high) in
+        let all = earliest-noted (nameOf m) ms (h .0 .there) (h .1) in (
+          rw start (all .0),
+          rw start (all .1)
+              ∙ ap (λ (s : Stamp). fold (former (noLater n)) s (stampsOf ms)) (sym (h .0 .stamp-is))
+              ∙ sym (first-sorted (noLater n) (no-later-along n) (no-later-either n) noStamp (messageStamp (n .history) m) (stampsOf ms)),
+        )
+
+    module _ (i : ℕ) where
+      abbrev all : List ℕ
+      all = noteMessages n (replicate itemsMost none) (into n i)
+
+      module _ (x : ℕ) (few : x < itemsMost) where
+        abbrev kept : List Message
+        kept = keep (carries n x) (into n i)
+
+        noted : getD all x 0 ≡ soonest none kept
+        noted =
+            messages-noted x few (replicate itemsMost none) (into n i) (omega (arith, few, length-replicate itemsMost none))
+            ∙ ap (λ (f : ℕ). soonest f kept) (getD-replicate itemsMost x none 0 few)
+
+        all-named : Each Named kept
+        all-named = each-keep (carries n x) Named (into n i) (each-all _ (named x) (into n i))
+
+        written : any (carries n x) (into n i) ≡ true → (getD all x 0 < length (n .history)) × (stampAt n (getD all x 0) ≡ earliestWrite n i x)
+        unfolding earliestWrite
+        written e = rw noted (first-noted kept all-named (some-kept (carries n x) (into n i) e))
+
+        not-written : any (carries n x) (into n i) ≡ false → length (n .history) ≤ getD all x 0
+        not-written e = omega (arith, noted ∙ ap (soonest none) (none-kept (carries n x) (into n i) e))
+
+      earliest-are : EarliestAre n i all
+      earliest-are =
+          record {
+            sized = messages-length (replicate itemsMost none) (into n i) ∙ length-replicate itemsMost none;
+            found = λ x few. found x few (any (carries n x) (into n i)) refl;
+            earliest = λ x few l. earliest x few l (any (carries n x) (into n i)) refl;
+          }
+        where
+          found : (x : ℕ) → x < itemsMost → (b : Bool) → any (carries n x) (into n i) ≡ b → b ≡ ltb (getD all x 0) (length (n .history))
+          found x few true e = sym (lt-ltb (getD all x 0) (length (n .history)) (written x few e .0))
+          found x few false e = sym (le-ltb (getD all x 0) (length (n .history)) (not-written x few e))
+
+          earliest : (x : ℕ) → x < itemsMost → getD all x 0 < length (n .history) → (b : Bool) → any (carries n x) (into n i) ≡ b → stampAt n (getD all x 0) ≡ earliestWrite n i x
+          earliest x few l true e = written x few e .1
+          earliest x few l false e = absurd (omega (arith, l, not-written x few e))
+
+pub writers-are : (w : List ℕ) → AtState w → (i : ℕ) → EarliestAre (networkIn w) i (earliestWriters (networkIn w) i)
+writers-are w at i = earliest-are (networkIn w) recordsMost (few-made w at) i

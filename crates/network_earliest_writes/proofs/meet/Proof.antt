@@ -1,0 +1,48 @@
+-- `meet` keeps the last comparison, or makes another.
+use mathlib.Core.Path.{_≡_, refl, ap, ap₂, _∙_}
+use mathlib.Core.Bool.{Bool}
+use Rattle.timestamp_order.specs.Order.{isEarlier}
+use Rattle.network_layout.specs.InWords.{networkIn}
+use Rattle.network_earliest_writes.specs.Noted.{isSooner}
+use Rattle.network_earliest_writes.proofs.NotedLaws.{compared}
+use borrow.Author.Needs.{needs}
+use Rattle.network_earliest_writes.proofs.meet.Statement.{statement}
+use Rattle.network_earliest_writes.proofs.meet.Tie as tie
+
+returns : tie.Need-returns
+returns c =
+    let same : c .before .before .before .args .met .other ≡ c .before .before .before .args .noted = c .if1 .taken in
+    (same, c .before .before .before .pre .met)
+
+wide-requires : tie.Need-wide-requires
+wide-requires c κs = search needs
+
+wide-requires-2 : tie.Need-wide-requires-2
+wide-requires-2 c κs = search needs
+
+compare-records-requires : tie.Need-compare-records-requires
+compare-records-requires c κs = search needs
+
+is-earlier-requires : tie.Need-is-earlier-requires
+is-earlier-requires c κs = search needs
+
+returns-2 : tie.Need-returns-2
+returns-2 c =
+    let found = c .before in
+    let second = found .before in
+    let first = second .before in
+    let n = networkIn (first .before .before .before .before .args .state .now) in
+    let told : c .is-earlier .result ≡ isSooner n (first .wide .result) (second .wide2 .result)
+    = c .is-earlier .ensures ∙ ap isEarlier (compared n _ _ _ (found .compare-records .ensures)) in
+    (refl, told ∙ ap₂ {C = Bool} (isSooner n) (first .wide .ensures) (second .wide2 .ensures))
+
+pub meet-spec : {M : Type 1} → statement M
+meet-spec =
+    tie.close
+    (tie.spec
+    returns
+    wide-requires
+    wide-requires-2
+    compare-records-requires
+    is-earlier-requires
+    returns-2)
