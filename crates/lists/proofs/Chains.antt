@@ -1,11 +1,11 @@
--- What holds of each element of a list, and of each with those after it; by places, and of those that pass a test too.
+-- What holds of each element of a list, and of each with those after it; by places, of those that pass a test, and of numbers in turn too.
 use mathlib.Core.Path.{_≡_, refl, ap, _∙_}
 use mathlib.Core.Bool.{Bool, true, false, cond}
 use mathlib.Core.List.{List, [], _∷_, _++_, map}
-use Prim.Native.Nat.{ℕ, zero, suc, _<_}
+use Prim.Native.Nat.{ℕ, zero, suc, _+_, _≤_, _<_}
 use native.Mathlib.Omega.{arith}
 use lib.ListN.{length, getD}
-use Rattle.lists.specs.Lists.{keep}
+use Rattle.lists.specs.Lists.{keep, upTo}
 
 -- ---- what holds of each element, and of each with those after it
 abbrev pub Each : {A : Type 0} → (A → Type 0) → List A → Type 0
@@ -85,6 +85,15 @@ module _ {A : Type 0} where
         go true e false f r = simp (e, f, r)
         go false e true f r = simp (e, f, r)
         go false e false f r = simp (e, f, r)
+
+-- ---- of the numbers from k on
+pub each-upTo : (P : ℕ → Type 0) (k m : ℕ) → ((x : ℕ) → k ≤ x → x < k + m → P x) → Each P (upTo k m)
+each-upTo P k zero f = tt
+each-upTo P k (suc m) f = (f k (omega arith) (omega arith), each-upTo P (suc k) m (λ x l h. f x (omega arith) (omega arith)))
+
+pub numbers-rise : (k m : ℕ) → Chain (λ x y. x < y) (upTo k m)
+numbers-rise k zero = tt
+numbers-rise k (suc m) = (each-upTo (λ y. k < y) (suc k) m (λ y l h. l), numbers-rise (suc k) m)
 
 pub map-keep : {A B : Type 0} (f : A → B) (p : B → Bool) (xs : List A) → map f (keep (λ x. p (f x)) xs) ≡ keep p (map f xs)
 map-keep f p [] = refl

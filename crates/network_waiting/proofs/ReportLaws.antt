@@ -1,8 +1,8 @@
 -- The items of a report put in their places one by one: the place found by halves, the items in order, and that they are those of the definition.
 use mathlib.Core.Path.{_≡_, refl, sym, ap, ap₂, _∙_}
-use mathlib.Core.Bool.{Bool, true, false, cond, _&&_, true≢false}
+use mathlib.Core.Bool.{Bool, true, false, cond, _&&_, and-true, and-false, true≢false}
 use mathlib.Core.List.{List, [], _∷_, _++_}
-use Prim.Native.Nat.{ℕ, zero, suc, _+_, _-_, _≤_, _<_}
+use Prim.Native.Nat.{ℕ, suc, _+_, _-_, _≤_, _<_}
 use native.Mathlib.Omega.{arith}
 use native.Mathlib.Numerals.{add-one}
 use lib.ListN.{length, getD, take, drop}
@@ -12,7 +12,7 @@ use borrow.Author.Tests.{lt-ltb, le-ltb, ltb-true, ltb-false, eqb-true, eqb-fals
 use Rattle.limits.specs.Limits.{itemsMost}
 use Rattle.lists.specs.Lists.{keep, upTo}
 use Rattle.lists.specs.Sorting.{insert, placeIn, sorted}
-use Rattle.lists.proofs.Chains.{Each, Chain, each-at, each-implied, each-keep, chain-at, chain-keep}
+use Rattle.lists.proofs.Chains.{Each, Chain, each-at, each-implied, each-keep, each-upTo, chain-at, chain-keep}
 use Rattle.lists.proofs.Sorting.{length-insert, each-sorted, in-order, sorted-alike}
 use Rattle.lists.proofs.First.{insert-placed, place-found, place-within}
 use Rattle.word_insertion.specs.Inserted.{inserted}
@@ -30,28 +30,20 @@ use Rattle.network_earliest_writes.specs.Noted.{stampAt, EarliestAre}
 use Rattle.network_earliest_writes.proofs.NotedLaws.{noted-there}
 use Rattle.network_waiting.specs.Places.{earliestOf, earliestBefore, Written, Seeking, Between, Narrowed, PutIn}
 
--- ---- whether an item is waiting, by its first write
+-- ---- whether an item is waiting, by its earliest write
 module _ (n : Network) (i : ℕ) (writers : List ℕ) (f : EarliestAre n i writers) (x : ℕ) (few : x < itemsMost) where
-  by-first : (b : Bool) → ltb (earliestOf writers x) (length (n .history)) ≡ b → isWaiting n i x ≡ (copies (n .items) i x && b)
+  by-earliest : (b : Bool) → ltb (earliestOf writers x) (length (n .history)) ≡ b → isWaiting n i x ≡ (copies (n .items) i x && b)
   unfolding isWaiting
-  by-first b e = ap (λ (c : Bool). copies (n .items) i x && c) (f .found x few ∙ e)
+  by-earliest b e = ap (λ (c : Bool). copies (n .items) i x && c) (f .found x few ∙ e)
 
   pub not-waiting : length (n .history) ≤ earliestOf writers x → false ≡ isWaiting n i x
-  not-waiting h = sym (by-first false (le-ltb (earliestOf writers x) (length (n .history)) h) ∙ and-right (copies (n .items) i x))
-    where
-      and-right : (c : Bool) → (c && false) ≡ false
-      and-right true = refl
-      and-right false = refl
+  not-waiting h = sym (by-earliest false (le-ltb (earliestOf writers x) (length (n .history)) h) ∙ and-false (copies (n .items) i x))
 
   pub where-copied : earliestOf writers x < length (n .history) → copies (n .items) i x ≡ isWaiting n i x
-  where-copied h = sym (by-first true (lt-ltb (earliestOf writers x) (length (n .history)) h) ∙ and-right (copies (n .items) i x))
-    where
-      and-right : (c : Bool) → (c && true) ≡ c
-      and-right true = refl
-      and-right false = refl
+  where-copied h = sym (by-earliest true (lt-ltb (earliestOf writers x) (length (n .history)) h) ∙ and-true (copies (n .items) i x))
 
-  pub waiting-first : isWaiting n i x ≡ true → earliestOf writers x < length (n .history)
-  waiting-first w = go (ltb (earliestOf writers x) (length (n .history))) refl
+  pub waiting-noted : isWaiting n i x ≡ true → earliestOf writers x < length (n .history)
+  waiting-noted w = go (ltb (earliestOf writers x) (length (n .history))) refl
     where
       go : (b : Bool) → ltb (earliestOf writers x) (length (n .history)) ≡ b → earliestOf writers x < length (n .history)
       go true e = ltb-true (earliestOf writers x) (length (n .history)) e
@@ -166,17 +158,13 @@ module _ (w writers : List ℕ) (i : ℕ) where
       go false = refl
 
 module _ (w writers : List ℕ) (i : ℕ) (at : AtState w) (f : EarliestAre (networkIn w) i writers) where
-  -- an item that is waiting has a first write
+  -- an item that is waiting is written by a message
   pub waiting-written : (x : ℕ) → x < itemsMost → waits w writers i x ≡ true → Written w writers x
   waiting-written x few t =
       record {
         placed = omega (arith, few, f .sized);
-        has = noted-there w at (earliestOf writers x) (omega (arith, records-count w, waiting-first (networkIn w) i writers f x few t));
+        has = noted-there w at (earliestOf writers x) (omega (arith, records-count w, waiting-noted (networkIn w) i writers f x few t));
       }
-
-  numbers-below : (P : ℕ → Type 0) (k m : ℕ) → ((x : ℕ) → x < k + m → P x) → Each P (upTo k m)
-  numbers-below P k zero h = tt
-  numbers-below P k (suc m) h = (h k (omega arith), numbers-below P (suc k) m (λ x l. h x (omega arith)))
 
   pub seeking : (items : List ℕ) (k m j : ℕ) → k + m ≤ itemsMost → items ≡ inPlace w writers i k m → Written w writers j → Seeking items w writers j
   seeking items k m j few e here =
@@ -189,25 +177,28 @@ module _ (w writers : List ℕ) (i : ℕ) (at : AtState w) (f : EarliestAre (net
       all : Each (Written w writers) (inPlace w writers i k m)
       all =
           each-sorted (earliestBefore w writers) (Written w writers) (keep (waits w writers i) (upTo k m))
-          (each-keep (waits w writers i) (Written w writers) (upTo k m) (numbers-below _ k m (λ x l t. waiting-written x (omega (arith, l, few)) t)))
+          (each-keep (waits w writers i) (Written w writers) (upTo k m) (each-upTo _ k m (λ x g l t. waiting-written x (omega (arith, l, few)) t)))
 
-  -- by first writes as by the definition
+  -- by the records noted as by the definition
+  abbrev defined : ℕ → ℕ → Bool
+  defined j k = noLater (networkIn w) (earliestWrite (networkIn w) i j) (earliestWrite (networkIn w) i k)
+
   pub all-in-place : (m : ℕ) → m ≡ length (networkIn w .items) → m ≤ itemsMost → inPlace w writers i 0 m ≡ waitingItems (networkIn w) i
   unfolding waitingItems
   all-in-place m e few =
-      sorted-alike (earliestBefore w writers) (λ j k. noLater (networkIn w) (earliestWrite (networkIn w) i j) (earliestWrite (networkIn w) i k)) (keep (waits w writers i) (upTo 0 m))
-      (chain-keep (waits w writers i) _ (upTo 0 m) (chain-below (upTo 0 m) (numbers-below (λ x. x < itemsMost) 0 m (λ x l. omega (arith, l, few)))))
-      ∙ ap (λ (l : ℕ). sorted (λ j k. noLater (networkIn w) (earliestWrite (networkIn w) i j) (earliestWrite (networkIn w) i k)) (keep (waits w writers i) (upTo 0 l))) e
+      sorted-alike (earliestBefore w writers) defined (keep (waits w writers i) (upTo 0 m))
+      (chain-keep (waits w writers i) _ (upTo 0 m) (chain-below (upTo 0 m) (each-upTo (λ x. x < itemsMost) 0 m (λ x g l. omega (arith, l, few)))))
+      ∙ ap (λ (l : ℕ). sorted defined (keep (waits w writers i) (upTo 0 l))) e
     where
-      first-is : (x : ℕ) → x < itemsMost → waits w writers i x ≡ true → stampAt (networkIn w) (earliestOf writers x) ≡ earliestWrite (networkIn w) i x
-      first-is x l t = f .earliest x l (waiting-first (networkIn w) i writers f x l t)
+      noted-is : (x : ℕ) → x < itemsMost → waits w writers i x ≡ true → stampAt (networkIn w) (earliestOf writers x) ≡ earliestWrite (networkIn w) i x
+      noted-is x l t = f .earliest x l (waiting-noted (networkIn w) i writers f x l t)
 
       alike : (j k : ℕ) → j < itemsMost → k < itemsMost → waits w writers i j ≡ true → waits w writers i k ≡ true
-          → earliestBefore w writers j k ≡ noLater (networkIn w) (earliestWrite (networkIn w) i j) (earliestWrite (networkIn w) i k)
-      alike j k a b s t = ap₂ {C = Bool} (noLater (networkIn w)) (first-is j a s) (first-is k b t)
+          → earliestBefore w writers j k ≡ defined j k
+      alike j k a b s t = ap₂ {C = Bool} (noLater (networkIn w)) (noted-is j a s) (noted-is k b t)
 
       chain-below : (xs : List ℕ) → Each (λ x. x < itemsMost) xs
-          → Chain (λ j k. waits w writers i j ≡ true → waits w writers i k ≡ true → earliestBefore w writers j k ≡ noLater (networkIn w) (earliestWrite (networkIn w) i j) (earliestWrite (networkIn w) i k)) xs
+          → Chain (λ j k. waits w writers i j ≡ true → waits w writers i k ≡ true → earliestBefore w writers j k ≡ defined j k) xs
       chain-below [] h = tt
       chain-below (x ∷ xs) h = (each-implied (λ y. y < itemsMost) _ (λ y l s t. alike x y (h .0) l s t) xs (h .1), chain-below xs (h .1))
 

@@ -9,7 +9,7 @@ use lib.ListN.{length, getD, List·getD-eq-default, length-map}
 use lib.Dec.{eqb}
 use Rattle.lists.specs.Lists.{any, keep, upTo}
 use Rattle.lists.specs.Sorting.{sorted}
-use Rattle.lists.proofs.Chains.{Each, Chain, each-at, each-by, chain-at, chain-by, chain-keep, chain-implied}
+use Rattle.lists.proofs.Chains.{Chain, each-at, each-by, chain-at, chain-by, chain-keep, chain-implied, numbers-rise}
 use Rattle.lists.proofs.Every.{and-true}
 use Rattle.lists.proofs.Some.{some-at, some-index, some-kept}
 use Rattle.lists.proofs.Sorting.{length-sorted, each-sorted, any-sorted, in-order}
@@ -27,15 +27,6 @@ use Rattle.protocol.proofs.Places.{placeAt, places-apart, timesAt}
 use Rattle.protocol.proofs.Precedes.{precedes-one-way, sorted-precede}
 use Rattle.protocol.proofs.Times.{Times}
 
--- the numbers from a on rise
-numbers-rise : (a m : ℕ) → Chain (λ j k. j < k) (upTo a m)
-numbers-rise a zero = tt
-numbers-rise a (suc m) = (above (suc a) m (omega arith), numbers-rise (suc a) m)
-  where
-    above : (b l : ℕ) → a < b → Each (λ k. a < k) (upTo b l)
-    above b zero h = tt
-    above b (suc l) h = (h, above (suc b) l (omega arith))
-
 module _ (n : Network) where
   open Times (timesAt n) using (upto-self, upto-before, upto-trans, fails-later)
 
@@ -51,11 +42,14 @@ module _ (n : Network) where
     abbrev Precedes : ℕ → ℕ → Type 0
     Precedes j k = precedesBy (placeAt n) j (earliestWrite n i j) k (earliestWrite n i k) ≡ true
 
+    abbrev numbers : List ℕ
+    numbers = upTo 0 (length (n .items))
+
     report-chain : Chain Precedes (waitingItems n i)
     unfolding waitingItems
     report-chain =
-        sorted-precede (placeAt n) (places-apart (n .items)) (λ (k : ℕ). k) (earliestWrite n i) (keep (isWaiting n i) (upTo 0 (length (n .items))))
-        (chain-keep (isWaiting n i) (λ j k. j < k) (upTo 0 (length (n .items))) (chain-implied (λ j k. j < k) _ (λ j k l _ _. l) (upTo 0 (length (n .items))) (numbers-rise 0 (length (n .items)))))
+        sorted-precede (placeAt n) (places-apart (n .items)) (λ (k : ℕ). k) (earliestWrite n i) (keep (isWaiting n i) numbers)
+        (chain-keep (isWaiting n i) (λ j k. j < k) numbers (chain-implied (λ j k. j < k) _ (λ j k l _ _. l) numbers (numbers-rise 0 (length (n .items)))))
 
     -- an item that is not there has no copy
     past : (k : ℕ) → length (n .items) ≤ k → isWaiting n i k ≡ false
@@ -68,7 +62,7 @@ module _ (n : Network) where
     report-once : EachOnce n i (waitingItems n i)
     unfolding waitingItems
     report-once k =
-        occurrences-sorted _ k (keep (isWaiting n i) (upTo 0 (length (n .items))))
+        occurrences-sorted _ k (keep (isWaiting n i) numbers)
         ∙ once-kept (isWaiting n i) k 0 (length (n .items)) (omega arith) (λ l. past k (omega (arith, l)))
 
     pub report-is : ReportIs n i

@@ -18,13 +18,13 @@ use Rattle.protocol.specs.Precedes.{precedesBy}
 
 -- ---- which items
 -- the messages on the lines into site i from the sites below p, arrived or not
-abbrev pub intoFrom : Network → ℕ → ℕ → List Message
-intoFrom n i zero = []
-intoFrom n i (suc p) = intoFrom n i p ++ lineAt n p i .messages
+abbrev pub intoBelow : Network → ℕ → ℕ → List Message
+intoBelow n i zero = []
+intoBelow n i (suc p) = intoBelow n i p ++ lineAt n p i .messages
 
 -- .. from all sites
 abbrev pub into : Network → ℕ → List Message
-into n i = intoFrom n i sitesMost
+into n i = intoBelow n i sitesMost
 
 -- a message writes item k
 abbrev pub carries : Network → ℕ → Message → Bool

@@ -8,7 +8,7 @@ use lib.ListN.{length, replicate}
 use Rattle.limits.specs.Limits.{sitesMost, itemsMost, recordsMost}
 use Rattle.lists.proofs.Folds.{fold-more}
 use Rattle.protocol.specs.Network.{lineAt}
-use Rattle.protocol.specs.Waiting.{intoFrom}
+use Rattle.protocol.specs.Waiting.{intoBelow}
 use Rattle.network_layout.specs.InWords.{networkIn}
 use Rattle.network_earliest_writes.specs.Noted.{noteMessage, noteMessages, messagesOn}
 use borrow.Author.Needs.{needs}
@@ -16,11 +16,11 @@ use Rattle.network_earliest_writes.proofs.earliest_writes.Statement.{st
 use Rattle.network_earliest_writes.proofs.earliest_writes.Tie as tie
 
 -- what is noted of the lines from the sites below p
-abbrev notedFrom : List ℕ → ℕ → ℕ → List ℕ
-notedFrom state site p = noteMessages (networkIn state) (replicate itemsMost recordsMost) (intoFrom (networkIn state) site p)
+abbrev notedBelow : List ℕ → ℕ → ℕ → List ℕ
+notedBelow state site p = noteMessages (networkIn state) (replicate itemsMost recordsMost) (intoBelow (networkIn state) site p)
 
 abbrev Inv-loop : tie.InvT-loop
-Inv-loop state site writers₀ p₀ writers p = (p ≤ sitesMost) × (length writers ≡ itemsMost) × (writers ≡ notedFrom state site p)
+Inv-loop state site writers₀ p₀ writers p = (p ≤ sitesMost) × (length writers ≡ itemsMost) × (writers ≡ notedBelow state site p)
 
 abbrev μ-loop : tie.MeasureT-loop
 μ-loop state site writers₀ p₀ writers p = sitesMost - p
@@ -59,8 +59,8 @@ loop-again c =
       q .note-line .kept .0 ∙ h .loop .inv .1,
       told
           ∙ ap (λ (vs : List ℕ). noteMessages (networkIn w) vs (lineAt (networkIn w) (h .loop .p) (A .site) .messages)) (h .loop .inv .2)
-          ∙ sym (fold-more (noteMessage (networkIn w)) (replicate itemsMost recordsMost) (intoFrom (networkIn w) (A .site) (h .loop .p)) (lineAt (networkIn w) (h .loop .p) (A .site) .messages))
-          ∙ ap (notedFrom w (A .site)) (sym (add-one (h .loop .p))),
+          ∙ sym (fold-more (noteMessage (networkIn w)) (replicate itemsMost recordsMost) (intoBelow (networkIn w) (A .site) (h .loop .p)) (lineAt (networkIn w) (h .loop .p) (A .site) .messages))
+          ∙ ap (notedBelow w (A .site)) (sym (add-one (h .loop .p))),
     )
 
 returns : tie.Need-returns Inv-loop μ-loop
@@ -68,7 +68,7 @@ returns c =
     let h = c .before in
     let A = h .before .before .args in
     let all : h .loop .p ≡ sitesMost = omega (arith, h .loop .inv .0, c .loop-test .left) in
-    h .loop .inv .2 ∙ ap (notedFrom (A .state .now) (A .site)) all
+    h .loop .inv .2 ∙ ap (notedBelow (A .state .now) (A .site)) all
 
 pub earliest-writes-spec : {M : Type 1} → statement M
 earliest-writes-spec =
