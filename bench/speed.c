@@ -110,7 +110,8 @@ static uint64_t origin(void)
 static uint64_t checked(void)
 {
     struct gevrolen_file answer;
-    gevrolen_read(file, length, &answer);
+    uint8_t places[GEVROLEN_SITES];
+    gevrolen_read(file, length, &answer, places);
     return answer.records;
 }
 
@@ -127,9 +128,10 @@ static uint64_t following(void)
 {
     struct gevrolen_file answer;
     struct gevrolen_record one;
+    uint8_t places[GEVROLEN_SITES];
     uint64_t sum = 0;
-    gevrolen_read(file, length, &answer);
-    for (size_t at = 0; !gevrolen_record_from(file + answer.start, answer.length, at, 8, 64, &one, &at);)
+    gevrolen_read(file, length, &answer, places);
+    for (size_t at = 0; !gevrolen_record_from(file + answer.start, answer.length, at, 8, 64, places, &one, &at);)
         sum += digest(&one);
     return sum;
 }

@@ -4,7 +4,7 @@
     bindings.py     after bindings/build; what it built is looked for in target/gevrolen, or in GEVROLEN_FOLDER
 
 - Names, numbers, sentences and sizes are the same in the header, the Python module, the Rust crate and the table of docs/USING.md.
-- The Python module raises for numbers that do not fit and for wrong types, before any call.
+- The Python module raises for numbers that do not fit, for wrong types and for tables that are not of eight places, before any call.
 - The Python sessions of the module, of README.md and of docs/USING.md answer as they say; so do the programs in C and Rust, where a block of text follows them.
 - Two timestamps side by side are the same text in C, Rust and Python; in Python by one comparison, whose answer says where they part.
 - The C example answers as the worked example's script, with two timestamps behind it, and ends with status 0; 100,000 steps on each of two networks answer what their rounds add up to.
@@ -84,9 +84,11 @@ def check_arguments():
         lambda: network.commit_lists(0, [256], [0], [0]),
         lambda: network.export(-1),
         lambda: gevrolen.record(b"", -1),
-        lambda: gevrolen.compare((0, [(0, 0)] * 9), (0, [])),
-        lambda: gevrolen.compare((0, []), (2**32, [])),
-        lambda: gevrolen.side_by_side((0, []), (0, [(0, -1)])),
+        lambda: gevrolen.compare((0, [(0, 0)] * 9), (0, []), NUMBERS),
+        lambda: gevrolen.compare((0, []), (2**32, []), NUMBERS),
+        lambda: gevrolen.compare((0, []), (0, []), [256] * 8),
+        lambda: gevrolen.compare((0, []), (0, []), [-1] * 8),
+        lambda: gevrolen.side_by_side((0, []), (0, [(0, -1)]), NUMBERS),
     ]
     wrong_type = [
         lambda: network.dummy("0"),
@@ -96,14 +98,23 @@ def check_arguments():
         lambda: network.commit(0, [(1, 0, None)]),
         lambda: network.script("d 0"),
         lambda: gevrolen.read(16),
-        lambda: gevrolen.compare((0, []), (0, [(0, "1")])),
-        lambda: gevrolen.side_by_side((0.0, []), (0, [])),
+        lambda: gevrolen.compare((0, []), (0, [(0, "1")]), NUMBERS),
+        lambda: gevrolen.compare((0, []), (0, [])),
+        lambda: gevrolen.compare((0, []), (0, []), None),
+        lambda: gevrolen.compare((0, []), (0, []), [0.0] * 8),
+        lambda: gevrolen.side_by_side((0.0, []), (0, []), NUMBERS),
+        lambda: gevrolen.side_by_side((0, []), (0, [])),
         lambda: gevrolen.Stamp(0, ()) < gevrolen.Stamp(1, ()),
         lambda: gevrolen.Stamp(0, ()) >= (1, ()),
         lambda: max(gevrolen.Stamp(0, ()), gevrolen.Stamp(0, ((0, 1),))),
         lambda: sorted([(0, ()), gevrolen.Stamp(1, ())]),
     ]
-    for fault, calls in ((OverflowError, too_large), (TypeError, wrong_type)):
+    not_eight = [
+        lambda: gevrolen.compare((0, []), (0, []), range(7)),
+        lambda: gevrolen.compare((0, []), (0, []), range(9)),
+        lambda: gevrolen.side_by_side((0, []), (0, []), []),
+    ]
+    for fault, calls in ((OverflowError, too_large), (TypeError, wrong_type), (ValueError, not_eight)):
         for k, call in enumerate(calls):
             try:
                 expect("call %d that should raise %s" % (k, fault.__name__), call(), None)
@@ -171,18 +182,23 @@ SHORT, LONG = (7, ((0, 1),)), (7, ((0, 1), (2, 5)))
 WIDE = (0, ((4294967295, 4294967295),))
 EIGHT, ANOTHER = [(1, tuple((site, 10) for site in range(7)) + ((7, count),)) for count in (11, 9)]
 
+NUMBERS, MOVED = tuple(range(8)), (1, 2, 0, 3, 4, 5, 6, 7)
+
 SIDE_BY_SIDE = [
-    (HEARD, HEARD_MORE, ["epoch 0   epoch 0", "0.1       0.1", "1.1     > 2.1", "          3.4"]),
-    (HEARD_MORE, HEARD, ["epoch 0   epoch 0", "0.1       0.1", "2.1     < 1.1", "3.4"]),
-    (SHORT, LONG, ["epoch 7   epoch 7", "0.1       0.1", "        < 2.5"]),
-    (LONG, SHORT, ["epoch 7   epoch 7", "0.1       0.1", "2.5     >"]),
-    (SHORT, HEARD, ["epoch 7 > epoch 0", "0.1       0.1", "          1.1"]),
-    ((9, ((3, 1),)), (10, ((3, 1),)), ["epoch 9 < epoch 10", "3.1       3.1"]),
-    ((4294967295, ()), (0, ()), ["epoch 4294967295 > epoch 0"]),
-    ((0, ()), (0, ()), ["epoch 0   epoch 0"]),
-    ((0, ((1, 1), (2, 1))), (0, ((1, 2), (2, 1))), ["epoch 0   epoch 0", "1.1     < 1.2", "2.1       2.1"]),
-    (WIDE, WIDE, ["epoch 0                 epoch 0", "4294967295.4294967295   4294967295.4294967295"]),
-    (EIGHT, ANOTHER, ["epoch 1   epoch 1"] + ["%d.10      %d.10" % (site, site) for site in range(7)] + ["7.11    > 7.9"]),
+    (HEARD, HEARD_MORE, NUMBERS, ["epoch 0   epoch 0", "0.1       0.1", "1.1     > 2.1", "          3.4"]),
+    (HEARD_MORE, HEARD, NUMBERS, ["epoch 0   epoch 0", "0.1       0.1", "2.1     < 1.1", "3.4"]),
+    (SHORT, LONG, NUMBERS, ["epoch 7   epoch 7", "0.1       0.1", "        < 2.5"]),
+    (LONG, SHORT, NUMBERS, ["epoch 7   epoch 7", "0.1       0.1", "2.5     >"]),
+    (SHORT, HEARD, NUMBERS, ["epoch 7 > epoch 0", "0.1       0.1", "          1.1"]),
+    ((9, ((3, 1),)), (10, ((3, 1),)), NUMBERS, ["epoch 9 < epoch 10", "3.1       3.1"]),
+    ((4294967295, ()), (0, ()), NUMBERS, ["epoch 4294967295 > epoch 0"]),
+    ((0, ()), (0, ()), NUMBERS, ["epoch 0   epoch 0"]),
+    ((0, ((1, 1), (2, 1))), (0, ((1, 2), (2, 1))), NUMBERS, ["epoch 0   epoch 0", "1.1     < 1.2", "2.1       2.1"]),
+    (WIDE, WIDE, NUMBERS, ["epoch 0                 epoch 0", "4294967295.4294967295   4294967295.4294967295"]),
+    (HEARD, HEARD_MORE, MOVED, ["epoch 0   epoch 0", "0.1       0.1", "1.1     < 2.1", "          3.4"]),
+    (SHORT, LONG, MOVED, ["epoch 7   epoch 7", "0.1       0.1", "        < 2.5"]),
+    ((0, ((0, 1),)), (0, ((2, 1), (0, 2))), MOVED, ["epoch 0   epoch 0", "0.1     < 2.1", "          0.2"]),
+    (EIGHT, ANOTHER, NUMBERS, ["epoch 1   epoch 1"] + ["%d.10      %d.10" % (site, site) for site in range(7)] + ["7.11    > 7.9"]),
 ]
 
 C_PROGRAM = """#define main example
@@ -192,8 +208,9 @@ C_PROGRAM = """#define main example
 int main(void)
 {
     const struct gevrolen_stamp pairs[][2] = {%s};
+    const uint8_t places[][GEVROLEN_SITES] = {%s};
     for (size_t k = 0; k < sizeof pairs / sizeof pairs[0]; k++)
-        side_by_side(&pairs[k][0], &pairs[k][1]);
+        side_by_side(&pairs[k][0], &pairs[k][1], places[k]);
     return 0;
 }
 """
@@ -202,8 +219,8 @@ RUST_PROGRAM = """use gevrolen::{side_by_side, Stamp};
 
 fn main() {
     let stamp = |epoch, tuples: &[(u32, u32)]| Stamp::new(epoch, tuples).unwrap();
-    for (first, second) in [%s] {
-        println!("{}", side_by_side(&first, &second));
+    for (first, second, places) in [%s] {
+        println!("{}", side_by_side(&first, &second, &places));
     }
 }
 """
@@ -219,25 +236,26 @@ def rust_stamp(stamp):
 
 
 def compare_texts(scratch):
-    for a, b, lines in SIDE_BY_SIDE:
-        expect("side_by_side(%r, %r)" % (a, b), gevrolen.side_by_side(a, b).split("\n"), lines)
-    wanted = [line for _, _, lines in SIDE_BY_SIDE for line in lines]
-    pairs = ["{%s, %s}" % (c_stamp(a), c_stamp(b)) for a, b, _ in SIDE_BY_SIDE]
+    for a, b, places, lines in SIDE_BY_SIDE:
+        expect("side_by_side(%r, %r, %r)" % (a, b, places), gevrolen.side_by_side(a, b, places).split("\n"), lines)
+    wanted = [line for *_, lines in SIDE_BY_SIDE for line in lines]
+    pairs = ["{%s, %s}" % (c_stamp(a), c_stamp(b)) for a, b, _, _ in SIDE_BY_SIDE]
     pairs.append("{%s, %s}" % (c_stamp(EIGHT, 77), c_stamp(ANOTHER, 2**32 - 1)))  # of the last pair again, all eight tuples
+    tables = ["{%s}" % ", ".join(map(str, places)) for _, _, places, _ in SIDE_BY_SIDE + SIDE_BY_SIDE[-1:]]
     source = scratch / "pairs.c"
-    source.write_text(C_PROGRAM % (ROOT / "bindings" / "c" / "example.c", ", ".join(pairs)))
-    expect("side_by_side in C", run_c(source, scratch).splitlines(), wanted + SIDE_BY_SIDE[-1][2])
-    pairs = ", ".join("(%s, %s)" % (rust_stamp(a), rust_stamp(b)) for a, b, _ in SIDE_BY_SIDE)
+    source.write_text(C_PROGRAM % (ROOT / "bindings" / "c" / "example.c", ", ".join(pairs), ", ".join(tables)))
+    expect("side_by_side in C", run_c(source, scratch).splitlines(), wanted + SIDE_BY_SIDE[-1][-1])
+    pairs = ", ".join("(%s, %s, %r)" % (rust_stamp(a), rust_stamp(b), list(places)) for a, b, places, _ in SIDE_BY_SIDE)
     source = scratch / "pairs.rs"
     source.write_text(RUST_PROGRAM % pairs)
     expect("side_by_side in Rust", run_rust(source, scratch).splitlines(), wanted)
 
 
 def check_one_comparison():
-    """Another answer in the comparison's place puts the mark elsewhere, and there is none for a second question."""
+    """Another answer instead of the comparison's puts the mark elsewhere, and there is none for a second question."""
     compare, answers = gevrolen.compare, [gevrolen.Compared(-1, 1)]
-    gevrolen.compare = lambda a, b: answers.pop()
-    expect("side_by_side by another answer", gevrolen.side_by_side(HEARD, HEARD).split("\n"), ["epoch 0   epoch 0", "0.1       0.1", "1.1     < 1.1"])
+    gevrolen.compare = lambda a, b, places: answers.pop()
+    expect("side_by_side by another answer", gevrolen.side_by_side(HEARD, HEARD, NUMBERS).split("\n"), ["epoch 0   epoch 0", "0.1       0.1", "1.1     < 1.1"])
     gevrolen.compare = compare
 
 

@@ -5,13 +5,15 @@
     cases.py built          on what was built: the calls on the library, through the Python module, and the scripts on the program gevrolen
     cases.py model NAME     prints what the model answers
 
-`script`, `long` and `empty` are scripts; so is the example of crates/gevrolen. The lines of `calls`, beside those of a script:
+`script`, `long`, `moved` and `empty` are scripts; so is the example of crates/gevrolen. The lines of `calls`, beside those of a script:
 
     # ..                        a comment, answered as it is
     w SITE                      waiting report: the number, how many items, the items as they come, and behind them such places as are not 0: there are none
     t NUMBER OPERATION          origin of a read, by its record and operation: the number, the kind (1 start, 2 commit; 0 where refused), the commit's record number
-    v EPOCH LENGTH TUPLES ..    two timestamps compared, each as a struct: its epoch, its length field, the tuples in front of places full of EE (- for none). The order,
-                                whether the epochs differ (1) or not (0), how many leading tuples are shared; then the same with the two exchanged
+    n                           the places of sites: the number, and eight of them
+    v EPOCH LENGTH TUPLES ..    two timestamps compared, each as a struct: its epoch, its length field, the tuples in front of places full of EE (- for none); behind the
+                                second eight places with commas, or nothing for the numbers. The order, whether the epochs differ (1) or not (0), how many leading
+                                tuples are shared; then the same with the two exchanged
     k PLACE WORD                a word of the state set by hand, answered as it is
     o SITE KIND                 commit by two records: a read of item 0, and an operation of that kind on item 1 with the value -1
     u SITE KINDS ITEMS VALUES   commit by separate lists of so many entries, writes of item 0
@@ -19,9 +21,10 @@
     x SIZE                      export to so many bytes EE, which then are the file: the number and the length
     b, h                        the file's bytes; the bytes of its part
     a                           two sums over the file's bytes, as Adler's
-    f                           check of the file: number, records, sites, items, length of the part
+    f                           check of the file: number, records, sites, items, length of the part, eight places
     r NUMBER                    a record by its number: number, how many operations, then the record with all eight places of operations
-    @ PLACE SITES ITEMS         the record at a place of the part: number, where the next starts, how many operations, the record likewise
+    @ BYTE SITES ITEMS          the record that starts at a byte of the part: number, where the next starts, how many operations, the record likewise; by the places that the
+                                check answers, or by eight behind it, with commas
 
 Behind a refused step stands whether every word of the state is as it was: by the specification, always.
 """
@@ -33,13 +36,14 @@ import zlib
 import files
 import layout
 import model
-from limits import ITEMS
+from limits import ITEMS, SITES
 
 ROOT = pathlib.Path(__file__).resolve().parent.parent
 CASES = ROOT / "tests" / "cases"
 EXAMPLE = ROOT / "crates" / "gevrolen"
-SCRIPTS = ["script", "long", "empty"]
+SCRIPTS = ["script", "long", "moved", "empty"]
 EE = 0xEE
+NUMBERS = list(range(SITES))
 
 
 class Model:
@@ -68,8 +72,12 @@ class Model:
         number, kind, record = self.engine.origin(k, a)
         return number, ("", "start", "commit").index(kind), record
 
-    def compare(self, first, second):
-        order, shared = model.compare(layout.stamp_lent(first), layout.stamp_lent(second))
+    def places(self):
+        number, places = self.engine.places()
+        return number, list(places)
+
+    def compare(self, first, second, places):
+        order, shared = model.compare(layout.stamp_lent(first), layout.stamp_lent(second), places)
         return (order, 1, 0) if shared is None else (order, 0, shared)
 
     def export(self, size):
@@ -83,8 +91,8 @@ class Model:
         number, site, stamp, operations = files.record(data, k)
         return number, len(operations), (site, stamp, eight(operations))
 
-    def record_from(self, part, place, sites, items):
-        number, found = files.by_place(part, place, sites, items)
+    def record_from(self, part, at, sites, items, places):
+        number, found = files.starting_at(part, at, sites, items, places)
         (site, stamp, operations), after = found or (files.NO_RECORD, 0)
         return number, after, len(operations), (site, stamp, eight(operations))
 
@@ -97,6 +105,10 @@ def stamp_struct(epoch, length, tuples):
     """The words of a timestamp's struct, places that are not given full of EE."""
     given = [] if tuples == "-" else [int(n) for one in tuples.split(",") for n in one.split(".")]
     return [int(epoch), int(length)] + given + [0x01010101 * EE] * (layout.STAMP - 2 - len(given))
+
+
+def places_of(text):
+    return [int(place) for place in text.split(",")]
 
 
 def joined(numbers):
@@ -118,9 +130,10 @@ class Calls:
 
     def answer(self, line):
         letter, text = line[:1].decode(), line[2:].decode()
-        plain = {"#": lambda: line.decode(), "b": self.file.hex, "h": self.read, "a": self.sums, "f": self.check}
-        named = {"=": lambda: self.put(b"", text), "+": lambda: self.put(self.file, text), "v": lambda: self.compare(*text.split(" "))}
-        numbered = {"w": self.waiting, "t": self.origin, "k": self.poke, "o": self.records, "u": self.lists, "x": self.export, "r": self.record, "@": self.record_from}
+        plain = {"#": lambda: line.decode(), "b": self.file.hex, "h": self.read, "a": self.sums, "f": self.check, "n": self.places}
+        named = {"=": lambda: self.put(b"", text), "+": lambda: self.put(self.file, text)}
+        named |= {"v": lambda: self.compare(*text.split(" ")), "@": lambda: self.record_from(*text.split(" "))}
+        numbered = {"w": self.waiting, "t": self.origin, "k": self.poke, "o": self.records, "u": self.lists, "x": self.export, "r": self.record}
         if letter in numbered:
             return numbered[letter](*[int(field) for field in text.split(" ")])
         return {**plain, **named}.get(letter, lambda: self.step(lambda: self.side.script(line).decode()))()
@@ -137,9 +150,14 @@ class Calls:
     def origin(self, k, a):
         return joined(self.side.origin(k, a))
 
+    def places(self):
+        number, places = self.side.places()
+        return joined([number] + places)
+
     def compare(self, *fields):
-        first, second = stamp_struct(*fields[:3]), stamp_struct(*fields[3:])
-        return joined(self.side.compare(first, second) + self.side.compare(second, first))
+        first, second = stamp_struct(*fields[:3]), stamp_struct(*fields[3:6])
+        places = places_of(fields[6]) if fields[6:] else NUMBERS
+        return joined(self.side.compare(first, second, places) + self.side.compare(second, first, places))
 
     def poke(self, place, word):
         self.side.poke(place, word)
@@ -167,12 +185,12 @@ class Calls:
         return joined([both % 65536, both // 65536])
 
     def part(self):
-        _, start, length, _, _, _ = self.side.read(self.file)
+        _, start, length, *_ = self.side.read(self.file)
         return self.file[start : start + length]
 
     def check(self):
-        number, _, length, records, sites, items = self.side.read(self.file)
-        return joined([number, records, sites, items, length])
+        number, _, length, records, sites, items, places = self.side.read(self.file)
+        return joined([number, records, sites, items, length, *places])
 
     def read(self):
         number, part = self.side.read(self.file)[0], self.part()
@@ -182,8 +200,9 @@ class Calls:
         number, count, found = self.side.record(self.file, k)
         return "%d %d %s" % (number, count, record_text(*found))
 
-    def record_from(self, place, sites, items):
-        number, after, count, found = self.side.record_from(self.part(), place, sites, items)
+    def record_from(self, at, sites, items, table=None):
+        places = places_of(table) if table else self.side.read(self.file)[-1]
+        number, after, count, found = self.side.record_from(self.part(), int(at), int(sites), int(items), places)
         return "%d %d %d %s" % (number, after, count, record_text(*found))
 
 

@@ -8,11 +8,12 @@ import re
 import files
 import layout
 import model
+from files import NUMBERS
 from limits import HELD, ITEMS, OPERATIONS, RECORDS, SITES, U32
 
 # How often each call stands in a list. A run takes one of these by chance: what it does most decides which corners it reaches.
 BALANCED = dict(
-    commit=8, commit_lists=2, dummy=4, epoch=1, deliver=14, schedule=12, waiting=2, table=2, stamp=2, line=2, origin=2,
+    commit=8, commit_lists=2, dummy=4, epoch=1, deliver=14, schedule=12, waiting=2, table=2, stamp=2, line=2, places=1, origin=2,
     export=1, script=4, run=1, poke=2, copy=1, set_up=1, state=0.2, held=0, noise=0.1, file=2, record_from=1, compare=2, compare_lent=2,
 )
 MOODS = [
@@ -44,28 +45,42 @@ def below(rng, count, wrong=0.03):
     return rng.choice([count, count + 1, 8, 64, 255, 256, U32]) if rng.random() < wrong or not count else rng.randrange(count)
 
 
-def stamp(rng, site):
+# ---- places
+def order(rng, sites):
+    """The places of so many sites in some order; numbers past them are their own places."""
+    return tuple(rng.sample(range(sites), sites)) + NUMBERS[sites:]
+
+
+def table(rng):
+    """A table to compare by: of an order, the numbers, or one that no order has, with sites at one place and high ones."""
+    no_order = tuple(rng.choice([0, 1, 2, 7, 8, 9, 255]) for _ in NUMBERS)
+    return rng.choice([order(rng, SITES), order(rng, rng.randint(1, SITES)), NUMBERS, no_order, no_order])
+
+
+# ---- timestamps and records
+def stamp(rng, site, places):
     """A timestamp that a site made."""
-    before = sorted(rng.sample(range(site), rng.randint(0, site)))
+    lower = [s for s in NUMBERS if places[s] < places[site]]
+    before = sorted(rng.sample(lower, rng.randint(0, len(lower))), key=lambda s: places[s])
     count = lambda: rng.choice([0, 1, 2, 3, U32 - 1, U32])
     return (rng.choice([0, 0, 0, 1, 2, U32]), tuple((s, count()) for s in before + [site]))
 
 
-def any_stamp(rng):
+def any_stamp(rng, places):
     """A timestamp that need not be one that a site made; comparing takes any."""
     if rng.random() < 0.7:
-        return stamp(rng, rng.randrange(SITES))
+        return stamp(rng, rng.randrange(SITES), places)
     length = rng.choice([SITES, rng.randint(0, SITES)])
-    return (rng.choice([0, 1]), tuple((rng.choice([0, 1, 2, U32]), rng.choice([0, 1, U32])) for _ in range(length)))
+    return (rng.choice([0, 1]), tuple((rng.choice([*NUMBERS, 8, 255, U32]), rng.choice([0, 1, U32])) for _ in range(length)))
 
 
-def beside(rng, first):
+def beside(rng, first, places):
     """A timestamp to compare with another: any, the same, of another epoch, a front of it, or one that parts from it at a tuple."""
     epoch, tuples = first
-    other = any_stamp(rng)
+    other = any_stamp(rng, places)
     k = rng.choice([rng.randint(0, len(tuples)), max(0, len(tuples) - 1)])
     site, count = tuples[k] if k < len(tuples) else (SITES, 0)
-    turned = rng.choice([(site, word(rng)), (word(rng), count)])
+    turned = rng.choice([(site, word(rng)), (word(rng), count), (rng.randrange(SITES + 2), count)])
     near = [(epoch, tuples[:k] + other[1]), (epoch, tuples[:k] + (turned,) + tuples[k + 1 :])]
     epoch, tuples = rng.choice([other, first, (other[0], tuples), (epoch, tuples[:k])] + near)
     return (epoch, tuples[:SITES])
@@ -76,20 +91,42 @@ def struct(rng):
     return [rng.choice([0, 1]), rng.choice([*range(SITES + 1), 9, 77, U32])] + [rng.choice([0, 1, U32]) for _ in range(2 * SITES)]
 
 
-def record(rng, sites, items):
+def record(rng, sites, items, places):
     site = rng.randrange(sites)
     ops = tuple((rng.randrange(2), rng.randrange(items), value(rng)) for _ in range(rng.choice([1, 1, 2, 3, OPERATIONS])))
-    return (site, stamp(rng, site), ops)
+    return (site, stamp(rng, site, places), ops)
 
 
 # ---- set-up
-def placement(rng):
-    sites = rng.choice([1, 2, 3, 3, 4, 5, 8, 8])
-    items = rng.choice([1, 2, 3, 4, 8, 16, 63, 64])
+def sizes(rng):
+    return rng.choice([1, 2, 3, 3, 4, 5, 8, 8]), rng.choice([1, 2, 3, 4, 8, 16, 63, 64])
+
+
+def placed(rng, sites, items, densities, fits):
+    """A set-up with copies where they fit, by the primary and their own site."""
     primaries = [rng.randrange(sites) for _ in range(items)]
-    density = rng.choice([0.2, 0.5, 0.9])
-    masks = [sum(1 << c for c in range(p + 1, sites) if rng.random() < density) for p in primaries]
+    density = rng.choice(densities)
+    masks = [sum(1 << c for c in range(sites) if fits(p, c) and rng.random() < density) for p in primaries]
     return sites, items, primaries, masks
+
+
+def placement(rng):
+    """A set-up that is accepted: each copy is behind its primary in some order, often that of the numbers."""
+    sites, items = sizes(rng)
+    places = rng.choice([NUMBERS, order(rng, sites), order(rng, sites)])
+    return placed(rng, sites, items, [0.2, 0.5, 0.9], lambda p, c: places[p] < places[c])
+
+
+def tangled(rng):
+    """A set-up with copies anywhere: the lines of most form a cycle."""
+    return placed(rng, *sizes(rng), [0.03, 0.1, 0.3], lambda p, c: p != c)
+
+
+def ring(rng):
+    """A set-up whose lines form one cycle, of three sites or more."""
+    sites = rng.randint(3, SITES)
+    around = rng.sample(range(sites), rng.randint(3, sites))
+    return sites, len(around), around, [1 << c for c in around[1:] + around[:1]]
 
 
 def faulty(rng, sites, items, primaries, masks):
@@ -114,11 +151,11 @@ def faulty(rng, sites, items, primaries, masks):
 
 
 # ---- states that no set-up need lead to
-def history(rng, count, sites, items):
+def history(rng, count, sites, items, places):
     """So many records, whose timestamps need not rise, and of which some have that of another."""
     made = []
     for _ in range(count):
-        site, own, ops = record(rng, sites, items)
+        site, own, ops = record(rng, sites, items, places)
         if made and rng.random() < 0.3:
             site, own, _ = rng.choice(made)
         made.append((site, own, ops))
@@ -132,30 +169,32 @@ def network(seed, records, held):
     engine = model.Engine()
     engine.set_up(sites, items, primaries, masks)
     n = engine.network
-    n.history = history(rng, records, sites, items)
-    n.stamps = [stamp(rng, i) for i in range(sites)]
+    n.history = history(rng, records, sites, items, n.places)
+    n.stamps = [stamp(rng, i, n.places) for i in range(sites)]
     n.tables = [[value(rng) for _ in range(items)] for _ in range(sites)]
     made = [[k for k, one in enumerate(n.history) if one[0] == i] for i in range(sites)]
     for p, c in sorted(n.lines):
         count = rng.randint(0, held)
-        n.held[p, c] = [rng.choice(made[p]) if made[p] and rng.random() < 0.6 else stamp(rng, p) for _ in range(count)]
+        n.held[p, c] = [rng.choice(made[p]) if made[p] and rng.random() < 0.6 else stamp(rng, p, n.places) for _ in range(count)]
         n.arrived[p, c] = rng.randint(0, count)
     if rng.random() < 0.4:
         flaw(rng, n)
     return n
 
 
-def wrong_stamp(rng, site):
-    epoch, tuples = stamp(rng, site)
-    return (epoch, rng.choice([(), tuples[:-1], tuples[-1:] + tuples, tuples + tuples[-1:], tuples + ((site + 1, 0),)])[:SITES])
+def wrong_stamp(rng, site, places):
+    """A timestamp that a site did not make; or that it may have, by the order of the numbers or another."""
+    epoch, tuples = stamp(rng, site, places)
+    others = [stamp(rng, site, NUMBERS)[1], stamp(rng, site, order(rng, SITES))[1]]
+    return (epoch, rng.choice([(), tuples[:-1], tuples[-1:] + tuples, tuples + tuples[-1:], tuples + ((site + 1, 0),)] + others)[:SITES])
 
 
 def wrong_record(rng, n, site, made, ops):
     kind, _, v = ops[-1]
     return rng.choice(
         [
-            (n.sites, stamp(rng, min(n.sites, SITES - 1)), ops),
-            (site, wrong_stamp(rng, site), ops),
+            (n.sites, stamp(rng, min(n.sites, SITES - 1), n.places), ops),
+            (site, wrong_stamp(rng, site, n.places), ops),
             (site, made, ops[:-1] + ((kind, 2 * ITEMS - 1, v),)),
             (site, made, ops[:-1] + ((kind, len(n.items), v),)),
         ]
@@ -167,17 +206,21 @@ def flaw(rng, n):
     p = rng.randrange(SITES)
     line = (p, rng.randrange(SITES))
     site, item = rng.randrange(n.sites), rng.randrange(len(n.items))
-    which = rng.randrange(7)
+    which = rng.randrange(8)
     if which == 0:
-        n.held[line] = n.held[line][:-1] + [stamp(rng, p)]
+        n.held[line] = n.held[line][:-1] + [stamp(rng, p, n.places)]
     elif which == 1:
-        n.held[line] = n.held[line][:-1] + [rng.choice([wrong_stamp(rng, p), len(n.history), 0, RECORDS - 1])]
+        n.held[line] = n.held[line][:-1] + [rng.choice([wrong_stamp(rng, p, n.places), len(n.history), 0, RECORDS - 1])]
     elif which == 2:
         n.arrived[line] = len(n.held[line]) + 1
     elif which == 3:
-        n.stamps[site] = wrong_stamp(rng, site)
+        n.stamps[site] = wrong_stamp(rng, site, n.places)
     elif which == 4:
         n.items[item] = (rng.choice([n.items[item][0], n.sites]), rng.randrange(512))
+    elif which == 5:
+        # a copy more: it may close a cycle, or give other places, by which timestamps need not rise
+        primary, mask = n.items[item]
+        n.items[item] = (primary, mask | 1 << site & ~(1 << primary))
     elif n.history:
         k = rng.randrange(len(n.history))
         n.history[k] = wrong_record(rng, n, *n.history[k])
@@ -192,7 +235,7 @@ def noise(seed):
 def damaged(rng, data):
     data = bytearray(data)
     for _ in range(rng.choice([0, 0, 1, 1, 2])):
-        fault = rng.randrange(5)
+        fault = rng.randrange(8)
         if fault == 0 and data:
             data[rng.randrange(len(data))] = rng.choice([0, 1, 2, 8, 9, 255, rng.randrange(256)])
         elif fault == 1 and len(data) >= files.TRAILER:
@@ -204,7 +247,23 @@ def damaged(rng, data):
         elif fault == 4 and len(data) >= files.TRAILER:
             near = int.from_bytes(data[-8:-4], "little") + rng.choice([-16, -8, -1, 1, 8, 16])
             data[-8:-4] = files.little(near % 2**32)
+        elif fault == 5 and len(data) >= files.TRAILER:
+            data[-2] = rng.choice([0, 1, 2, 3, 128, 255])
+        elif fault == 6 and len(data) >= files.TRAILER:
+            damage_table(rng, data)
+        elif fault == 7 and len(data) >= files.TRAILER:
+            data[-8:-4] = files.little(rng.choice([15, files.TRAILER, files.TRAILER + data[-4] - 1, files.TRAILER + data[-4]]) % 2**32)
     return bytes(data)
+
+
+def damage_table(rng, data):
+    """The bytes that would be the file's table of places: the numbers, another order, one byte another."""
+    start, sites = len(data) - files.number_at(data, len(data) - 8), data[-4]
+    if not 0 <= start <= len(data) - files.TRAILER - sites or not 1 <= sites <= SITES:
+        return
+    one = bytearray(data[start : start + sites])
+    one[rng.randrange(sites)] = rng.choice([0, 1, sites - 1, sites, 255])
+    data[start : start + sites] = rng.choice([bytes(range(sites)), bytes(range(sites)), bytes(order(rng, sites)[:sites]), one, one])
 
 
 def file(rng, engine):
@@ -215,7 +274,9 @@ def file(rng, engine):
     else:
         sites, items = rng.randint(1, SITES), rng.choice([1, 2, ITEMS])
         count = rng.choice([0, 1, 2, 3, 5, RECORDS, RECORDS + 1]) if rng.random() < 0.05 else rng.choice([0, 1, 2, 3])
-        made = files.file_bytes(sites, items, [record(rng, sites, items) for _ in range(count)])
+        places = rng.choice([NUMBERS, order(rng, sites)])
+        by = rng.choice([places, places, places, order(rng, sites)])  # the order that the timestamps have
+        made = files.file_bytes(sites, items, [record(rng, sites, items, by) for _ in range(count)], places)
     return damaged(rng, rng.choice([b"", b"", b"junk", rng.randbytes(40)]) + made)
 
 
@@ -302,8 +363,8 @@ class Chooser:
         return self.rng.choice(lines) if lines and self.rng.random() < 0.95 else (self.site(engine), self.site(engine))
 
     def set_up(self, engine):
-        made = placement(self.rng)
-        return ("set_up",) + (faulty(self.rng, *made) if self.rng.random() < 0.7 else made)
+        made = self.rng.choice([placement] * 5 + [tangled, tangled, ring])(self.rng)
+        return ("set_up",) + (faulty(self.rng, *made) if self.rng.random() < 0.6 else made)
 
     def commit(self, engine):
         rng, n = self.rng, engine.network
@@ -373,6 +434,9 @@ class Chooser:
     def line(self, engine):
         return ("line",) + self.pair(engine)
 
+    def places(self, engine):
+        return ("places",)
+
     def origin(self, engine):
         made = engine.network.history if engine.network else []
         reads = [(k, a) for k, (_, _, ops) in enumerate(made) for a, (kind, _, _) in enumerate(ops) if kind == 0]
@@ -427,24 +491,28 @@ class Chooser:
 
     def record_from(self, engine):
         data = file(self.rng, engine)
-        number, _, sites, items, found = files.examined(data)
+        number, _, sites, items, places, found = files.examined(data)
         if number:
             part = data[: max(0, len(data) - files.TRAILER)]
             starts, sites, items = [0], SITES, ITEMS
         else:
             part, starts = files.part(data), [0] + [end for _, end in found]
-        place = self.likely(starts, self.rng.choice([8, len(part), len(part) + 1, self.rng.randint(0, len(part))]))
-        return ("record_from", part, place, self.likely([sites], self.rng.choice([0, 1, 3, 9])), self.likely([items], self.rng.choice([0, 1, 2, 65])))
+        at = self.likely(starts, self.rng.choice([8, len(part), len(part) + 1, self.rng.randint(0, len(part))]))
+        sites, items = self.likely([sites], self.rng.choice([0, 1, 3, 9])), self.likely([items], self.rng.choice([0, 1, 2, 65]))
+        return ("record_from", part, at, sites, items, self.likely([places], table(self.rng)))
 
     def compare(self, engine):
-        first = any_stamp(self.rng)
-        both = [first, beside(self.rng, first)]
+        """By the places of an order or by a table that no order has; the timestamps by the same, or by another order."""
+        places = table(self.rng)
+        by = self.likely([places], order(self.rng, SITES))
+        first = any_stamp(self.rng, by)
+        both = [first, beside(self.rng, first, by)]
         self.rng.shuffle(both)
-        return ("compare", *both)
+        return ("compare", *both, places)
 
     def compare_lent(self, engine):
         first, other = struct(self.rng), struct(self.rng)
         second = list(first)
         for k in self.rng.sample(range(len(first)), self.rng.choice([0, 1, 1, 2])) + self.rng.choice([[], [1]]):
             second[k] = other[k]
-        return ("compare_lent", tuple(first), tuple(second))
+        return ("compare_lent", tuple(first), tuple(second), table(self.rng))

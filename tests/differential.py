@@ -1,7 +1,8 @@
 #!/usr/bin/env python3
 """Plays random lists of calls on the compiled library, through the Python module, and on the model, and compares them call by call.
 
-    differential.py SECONDS [SEED]      runs of rising seeds for so many seconds
+    differential.py SECONDS [SEED]      runs of rising seeds for so many seconds, from SEED or one that is new each time
+    differential.py cases               the same runs each time; they must reach every number and every case that calls have to show
     differential.py play FILE           the calls of a file, one to a line as a failure prints them
 
 Compared are: every field of every answer; every byte of the struct or buffer that was lent for it, unused places too; after a call that was refused or only looks, every
@@ -29,8 +30,10 @@ sys.path.insert(0, os.environ.get("GEVROLEN_FOLDER", str(ROOT / "target" / "gevr
 import gevrolen  # noqa: E402
 
 SHRINKING = 30  # seconds
-SHOWN = ("read", "origin", "waiting", "compare", "compare_lent")  # what has cases that the runs must show
-LOOKS = {"waiting", "table", "stamp", "line", "origin", "export", "read", "record", "records", "record_from", "compare", "compare_lent"}
+CASES = range(400)  # the seeds of the runs that must reach every case
+UNREACHED = "the runs do not reach: "
+SHOWN = ("set_up", "read", "schedule", "origin", "waiting", "file", "record_from", "compare", "compare_lent")  # what has cases that the runs must show
+LOOKS = {"waiting", "table", "stamp", "line", "places", "origin", "export", "read", "record", "records", "record_from", "compare", "compare_lent"}
 UNNUMBERED = {"script", "run", "records", "compare", "compare_lent"}  # answers that do not start with a number
 POISON = 0xEE
 GUARD = bytes([POISON]) * 64
@@ -40,6 +43,7 @@ GUARD = bytes([POISON]) * 64
 class Lent:
     struct = None
     buffer = None
+    places = None
 
 
 def poisoned(structure):
@@ -52,6 +56,16 @@ def poisoned(structure):
     return Poisoned
 
 
+class PoisonedPlaces(gevrolen._Places):
+    _type_, _length_ = ctypes.c_uint8, layout.SITES
+
+    def __init__(self, *places):
+        if len(places) not in (0, layout.SITES):
+            raise ValueError("eight places, or none")
+        super().__init__(*places or [POISON] * layout.SITES)
+        Lent.places = self
+
+
 def poisoned_buffer(size):
     Lent.buffer = (ctypes.c_char * (size + len(GUARD))).from_buffer(bytearray([POISON]) * (size + len(GUARD)))
     return Lent.buffer
@@ -59,6 +73,7 @@ def poisoned_buffer(size):
 
 for answer in ["_Stamp", "_Committed", "_Scheduled", "_Report", "_Table", "_Line", "_Origin", "_File", "_Record", "_Compared"]:
     setattr(gevrolen, answer, poisoned(getattr(gevrolen, answer)))
+gevrolen._Places = PoisonedPlaces
 gevrolen._buffer = poisoned_buffer
 gevrolen._ANSWERS = 1000  # a run of some lines takes several calls then
 
@@ -82,7 +97,7 @@ STRUCTS = {
     "line": lambda number, held, arrived: [held, arrived],
     "origin": lambda number, kind, record: [("", "start", "commit").index(kind), record],
     "compare": lambda order, shared: [1, 0] if shared is None else [0, shared],
-    "read": lambda number, *fields: [half for n in fields for half in (n, n >> 32)],
+    "read": lambda number, *fields: [half for n in fields[:-1] for half in (n, n >> 32)],
     "record": lambda number, site, stamp, ops: [site, len(ops)] + stamp_words(stamp) + padded([n for o in ops for n in o], 3 * layout.OPERATIONS),
 }
 STRUCTS["commit_lists"] = STRUCTS["commit"]
@@ -92,7 +107,106 @@ def struct_bytes(name, fields):
     return array.array("I", [n % 2**32 for n in STRUCTS[name](*fields)]).tobytes()
 
 
-# ---- what reads, origins, reports and comparisons have to show: a plainer rule would answer otherwise
+# ---- what set-ups, reads, schedules, origins, reports, files and comparisons have to show: a plainer rule would answer otherwise
+def breadth_first(sites, lines):
+    """Another order of sites in which parents come first: of all that are free, lowest number first, then of those that are free by them."""
+    placed = []
+    while len(placed) < sites:
+        placed += [c for c in range(sites) if c not in placed and all(p in placed for p, child in lines if child == c)]
+    return placed
+
+
+def highest_first(sites, lines):
+    """Another one: again and again the highest-numbered site whose parents are all placed."""
+    placed = []
+    while len(placed) < sites:
+        placed.append(max(c for c in range(sites) if c not in placed and all(p in placed for p, child in lines if child == c)))
+    return placed
+
+
+def shown_by_set_up(sites, items, primaries, masks, number):
+    """How the number of a set-up stands to its lines, and the places that it gives to those of other rules."""
+    if number not in (0, 3, 4, 5):
+        return {}
+    lines = model.lines_of(zip(primaries, masks))
+    order = model.site_order(sites, lines)
+    places, accepted = model.places_by(order), number == 0
+    downward = {(p, c) for p, c in lines if p > c}
+    return {
+        "5": number == 5,
+        "5 for a cycle of two": number == 5 and any((c, p) in lines for p, c in lines),
+        "5 for a longer cycle": number == 5 and not any((c, p) in lines for p, c in lines),
+        "5 for a cycle beside sites that can be placed": number == 5 and order != [],
+        "3 before a cycle": number == 3 and any((c, p) in lines for p, c in lines if p != c),
+        "4 before a cycle": number == 4 and any((c, p) in lines for p, c in lines if p != c),
+        "a copy below its primary, accepted": accepted and downward != set(),
+        "places that are not the numbers": accepted and places != files.NUMBERS,
+        "places of all eight sites in reverse or nearly": accepted and sites == 8 and places[0] > 5 and places[7] < 2,
+        "a site without lines that has another place": accepted and any(places[k] != k and not any(k in line for line in lines) for k in range(sites)),
+        "not the order breadth first": accepted and order != breadth_first(sites, lines),
+        "not the highest-numbered first": accepted and downward != set() and order != highest_first(sites, lines),
+    }
+
+
+def shown_by_schedule(heads, places, parent):
+    """How the parent of the message taken stands to what other rules would choose, of parents and the timestamps of their oldest messages."""
+    first = lambda by: min(heads, key=lambda head: (model.key(by, head[1]), head[0]))[0]
+    return {
+        "not the one that numbers would choose": parent != first(files.NUMBERS),
+        "not the one of the lowest place": parent != min(heads, key=lambda head: places[head[0]])[0],
+        "not the one of the highest place": parent != max(heads, key=lambda head: places[head[0]])[0],
+        "not the one of the lowest number": parent != min(heads)[0],
+        "not the one of the highest number": parent != max(heads)[0],
+        "a lower-numbered parent at a higher place": any(p > parent and places[p] < places[parent] for p, _ in heads),
+    }
+
+
+def another(b, table, flag):
+    """A file with other bytes for its table, or none, and another flag."""
+    start, sites = len(b) - files.number_at(b, len(b) - 8), b[-4]
+    inside = table + b[start + (sites if b[-2] & files.TABLE else 0) : len(b) - files.TRAILER]
+    return inside + b[-16:-8] + files.little(len(inside) + files.TRAILER) + b[-4:-2] + bytes([flag, b[-1]])
+
+
+def shown_by_file(b, number, places):
+    """Why a file was refused by 23, where another table or flag would do; or what its table does."""
+    if number not in (0, 23):
+        return {}
+    distance, sites, flag = files.number_at(b, len(b) - 8), b[-4], b[-2]
+    numbers = bytes(range(sites))
+    table = b[len(b) - distance :][:sites] if flag == files.TABLE else b""
+    good = lambda table, flag: files.read(another(b, table, flag))[0] == 0
+    orders = [bytes(reversed(numbers)), numbers[:-2] + numbers[:-3:-1]]
+    refused, short = number == 23, flag == files.TABLE and distance < files.TRAILER + sites
+    refused_table = refused and flag == files.TABLE and not short and 1 <= sites <= files.SITES
+    whole = sorted(table) == list(numbers)
+    falls = any(x > y for _, (_, tuples), _ in files.records(b) for (x, _), (y, _) in zip(tuples, tuples[1:]))
+    return {
+        "a table": not refused and table != b"",
+        "a table and no records": not refused and table != b"" and distance == files.TRAILER + sites,
+        "a table of fewer than eight": not refused and 0 < len(table) < files.SITES,
+        "no table": not refused and table == b"",
+        "tuples whose numbers fall": not refused and falls,
+        "places behind the sites' own": not refused and places[:sites] + files.NUMBERS[sites:] == places != files.NUMBERS and sites < files.SITES,
+        "23 for its flag": refused and flag > 1 and (good(b"", 0) or any(good(one, 1) for one in orders)),
+        "23 for a distance too small for its table": refused and short and 1 <= sites <= files.SITES,
+        "23 for a table without each place once": refused_table and not whole and (good(b"", 0) or any(good(one, 1) for one in orders)),
+        "23 for a table that equals the numbers": refused_table and table == numbers and good(b"", 0),
+        "23 for tuples whose places do not rise, though their numbers do": refused_table and whole and table != numbers and good(b"", 0),
+        "23 for tuples whose numbers do not rise, without a table": refused and flag == 0 and any(good(one, 1) for one in orders) and not good(b"", 0),
+    }
+
+
+def shown_by_record_from(part, at, sites, items, places, number):
+    """Whether another table would give another number."""
+    by = lambda table: files.starting_at(part, at, sites, items, table)[0]
+    return {
+        "a record by its table, which the numbers would refuse": number == 0 and by(files.NUMBERS) == 23,
+        "23 by its table, though the numbers would not refuse": number == 23 and by(files.NUMBERS) == 0,
+        "a record by a table that no order has": number == 0 and sorted(places) != list(files.NUMBERS),
+    }
+
+
 def shown_by_read(table, ops, a):
     """How the value that operation a of a commit gave, a read, stands to the table before the commit and to the commit's writes."""
     _, item, value = ops[a]
@@ -115,8 +229,10 @@ def shown_by_origin(n, k, a, named):
     stamps = [stamp for _, stamp, _ in n.history]
     writers = [i for i, values in enumerate(wrote) if values]
     own, other = named == k, named not in (None, k)
+    by_numbers = sorted(range(len(stamps)), key=lambda i: model.key(files.NUMBERS, stamps[i]))
     return {
         "the start value": named is None,
+        "not the one that numbers would name": not own and named != ([None] + [i for i in by_numbers[: by_numbers.index(k)] if i in writers])[-1],
         "one made after the reader": other and named > k,
         "not the last made before the reader": not own and named != max((i for i in writers if i < k), default=None),
         "the last made of equal timestamps": other and any(i < named and stamps[i] == stamps[named] for i in writers),
@@ -162,7 +278,7 @@ def first_of(writes, key):
 def shown_by_waiting(n, site, items):
     """How the order of a report stands to those that other rules would give."""
     writes = waiting_writes(n, site)
-    rank = lambda write: model.rank(write.stamp)
+    rank = lambda write: model.key(n.places, write.stamp)
     lines = collections.defaultdict(set)
     for write in writes:
         lines[write.item].add(write.parent)
@@ -187,19 +303,30 @@ def shown_by_waiting(n, site, items):
         "not by epochs alone": items != items_by(writes, lambda write: write.stamp[0]),
         "not without epochs": items != items_by(writes, lambda write: rank(write)[1]),
         "not by the last tuples": items != items_by(writes, lambda write: (write.stamp[0], rank(write)[1][-1])),
-        "not with the lower site earlier": items != items_by(writes, lambda write: write.stamp),
-        "not with a proper prefix later": items != items_by(writes, lambda write: (write.stamp[0], rank(write)[1] + [(1, 0)])),
+        "not by numbers": items != items_by(writes, lambda write: model.key(files.NUMBERS, write.stamp)),
+        "not with the lower place earlier": items != items_by(writes, lambda write: (write.stamp[0], [(n.places[site], count) for site, count in write.stamp[1]])),
+        "not with a proper prefix later": items != items_by(writes, lambda write: (write.stamp[0], rank(write)[1] + [(1, 0, 0)])),
         "not an item without a copy, which a message writes": any(n.items[item][0] != site for item in written - set(items)),
         "not an item of the site's own, which a message writes": any(n.items[item][0] == site for item in written),
     }
 
 
-def shown_by_compare(a, b, shared):
-    """How two timestamps stand to each other that share so many leading tuples, or None."""
+def shown_by_compare(a, b, places, order, shared):
+    """How two timestamps stand to each other, and to places, that share so many leading tuples, or None."""
     (_, x), (_, y) = a, b
     n = -1 if shared is None else shared
     both = 0 <= n < min(len(x), len(y))  # whether each has a tuple where they part
+    i, j = (x[n][0], y[n][0]) if both else (0, 0)
+    sites = both and i != j
     return {
+        "another order than by numbers": order != model.compare(a, b, files.NUMBERS).order,
+        "another order than by numbers, behind shared tuples": n > 0 and order != model.compare(a, b, files.NUMBERS).order,
+        "the same order as by numbers, of other places": sites and places != files.NUMBERS and order == model.compare(a, b, files.NUMBERS).order,
+        "two sites at one place": sites and files.rank(places, i) == files.rank(places, j),
+        "a number past the table beside one in it": sites and min(i, j) < layout.SITES <= max(i, j),
+        "a number past the table at the place of one in it": sites and min(i, j) < layout.SITES <= max(i, j) and files.rank(places, i) == files.rank(places, j),
+        "a site of the table at a higher place than a number past it": min(i, j) < layout.SITES <= max(i, j) < files.rank(places, min(i, j)),
+        "two numbers past the table": sites and min(i, j) >= layout.SITES,
         "that the epochs differ, of the same tuples": n < 0 and x == y != (),
         "that the epochs differ, of others": n < 0 and x != y,
         "none shared": both and n == 0,
@@ -217,17 +344,17 @@ def shown_by_compare(a, b, shared):
 
 
 def shown_by_lent(first, second, shared):
-    """What length fields and unused places have to do with it, where two structs share so many leading tuples, or None."""
+    """What length fields and unused tuples have to do with it, where two structs share so many leading tuples, or None."""
     x, y = [tuple(zip(words[2::2], words[3::2])) for words in (first, second)]
     lengths = sorted([first[1], second[1]])
-    unused = shared is not None and lengths[0] == shared < layout.SITES  # whether the place behind those shared is, in one of the two at least
+    unused = shared is not None and lengths[0] == shared < layout.SITES  # whether the tuple behind those shared is, in one of the two at least
     return {
         "eight shared by a length field above eight": shared == layout.SITES < lengths[1],
         "eight shared by two": shared == layout.SITES < lengths[0],
         "a proper prefix of one whose length field is above eight": unused and lengths[1] > layout.SITES,
         "two that part before the end by length fields above eight": shared is not None and shared < layout.SITES < lengths[0],
-        "not the same in unused places of both": unused and lengths[0] == lengths[1] and x[shared] == y[shared],
-        "not others in unused places of both": unused and lengths[0] == lengths[1] and x[shared:] != y[shared:],
+        "not the same in unused tuples of both": unused and lengths[0] == lengths[1] and x[shared] == y[shared],
+        "not others in unused tuples of both": unused and lengths[0] == lengths[1] and x[shared:] != y[shared:],
         "not a tuple that is unused in one": unused and lengths[0] != lengths[1] and x[shared] == y[shared],
         "that the epochs differ": shared is None,
     }
@@ -310,6 +437,25 @@ class Pair:
     def plain(self, name, *arguments):
         return tuple(getattr(self.network, name)(*arguments)), getattr(self.engine, name)(*arguments)
 
+    def set_up(self, name, *arguments):
+        answer, expected = self.plain(name, *arguments)
+        self.shown[name].update(shown_by_set_up(*arguments, expected[0]))
+        return answer, expected
+
+    def places(self, name):
+        answer, expected = self.plain(name)
+        expect("places lent", bytes(Lent.places), bytes(expected[1]))
+        return answer, expected
+
+    def schedule(self, name, site):
+        n, heads = self.engine.network, []
+        if n and site < n.sites:
+            heads = [(p, n.message_stamp(n.held[p, site][0])) for p in n.parents(site) if n.arrived[p, site]]
+        answer, expected = self.plain(name, site)
+        if expected[0] == 0:
+            self.shown[name].update(shown_by_schedule(heads, n.places, expected[1]))
+        return answer, expected
+
     def waiting(self, name, site):
         answer, expected = self.plain(name, site)
         if answer == expected and answer[0] == 0:
@@ -370,7 +516,10 @@ class Pair:
         expect("bytes behind the buffer", bytes(Lent.buffer)[-len(GUARD) :], GUARD)
 
     def read(self, name, data):
-        return tuple(gevrolen.read(data)), files.read(data)
+        answer, expected = tuple(gevrolen.read(data)), files.read(data)
+        expect("places lent", bytes(Lent.places), bytes(expected[-1]))
+        self.shown["file"].update(shown_by_file(data, expected[0], expected[-1]))
+        return answer, expected
 
     def record(self, name, data, k):
         return tuple(gevrolen.record(data, k)), files.record(data, k)
@@ -378,27 +527,30 @@ class Pair:
     def records(self, name, data):
         return [tuple(one)[1:] for one in gevrolen.records(data)], files.records(data)
 
-    def record_from(self, name, part, place, sites, items):
-        answer, after = gevrolen._Record(), ctypes.c_size_t(POISON)
-        number = gevrolen._library.record_from(part, len(part), place, sites, items, ctypes.byref(answer), ctypes.byref(after))
-        told, found = files.by_place(part, place, sites, items)
+    def record_from(self, name, part, at, sites, items, places):
+        answer, after, table = gevrolen._Record(), ctypes.c_size_t(POISON), gevrolen._Places(*places)
+        number = gevrolen._library.record_from(part, len(part), at, sites, items, ctypes.byref(table), ctypes.byref(answer), ctypes.byref(after))
+        told, found = files.starting_at(part, at, sites, items, places)
         record, end = found or (files.NO_RECORD, 0)
         fields = tuple(answer.value(number))
         expect("struct", bytes(answer), struct_bytes("record", fields))
+        expect("places lent", tuple(table), tuple(places))
+        self.shown[name].update(shown_by_record_from(part, at, sites, items, places, told))
         return fields + (after.value,), (told,) + record + (end,)
 
-    def compare(self, name, a, b):
-        answer, expected = tuple(gevrolen.compare(a, b)), tuple(model.compare(a, b))
-        self.shown[name].update(shown_by_compare(a, b, expected[1]))
+    def compare(self, name, a, b, places):
+        answer, expected = tuple(gevrolen.compare(a, b, places)), tuple(model.compare(a, b, places))
+        self.shown[name].update(shown_by_compare(a, b, places, *expected))
         return answer, expected
 
-    def compare_lent(self, name, first, second):
-        """Two structs as they are lent, whatever their words; the words of the answer too."""
+    def compare_lent(self, name, first, second, places):
+        """Two structs and a table as they are lent, whatever their words; the words of the answer too."""
         structs = [gevrolen._Stamp.from_buffer_copy(array.array("I", words)) for words in (first, second)]
-        answer = gevrolen._Compared()
-        order = gevrolen._library.compare(*map(ctypes.byref, structs), ctypes.byref(answer))
+        answer, table = gevrolen._Compared(), gevrolen._Places(*places)
+        order = gevrolen._library.compare(*map(ctypes.byref, structs), ctypes.byref(table), ctypes.byref(answer))
         expect("structs compared", [tuple(array.array("I", bytes(one))) for one in structs], [first, second])
-        wanted, shared = model.compare(layout.stamp_lent(first), layout.stamp_lent(second))
+        expect("places lent", tuple(table), tuple(places))
+        wanted, shared = model.compare(layout.stamp_lent(first), layout.stamp_lent(second), places)
         self.shown[name].update(shown_by_lent(first, second, shared))
         return (order, *array.array("I", bytes(answer))), (wanted, *STRUCTS["compare"](wanted, shared))
 
@@ -501,31 +653,44 @@ def run(seed, pair, journal):
     pair.compare_states()
 
 
-def runs(seconds, seed, path):
-    """Runs until the time is up. What differs is told in words, else nothing; the last run's seed and calls stand in the file."""
-    until = time.monotonic() + seconds
-    seen, shown, first = collections.Counter(), {what: collections.Counter() for what in SHOWN}, seed
-    while time.monotonic() < until:
+def runs(seeds, path):
+    """Runs of some seeds; how many, and the calls and cases of them, or what differs in words. The last run's seed and calls stand in the file."""
+    seen, shown, count = collections.Counter(), {what: collections.Counter() for what in SHOWN}, 0
+    for seed in seeds:
         pair = Pair()
         with open(path, "w") as journal:
             journal.write("%d\n" % seed)
             try:
                 run(seed, pair, journal)
             except Difference as difference:
-                return str(difference)
+                return str(difference), seen, shown
         seen += pair.seen
         for what, cases in pair.shown.items():
             shown[what].update(cases)
+        count += 1
+    print("%d calls in %d runs: the library and the model agree" % (sum(seen.values()), count), flush=True)
+    return None, seen, shown
+
+
+def rising(seed, seconds):
+    """Seeds for so many seconds."""
+    until = time.monotonic() + seconds
+    while time.monotonic() < until:
+        yield seed
         seed += 1
-    print("%d calls in %d runs: the library and the model agree" % (sum(seen.values()), seed - first), flush=True)
-    missing = sorted(set(range(27)) - {number for _, number in seen})
-    if missing and seconds >= 30:
-        return "no call answered %s: the runs do not reach what they should" % missing
+
+
+def for_a_time(seed, seconds, path):
+    return runs(rising(seed, seconds), path)[0]
+
+
+def every_case(path):
+    """What differs in the runs that are the same each time, or what they do not reach."""
+    told, seen, shown = runs(CASES, path)
+    missing = ["a call that answers %d" % number for number in sorted(set(range(27)) - {number for _, number in seen})]
     for what, cases in shown.items():
-        unseen = [case for case, times in cases.items() if not times] if cases else ["anything"]
-        if unseen and seconds >= 30:
-            return "no %s showed %s: the runs do not reach what they should" % (what, unseen)
-    return None
+        missing += ["%s that shows %s" % (what, case) for case, times in cases.items() if not times] if cases else [what]
+    return told or missing and UNREACHED + "; ".join(missing)
 
 
 def calls_of(lines):
@@ -537,12 +702,19 @@ def main():
         told = complaint(calls_of(open(sys.argv[2])))
         print(told or "no difference")
         return 1 if told else 0
-    seconds, seed = int(sys.argv[1]), int(sys.argv[2]) if len(sys.argv) > 2 else time.time_ns() % 10**9
-    print("seed %d" % seed, flush=True)
+    if sys.argv[1] == "cases":
+        test = (every_case,)
+    else:
+        seed = int(sys.argv[2]) if len(sys.argv) > 2 else time.time_ns() % 10**9
+        print("seed %d" % seed, flush=True)
+        test = (for_a_time, seed, int(sys.argv[1]))
     with tempfile.NamedTemporaryFile() as journal:
-        told = apart(runs, seconds, seed, journal.name)
+        told = apart(*test, journal.name)
         if not told:
             return 0
+        if told.startswith(UNREACHED):
+            print(told)
+            return 1
         last, *calls = open(journal.name).read().splitlines()
     print("seed %s: %s" % (last, told), flush=True)
     calls, told = shrunk(calls_of(calls))

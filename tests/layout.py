@@ -123,7 +123,7 @@ def parts(w):
     """Starts and lengths of parts that mean something, most of them small, so that one of them at random is often worth a change."""
     sites, items, records = min(w[0], SITES), min(w[1], ITEMS), min(w[2], RECORDS)
     found = [(0, 3), (ITEMS_AT, ITEM * items)]
-    found += [(SITES_AT + SITE * i, 2 + 2 * (i + 1)) for i in range(sites)]
+    found += [(SITES_AT + SITE * i, 2 + 2 * min(w[SITES_AT + SITE * i + 1], SITES)) for i in range(sites)]
     found += [(SITES_AT + SITE * i + STAMP, items) for i in range(sites)]
     for k in range(SITES * SITES):
         at = LINES_AT + LINE * k

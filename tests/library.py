@@ -39,10 +39,15 @@ class Library:
         number = gevrolen._library.origin(self.network._words, k, a, ctypes.byref(answer))
         return number, answer.kind, answer.record
 
-    def compare(self, first, second):
+    def places(self):
+        answer = gevrolen._Places(*[EE] * gevrolen.SITES)
+        number = gevrolen._library.places(self.network._words, ctypes.byref(answer))
+        return number, list(answer)
+
+    def compare(self, first, second, places):
         answer = gevrolen._Compared(EE, EE)
         structs = [(ctypes.c_uint32 * len(words))(*words) for words in (first, second)]
-        order = gevrolen._library.compare(*structs, ctypes.byref(answer))
+        order = gevrolen._library.compare(*structs, gevrolen._Places(*places), ctypes.byref(answer))
         return order, answer.epochs_differ, answer.shared
 
     def export(self, size):
@@ -51,14 +56,16 @@ class Library:
         return number, length.value, bytes(buffer)[:size]
 
     def read(self, data):
-        return gevrolen.read(data)
+        answer, places = gevrolen._File(EE, EE, EE, EE, EE), gevrolen._Places(*[EE] * gevrolen.SITES)
+        number = gevrolen._library.read(data, len(data), ctypes.byref(answer), ctypes.byref(places))
+        return number, answer.start, answer.length, answer.records, answer.sites, answer.items, list(places)
 
     def record(self, data, k):
         answer = gevrolen._Record()
         number = gevrolen._library.record(data, len(data), k, ctypes.byref(answer))
         return number, answer.count, whole(answer)
 
-    def record_from(self, part, place, sites, items):
+    def record_from(self, part, at, sites, items, places):
         answer, after = gevrolen._Record(), ctypes.c_size_t(EE)
-        number = gevrolen._library.record_from(part, len(part), place, sites, items, ctypes.byref(answer), ctypes.byref(after))
+        number = gevrolen._library.record_from(part, len(part), at, sites, items, gevrolen._Places(*places), ctypes.byref(answer), ctypes.byref(after))
         return number, after.value, answer.count, whole(answer)

@@ -1,13 +1,14 @@
 #!/usr/bin/env python3
 """A plain model of the engine and of the script program, written from the specification alone.
 
-    model.py run            answers the script on standard input
-    model.py script SEED N  writes a random script of N lines over 8 sites and 64 items
+    model.py run                  answers the script on standard input
+    model.py script SEED N        writes a random script of N lines over 8 sites and 64 items, copies at higher-numbered sites
+    model.py script SEED N moved  the same with copies at any sites, without a cycle, and some set-ups with one
 
-tests/cases/long is the script of seed 1 with 4000 lines.
+tests/cases/long is the script of seed 1 with 4000 lines, tests/cases/moved that of seed 2 with 2000 lines, moved.
 
-A timestamp is (epoch, ((site, count), ..)), a record (site, timestamp, ((kind, item, value), ..)), a message a record's number or a dummy's timestamp. An
-answer is a tuple, the number first.
+A timestamp is (epoch, ((site, count), ..)), a record (site, timestamp, ((kind, item, value), ..)), a message a record's number or a dummy's timestamp. Places are a
+table of eight, entry k that of site k. An answer is a tuple, the number first.
 """
 import collections
 import functools
@@ -24,25 +25,41 @@ NO_STAMP = (0, ())
 Compared = collections.namedtuple("Compared", "order shared")
 
 
-def rank(stamp):
-    """What timestamps are put in order by: with sites negated the tuples rank as numbers do, and a proper prefix ranks first."""
+def key(places, stamp):
+    """What timestamps are put in order by: with places negated the tuples come as numbers do, and a proper prefix first. Two sites at one place, which no order of
+    sites has, go by their numbers, the higher first.
+    """
     epoch, tuples = stamp
-    return (epoch, [(-site, count) for site, count in tuples])
+    return (epoch, [(-files.rank(places, site), -site, count) for site, count in tuples])
 
 
-def compare(a, b):
+def compare(a, b, places):
     """-1 where timestamp a is the earlier, 1 where b is, 0 where they are the same; and how many leading tuples they share, None where the epochs differ."""
-    order = (rank(a) > rank(b)) - (rank(a) < rank(b))
+    order = (key(places, a) > key(places, b)) - (key(places, a) < key(places, b))
     if a[0] != b[0]:
         return Compared(order, None)
     fronts = range(min(len(a[1]), len(b[1])) + 1)
     return Compared(order, max(n for n in fronts if a[1][:n] == b[1][:n]))
 
 
-def made_by(site, stamp):
-    """Whether the sites of a timestamp rise and end with the site that made it."""
-    sites = [s for s, _ in stamp[1]]
-    return bool(sites) and sites[-1] == site and all(x < y for x, y in zip(sites, sites[1:]))
+# ---- the order of sites
+def lines_of(items):
+    """The lines that primaries and masks give: pairs of parent and child."""
+    return {(primary, c) for primary, mask in items for c in range(SITES) if mask >> c & 1}
+
+
+def site_order(sites, lines):
+    """Again and again the lowest-numbered site whose parents are all placed. It ends before all sites are placed exactly where the lines form a cycle."""
+    placed = []
+    for _ in range(sites):
+        free = [c for c in range(sites) if c not in placed and all(p in placed for p, child in lines if child == c)]
+        placed += free[:1]
+    return placed
+
+
+def places_by(order):
+    """The eight places that an order of sites gives: a number that is not in it is its own place."""
+    return tuple(order.index(k) if k in order else k for k in range(SITES))
 
 
 # ---- refusals
@@ -91,7 +108,8 @@ class Network:
     def __init__(self, sites, items, stamps, tables, held, arrived, history):
         self.sites, self.items, self.stamps, self.tables = sites, items, stamps, tables
         self.held, self.arrived, self.history = held, arrived, history
-        self.lines = {(primary, c) for primary, mask in items for c in range(SITES) if mask >> c & 1}
+        self.lines = lines_of(items)
+        self.places = places_by(site_order(sites, self.lines))
 
     def __eq__(self, other):
         return vars(self) == vars(other)
@@ -126,7 +144,7 @@ class Network:
 
 
 def set_up_number(sites, items, primaries, masks):
-    """The number of a set-up's first cause, or 0."""
+    """The number of a set-up's first cause, or 0: 3 and 4 of the first faulty item, then 5 for lines that form a cycle."""
     if not 1 <= sites <= SITES:
         return 1
     if not 1 <= items <= ITEMS or len(primaries) != items or len(masks) != items:
@@ -136,12 +154,12 @@ def set_up_number(sites, items, primaries, masks):
             return 3
         if mask >> sites or mask >> primary & 1:
             return 4
-        if any(mask >> k & 1 for k in range(primary)):
-            return 5
-    return 0
+    return 5 if len(site_order(sites, lines_of(zip(primaries, masks)))) < sites else 0
 
 
 def well_shaped(n):
+    made_by = lambda site, stamp: files.made_by(n.places, site, stamp)
+
     def record_fits(record):
         site, stamp, ops = record
         in_range = site < n.sites and 1 <= len(ops) <= OPERATIONS
@@ -265,7 +283,7 @@ class Engine:
         refuse(20, any(n.arrived[p, j] == 0 for p in parents))
         best = parents[0]
         for p in parents[1:]:
-            if compare(n.message_stamp(n.held[p, j][0]), n.message_stamp(n.held[best, j][0])).order < 0:
+            if compare(n.message_stamp(n.held[p, j][0]), n.message_stamp(n.held[best, j][0]), n.places).order < 0:
                 best = p
         message = n.held[best, j].pop(0)
         n.arrived[best, j] -= 1
@@ -281,13 +299,13 @@ class Engine:
     def waiting(self, j):
         """The items with a copy here that messages on the lines into the site write: by the earliest timestamp of those messages, then by number."""
         n = self.at(j)
-        ranks = {}  # of every message that writes the item
+        keys = {}  # of every message that writes the item
         for p in n.parents(j):
             for message in n.held[p, j]:
                 for item, _ in n.writes(message):
                     if n.items[item][1] >> j & 1:
-                        ranks.setdefault(item, []).append(rank(n.message_stamp(message)))
-        return (tuple(sorted(ranks, key=lambda item: (min(ranks[item]), item))),)
+                        keys.setdefault(item, []).append(key(n.places, n.message_stamp(message)))
+        return (tuple(sorted(keys, key=lambda item: (min(keys[item]), item))),)
 
     @call(())
     def table(self, i):
@@ -303,6 +321,11 @@ class Engine:
         refuse(17, (p, c) not in n.lines)
         return len(n.held[p, c]), n.arrived[p, c]
 
+    @call((0,) * SITES)
+    def places(self):
+        """The place of each site; a number that is no site is its own place."""
+        return (self.shaped().places,)
+
     @call("", 0)
     def origin(self, k, a):
         """Where the value of operation a of record k came from: "commit" and its record number, or "start" and 0."""
@@ -312,7 +335,7 @@ class Engine:
         if values_written(item, n.history[k][2][:a]):
             return "commit", k
         # sorting leaves equal timestamps in the order made
-        rising = sorted(range(len(n.history)), key=lambda i: rank(n.history[i][1]))
+        rising = sorted(range(len(n.history)), key=lambda i: key(n.places, n.history[i][1]))
         writers = [i for i in rising[: rising.index(k)] if values_written(item, n.history[i][2])]
         return ("commit", writers[-1]) if writers else ("start", 0)
 
@@ -320,7 +343,7 @@ class Engine:
     def export(self, room):
         """The file, for a buffer of so many bytes."""
         n = self.shaped()
-        made = files.file_bytes(n.sites, len(n.items), n.history)
+        made = files.file_bytes(n.sites, len(n.items), n.history, n.places)
         refuse(25, len(made) > room)
         return (made,)
 
@@ -417,20 +440,26 @@ def answer_text(letter, answer):
 
 
 # ---- random scripts
-def placement(rng):
-    """Eight sites and 64 items: most with a copy or two at later sites."""
+FAULTY = ["c 9 r0", "c 0", "c 0 r64", "c 7 w0=1", "s 0", "l 7 0", "e 7 1", "d 8", "", "q", "d  1"]
+CYCLES = ["p 2 2 0 2 1 1", "p 8 3 7 1 0 16 4 128", "p 3 3 0 6 2 2 1 4"]
+
+
+def placement(rng, order):
+    """Eight sites and 64 items: most with a copy or two at sites that are later in an order."""
     fields = []
     for i in range(ITEMS):
         primary = rng.randrange(SITES) if i >= SITES else i
         later = list(range(primary + 1, SITES))
-        mask = sum(1 << c for c in rng.sample(later, min(len(later), rng.choice([0, 1, 1, 2]))))
-        fields += [str(primary), str(mask)]
+        mask = sum(1 << order[c] for c in rng.sample(later, min(len(later), rng.choice([0, 1, 1, 2]))))
+        fields += [str(order[primary]), str(mask)]
     return " ".join(["p", str(SITES), str(ITEMS)] + fields)
 
 
-def script(seed, count, sink):
+def script(seed, count, moved, sink):
     rng = random.Random(seed)
-    out = [placement(rng)]
+    order = rng.sample(range(SITES), SITES) if moved else range(SITES)
+    faulty = FAULTY + CYCLES if moved else FAULTY
+    out = [placement(rng, order)]
     owned = [[] for _ in range(SITES)]
     seen = [[] for _ in range(SITES)]
     fields = out[0].split(" ")[3:]
@@ -462,13 +491,13 @@ def script(seed, count, sink):
         elif kind == "d":
             out.append("d %d" % i)
         elif kind == "e":
-            out.append("e 0 %d" % rng.randint(0, len(out)))
+            out.append("e %d %d" % (order[0], rng.randint(0, len(out))))
         elif kind == "l":
             out.append("l %d %d" % rng.choice(lines))
         elif kind == "s":
             out.append("s %d" % rng.choice(inner))
         else:
-            out.append(rng.choice(["c 9 r0", "c 0", "c 0 r64", "c 7 w0=1", "s 0", "l 7 0", "e 7 1", "d 8", "", "q", "d  1"]))
+            out.append(rng.choice(faulty))
     sink.write("\n".join(out) + "\n")
 
 
@@ -476,7 +505,7 @@ def main():
     if sys.argv[1] == "run":
         sys.stdout.buffer.write(Engine().run(sys.stdin.buffer.read()))
     elif sys.argv[1] == "script":
-        script(int(sys.argv[2]), int(sys.argv[3]), sys.stdout)
+        script(int(sys.argv[2]), int(sys.argv[3]), sys.argv[4:] == ["moved"], sys.stdout)
 
 
 if __name__ == "__main__":

@@ -1,5 +1,5 @@
 /* The ten lines of the worked example by calls, each answer printed as a script would print it, and two of its timestamps side by side; then two sales in one commit, what
-   waits for a site after them, and where two timestamps part, which the exit status judges. */
+   waits for a site after them, where two timestamps part, and copies at lower-numbered sites, which the exit status judges. */
 #include <inttypes.h>
 #include <stdio.h>
 
@@ -67,11 +67,11 @@ static int line_of(const struct gevrolen_stamp *stamp, uint32_t line, char text[
     return snprintf(text, TEXT, "%" PRIu32 ".%" PRIu32, stamp->tuples[line - 1].site, stamp->tuples[line - 1].count);
 }
 
-/* Two timestamps, line by line. The line where they part has `<` between them where the first is earlier, `>` where it is later. */
-static void side_by_side(const struct gevrolen_stamp *first, const struct gevrolen_stamp *second)
+/* Two timestamps, line by line, compared by a table of places. The line where they part has `<` between them where the first is earlier, `>` where it is later. */
+static void side_by_side(const struct gevrolen_stamp *first, const struct gevrolen_stamp *second, const uint8_t places[GEVROLEN_SITES])
 {
     struct gevrolen_compared answer;
-    const int32_t order = gevrolen_compare(first, second, &answer);
+    const int32_t order = gevrolen_compare(first, second, places, &answer);
     const uint32_t parting = answer.epochs_differ ? 0 : answer.shared + 1; /* behind the last line where they are equal */
     char left[TEXT], right[TEXT], both[2 * TEXT];
     int width = 0;
@@ -92,15 +92,19 @@ static void side_by_side(const struct gevrolen_stamp *first, const struct gevrol
 static void sites_side_by_side(uint32_t first_site, uint32_t second_site)
 {
     struct gevrolen_stamp first, second;
-    if (gevrolen_stamp(state, first_site, &first) == GEVROLEN_ACCEPTED && gevrolen_stamp(state, second_site, &second) == GEVROLEN_ACCEPTED)
-        side_by_side(&first, &second);
+    uint8_t places[GEVROLEN_SITES];
+    if (gevrolen_stamp(state, first_site, &first) == GEVROLEN_ACCEPTED && gevrolen_stamp(state, second_site, &second) == GEVROLEN_ACCEPTED
+        && gevrolen_places(state, places) == GEVROLEN_ACCEPTED)
+        side_by_side(&first, &second, places);
 }
 
-/* Whether a comparison has this answer. */
+/* Whether a comparison by the state's places has this answer. */
 static int answers(const struct gevrolen_stamp *first, const struct gevrolen_stamp *second, int32_t order, uint32_t epochs_differ, uint32_t shared)
 {
     struct gevrolen_compared answer;
-    return gevrolen_compare(first, second, &answer) == order && answer.epochs_differ == epochs_differ && answer.shared == shared;
+    uint8_t places[GEVROLEN_SITES];
+    return gevrolen_places(state, places) == GEVROLEN_ACCEPTED && gevrolen_compare(first, second, places, &answer) == order
+        && answer.epochs_differ == epochs_differ && answer.shared == shared;
 }
 
 /* Timestamps that part at their epochs, at once, behind a tuple, where one ends, and nowhere. */
@@ -134,6 +138,31 @@ static int waits(void)
     return gevrolen_waiting(state, 2, &report) == GEVROLEN_ACCEPTED && report.count == 2 && report.items[0] == 1 && report.items[1] == 0;
 }
 
+/* A house that joined late, site 2, owns an item that the two older ones copy: its place is before theirs, so 0.1 is earlier than 2.1. The history keeps the places. */
+static int joined_late(void)
+{
+    const uint32_t primaries[] = {2, 0, 1};
+    const uint8_t masks[] = {3, 2, 1}; /* with the last item site 1 would hear of itself */
+    const struct gevrolen_operation sold[] = {{GEVROLEN_WRITE, 0, 9}};
+    const struct gevrolen_stamp late = {0, 1, {{2, 1}}}, older = {0, 1, {{0, 1}}}, heard = {0, 2, {{2, 1}, {0, 1}}};
+    static uint8_t file[GEVROLEN_FILE_BYTES];
+    struct gevrolen_committed committed;
+    struct gevrolen_scheduled scheduled;
+    struct gevrolen_file found;
+    struct gevrolen_record record;
+    uint8_t places[GEVROLEN_SITES];
+    size_t length, next;
+    return gevrolen_set_up(state, 3, 3, primaries, 3, masks, 3) == GEVROLEN_CYCLE
+        && gevrolen_set_up(state, 3, 2, primaries, 2, masks, 2) == GEVROLEN_ACCEPTED
+        && answers(&older, &late, -1, 0, 0) && answers(&late, &heard, -1, 0, 1)
+        && gevrolen_commit(state, 2, sold, 1, &committed) == GEVROLEN_ACCEPTED && gevrolen_deliver(state, 2, 0) == GEVROLEN_ACCEPTED
+        && gevrolen_schedule(state, 0, &scheduled) == GEVROLEN_ACCEPTED && gevrolen_export(state, file, sizeof file, &length) == GEVROLEN_ACCEPTED
+        && gevrolen_read(file, length, &found, places) == GEVROLEN_ACCEPTED && found.start == 3 && found.records == 1
+        && places[0] == 1 && places[1] == 2 && places[2] == 0 && places[3] == 3
+        && gevrolen_record_from(file + found.start, found.length, 0, 3, 2, places, &record, &next) == GEVROLEN_ACCEPTED
+        && record.site == 2 && next == found.length;
+}
+
 int main(void)
 {
     const uint32_t primaries[] = {0, 1};
@@ -154,5 +183,5 @@ int main(void)
     schedule(2);
     commit(2, seen, 2);
     sites_side_by_side(1, 2);
-    return sold_twice() && waits() && parted() ? 0 : 1;
+    return sold_twice() && waits() && parted() && joined_late() ? 0 : 1;
 }

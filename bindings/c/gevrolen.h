@@ -13,6 +13,11 @@
    A refused call leaves every word of the state and every byte of a buffer as it was. What else a call answers it writes to the struct that it is given, all of it on
    each call; where the call is refused, zeros. What comes in is never a fault of the program: whatever the words, numbers, lists, lines or files, a call ends and answers.
 
+   PLACES. An item's copies may be at any sites but its primary, as long as the lines form no cycle. Set-up puts the sites in order: again and again the lowest-numbered one
+   whose parents all have their place, the first at place 0. A timestamp's tuples stand in that order, and timestamps are compared by places, not by numbers. A table of
+   places is eight bytes, byte k the place of site k; a number that is no site is its own place. Where every copy is at a higher-numbered site than its primary, the places
+   are the numbers. A history has the places of its network.
+
    POINTERS. None may be NULL, not even that of an empty list, and what a call writes to (state, answer, buffer) may not overlap what else it is given. All are the
    caller's, and the library keeps none. A pointer to words is aligned as uint32_t. A pair of a pointer and a length is as many elements as the length says.
 
@@ -37,7 +42,7 @@ extern "C" {
 #define GEVROLEN_RECORDS 256      /* most commits that the history holds */
 #define GEVROLEN_ANSWER 512       /* the bytes of the buffer for a script line's answer */
 #define GEVROLEN_ANSWER_ROOM 294  /* gevrolen_run stops where fewer bytes than this are left for answers */
-#define GEVROLEN_FILE_BYTES 34832 /* the longest history file: a buffer of this size is never refused by 25 */
+#define GEVROLEN_FILE_BYTES 34840 /* the longest history file: a buffer of this size is never refused by 25 */
 
 /* ---- kinds of operations */
 
@@ -56,7 +61,7 @@ extern "C" {
 #define GEVROLEN_WRONG_ITEMS 2         /* items not 1 to 64, or a list of another length: give a primary and a mask for each item */
 #define GEVROLEN_NO_SUCH_PRIMARY 3     /* an item's primary is no site: correct it */
 #define GEVROLEN_WRONG_MASK 4          /* an item's mask names a missing site, or the primary itself: clear that bit */
-#define GEVROLEN_COPY_BELOW_PRIMARY 5  /* a copy at a site below the primary: number the sites so that copies go upwards */
+#define GEVROLEN_CYCLE 5               /* the lines form a cycle: leave out a copy or move a primary, so that no site hears of itself */
 #define GEVROLEN_NO_STATE 6            /* the words are no state: set up first, or load the saved state again; somebody else has written to it */
 #define GEVROLEN_NO_SUCH_SITE 7        /* no site has that number: correct it */
 #define GEVROLEN_WRONG_OPERATIONS 8    /* operations not 1 to 8, or separate lists of different lengths: split the commit, or mend the lists */
@@ -87,7 +92,7 @@ struct gevrolen_tuple {
     uint32_t count;
 };
 
-/* A timestamp: an epoch and the first `length` of eight tuples, sites rising; the rest are 0. */
+/* A timestamp: an epoch and the first `length` of eight tuples, the places of their sites rising; the rest are 0. */
 struct gevrolen_stamp {
     uint32_t epoch;
     uint32_t length;
@@ -170,7 +175,8 @@ struct gevrolen_progress {
 /* ---- set-up and steps: each changes the state where it is accepted */
 
 /* Starts a group anew, whatever the words were: for each item its primary site and its mask of copies, in which the bit of weight 2 to the power k names site k.
-   1 to 5. Both lists have as many elements as there are items; other lengths are refused by 2. Lines and history are empty then, every value 0. */
+   A copy may be at any site but the primary. 1 to 5: the items are taken in turn for 3 and 4, and where all pass, 5 says that the lines form a cycle. Both lists have as
+   many elements as there are items; other lengths are refused by 2. Lines and history are empty then, every value 0. */
 uint32_t gevrolen_set_up(
     uint32_t state[GEVROLEN_WORDS],
     uint32_t sites,
@@ -227,28 +233,39 @@ uint32_t gevrolen_line(const uint32_t state[GEVROLEN_WORDS], uint32_t parent, ui
    in it, both from 0. 6, 26. */
 uint32_t gevrolen_origin(const uint32_t state[GEVROLEN_WORDS], uint32_t record, uint32_t operation, struct gevrolen_origin *answer);
 
-/* Two timestamps: -1 where the first is earlier, 0 where they are equal, 1 where it is later; and where they part. Whatever the structs hold is compared: tuples behind
-   `length` are none, and a `length` above eight is all eight. */
-int32_t gevrolen_compare(const struct gevrolen_stamp *first, const struct gevrolen_stamp *second, struct gevrolen_compared *answer);
+/* The places of the sites, by which the state's timestamps are compared. 6. */
+uint32_t gevrolen_places(const uint32_t state[GEVROLEN_WORDS], uint8_t places[GEVROLEN_SITES]);
+
+/* Two timestamps by a table of places: -1 where the first is earlier, 0 where they are equal, 1 where it is later; and where they part. The table is that of the network
+   (gevrolen_places) or of the file (gevrolen_read) from which the timestamps come; by another they may compare otherwise. Whatever structs and table hold is compared: tuples
+   behind `length` are none, a `length` above eight is all eight, a number above seven is its own place, and of two sites at one place, as no order of sites has them, the
+   higher-numbered is earlier. */
+int32_t gevrolen_compare(
+    const struct gevrolen_stamp *first,
+    const struct gevrolen_stamp *second,
+    const uint8_t places[GEVROLEN_SITES],
+    struct gevrolen_compared *answer);
 
 /* ---- the history file */
 
 /* The history as a file at the front of a buffer, whose rest stays as it was; and the file's length. 6, 25. */
 uint32_t gevrolen_export(const uint32_t state[GEVROLEN_WORDS], uint8_t *buffer, size_t room, size_t *length);
 
-/* Checks the file that ends a buffer. 21, 22, 23. */
-uint32_t gevrolen_read(const uint8_t *buffer, size_t length, struct gevrolen_file *answer);
+/* Checks the file that ends a buffer; and the places of the network's sites. 21, 22, 23. */
+uint32_t gevrolen_read(const uint8_t *buffer, size_t length, struct gevrolen_file *answer, uint8_t places[GEVROLEN_SITES]);
 
 /* The record of a number, from 0, of the file that ends a buffer; the whole file is checked each time. 21, 22, 23, 24. */
 uint32_t gevrolen_record(const uint8_t *buffer, size_t length, size_t number, struct gevrolen_record *answer);
 
-/* The record that starts at a place of the part that gevrolen_read found (buffer + start, length), in a group of that many sites and items; and the place where the
-   next one starts. It begins at place 0; 24 says that the part is at its end, 23 that no valid record starts there. */
+/* The record that starts at a byte of the part that gevrolen_read found (buffer + start, length), in a group of that many sites and items and those places; and the byte
+   where the next one starts. It begins at byte 0; 24 says that the part is at its end, 23 that no valid record starts there. By places that are not an order of a group of
+   so many sites, a tuple may name a site outside the group; those that gevrolen_read answers for an accepted file are one, of its sites. */
 uint32_t gevrolen_record_from(
     const uint8_t *part, size_t length,
-    size_t place,
+    size_t from,
     uint32_t sites,
     uint32_t items,
+    const uint8_t places[GEVROLEN_SITES],
     struct gevrolen_record *answer,
     size_t *next);
 
@@ -276,7 +293,7 @@ static inline const char *gevrolen_explain(uint32_t number)
         "The items are not 1 to 64, or a list has another length: give a primary and a mask for each item.",
         "An item's primary is no site: correct it.",
         "An item's mask names a missing site or the primary itself: clear that bit.",
-        "A copy stands at a site below the primary: number the sites so that copies go upwards.",
+        "The lines form a cycle: leave out a copy or move a primary, so that no site hears of itself.",
         "The state is not well shaped, or was never set up: set it up, or load a saved one.",
         "There is no such site: correct its number.",
         "The operations are not 1 to 8, or their lists differ in length: split the commit, or mend the lists.",

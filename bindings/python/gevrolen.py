@@ -27,8 +27,16 @@ A house (here: a site) owns some items and keeps copies of others'. It commits o
     >>> explain(answer.number)
     'A parent has nothing arrived: deliver from it, and where it has sent nothing let it send a dummy.'
 
+Timestamps are compared by the places of the sites, which the network and each history file have; a table of places is eight numbers, entry k the place of site k:
+
+    >>> network.places()
+    Places(number=0, places=(0, 1, 2, 3, 4, 5, 6, 7))
+    >>> compare(network.stamp(1).stamp, network.stamp(0).stamp, network.places().places)
+    Compared(order=1, shared=1)
+
 A call that can be refused returns a named tuple whose first field is `number`: 0 where the call was accepted. A refusal is an answer: where the number is not 0 the
-other fields are 0 or empty, and the state is as it was. An argument of a wrong type raises TypeError; a number that does not fit its field raises OverflowError.
+other fields are 0 or empty, and the state is as it was. An argument of a wrong type raises TypeError; a number that does not fit its field raises OverflowError; a table
+of places that are not eight raises ValueError.
 
 Where the library stands elsewhere, the environment variable GEVROLEN_LIBRARY names it.
 """
@@ -42,7 +50,7 @@ from collections import namedtuple
 
 WORDS = 28051  # the words of a state, four bytes each
 SITES, ITEMS, OPERATIONS, MESSAGES, RECORDS = 8, 64, 8, 16, 256
-FILE_BYTES = 34832  # the longest history file
+FILE_BYTES = 34840  # the longest history file
 READ, WRITE = 0, 1
 
 _ANSWER, _ANSWERS = 512, 65536  # the bytes lent for a line's answer, and for those of many lines
@@ -54,7 +62,7 @@ _CAUSES = [
     ("WRONG_ITEMS", "The items are not 1 to 64, or a list has another length: give a primary and a mask for each item."),
     ("NO_SUCH_PRIMARY", "An item's primary is no site: correct it."),
     ("WRONG_MASK", "An item's mask names a missing site or the primary itself: clear that bit."),
-    ("COPY_BELOW_PRIMARY", "A copy stands at a site below the primary: number the sites so that copies go upwards."),
+    ("CYCLE", "The lines form a cycle: leave out a copy or move a primary, so that no site hears of itself."),
     ("NO_STATE", "The state is not well shaped, or was never set up: set it up, or load a saved one."),
     ("NO_SUCH_SITE", "There is no such site: correct its number."),
     ("WRONG_OPERATIONS", "The operations are not 1 to 8, or their lists differ in length: split the commit, or mend the lists."),
@@ -89,7 +97,7 @@ def explain(number):
 
 # ---- answers
 class Stamp(namedtuple("Stamp", "epoch tuples")):
-    """A timestamp: an epoch and tuples (site, count), sites rising. It prints as a script prints it."""
+    """A timestamp: an epoch and tuples (site, count), the places of the sites rising. It prints as a script prints it."""
 
     __slots__ = ()
 
@@ -110,9 +118,10 @@ Report = namedtuple("Report", "number items")
 Table = namedtuple("Table", "number values")
 Stamped = namedtuple("Stamped", "number stamp")
 Line = namedtuple("Line", "number held arrived")
+Places = namedtuple("Places", "number places")
 Origin = namedtuple("Origin", "number kind record")
 Exported = namedtuple("Exported", "number data")
-File = namedtuple("File", "number start length records sites items")
+File = namedtuple("File", "number start length records sites items places")
 Record = namedtuple("Record", "number site stamp operations")
 Compared = namedtuple("Compared", "order shared")
 
@@ -174,6 +183,9 @@ class _Progress(ctypes.Structure):
     _fields_ = [("used", ctypes.c_size_t), ("filled", ctypes.c_size_t)]
 
 
+_Places = ctypes.c_uint8 * SITES
+
+
 # ---- the library
 _POINTER, _U32, _SIZE = ctypes.c_void_p, ctypes.c_uint32, ctypes.c_size_t
 _LIST = [_POINTER, _SIZE]
@@ -191,11 +203,12 @@ _FUNCTIONS = {
     "stamp": (_U32, [_POINTER, _U32, _POINTER]),
     "line": (_U32, [_POINTER, _U32, _U32, _POINTER]),
     "origin": (_U32, [_POINTER, _U32, _U32, _POINTER]),
-    "compare": (ctypes.c_int32, [_POINTER, _POINTER, _POINTER]),
+    "places": (_U32, [_POINTER, _POINTER]),
+    "compare": (ctypes.c_int32, [_POINTER, _POINTER, _POINTER, _POINTER]),
     "export": (_U32, [_POINTER] + _LIST + [_POINTER]),
-    "read": (_U32, _LIST + [_POINTER]),
+    "read": (_U32, _LIST + [_POINTER, _POINTER]),
     "record": (_U32, _LIST + [_SIZE, _POINTER]),
-    "record_from": (_U32, _LIST + [_SIZE, _U32, _U32, _POINTER, _POINTER]),
+    "record_from": (_U32, _LIST + [_SIZE, _U32, _U32, _POINTER, _POINTER, _POINTER]),
     "script": (_SIZE, [_POINTER] + _LIST + [_POINTER]),
     "run": (None, [_POINTER] + _LIST + _LIST + [_POINTER]),
 }
@@ -262,6 +275,13 @@ def _stamp(stamp):
     return lent
 
 
+def _places(places):
+    table, _ = _list("B", places)
+    if len(table) != SITES:
+        raise ValueError("a table has %d places, not %d" % (SITES, len(table)))
+    return _Places.from_buffer_copy(table)
+
+
 # ---- calls
 class Network:
     """An owner of a state: zeros, which were never set up, or the bytes that bytes(network) gave."""
@@ -294,7 +314,9 @@ class Network:
         return "<Network: %d sites, %d items>" % (sites, len(table.values))
 
     def set_up(self, sites, items, primaries, masks):
-        """Starts a group anew: for each item its primary site and its mask of copies, in which the bit of weight 2 to the power k names site k. 1 to 5."""
+        """Starts a group anew: for each item its primary site and its mask of copies, in which the bit of weight 2 to the power k names site k. Copies may be at any other
+        sites, as long as the lines form no cycle. 1 to 5.
+        """
         owners, owners_at = _list("I", primaries)
         copies, copies_at = _list("B", masks)
         return Answer(_library.set_up(self._words, _word(sites), _word(items), owners_at, len(owners), copies_at, len(copies)))
@@ -363,6 +385,12 @@ class Network:
         number = _library.line(self._words, _word(parent), _word(child), _byref(answer))
         return Line(number, answer.held, answer.arrived)
 
+    def places(self):
+        """The places of the sites, by which the network's timestamps are compared: a table of eight, entry k the place of site k; a number that is no site is its own. 6."""
+        answer = _Places()
+        number = _library.places(self._words, _byref(answer))
+        return Places(number, tuple(answer))
+
     def origin(self, record, operation):
         """Where the value of a read in the history came from, by its commit's record number and the number of the operation in it, both from 0: 'commit' and the record
         number of its own commit where it follows a write of the item there, else of the last commit before that in timestamp order that writes the item, equal timestamps
@@ -400,11 +428,13 @@ class Network:
 
 
 def read(buffer):
-    """Checks the history file that ends a buffer: where its records stand, how many bytes they take, how many records, sites and items. 21 to 23."""
+    """Checks the history file that ends a buffer: where its records stand, how many bytes they take, how many records, sites and items, and the places of the sites, by
+    which its timestamps are compared. 21 to 23.
+    """
     buffer = _bytes(buffer)
-    answer = _File()
-    number = _library.read(buffer, len(buffer), _byref(answer))
-    return File(number, answer.start, answer.length, answer.records, answer.sites, answer.items)
+    answer, places = _File(), _Places()
+    number = _library.read(buffer, len(buffer), _byref(answer), _byref(places))
+    return File(number, answer.start, answer.length, answer.records, answer.sites, answer.items, tuple(places))
 
 
 def record(buffer, k):
@@ -419,24 +449,27 @@ def records(buffer):
     """All records of the file that ends a buffer, one after another; none where the file is refused (`read` says why)."""
     buffer = _bytes(buffer)
     file = read(buffer)
-    part = buffer[file.start : file.start + file.length]
-    answer, place = _Record(), ctypes.c_size_t()
-    while _library.record_from(part, len(part), place.value, file.sites, file.items, _byref(answer), _byref(place)) == 0:
+    part, places = buffer[file.start : file.start + file.length], _places(file.places)
+    answer, at = _Record(), ctypes.c_size_t()
+    while _library.record_from(part, len(part), at.value, file.sites, file.items, _byref(places), _byref(answer), _byref(at)) == 0:
         yield answer.value(0)
 
 
-def compare(a, b):
-    """The order of two timestamps: -1 where the first is earlier, 0 where they are equal, 1 where it is later; and how many leading tuples they share, up to the first
-    that differ in site or count: None where the epochs differ.
+def compare(a, b, places):
+    """The order of two timestamps by a table of places, that of the network or the file from which they come: -1 where the first is earlier, 0 where they are equal, 1 where
+    it is later; and how many leading tuples they share, up to the first that differ in site or count: None where the epochs differ. Any table is taken: a number above seven
+    is its own place, and of two sites at one place, as no order of sites has them, the higher-numbered is earlier.
     """
-    first, second, answer = _stamp(a), _stamp(b), _Compared()
-    order = _library.compare(_byref(first), _byref(second), _byref(answer))
+    first, second, table, answer = _stamp(a), _stamp(b), _places(places), _Compared()
+    order = _library.compare(_byref(first), _byref(second), _byref(table), _byref(answer))
     return Compared(order, None if answer.epochs_differ else answer.shared)
 
 
-def side_by_side(a, b):
-    """Two timestamps as text, the epochs on a line, then tuple by tuple. The line where they part has `<` between them where the first is earlier, `>` where it is later."""
-    order, shared = compare(a, b)
+def side_by_side(a, b, places):
+    """Two timestamps, compared by a table of places, as text: the epochs on a line, then tuple by tuple. The line where they part has `<` between them where the first is
+    earlier, `>` where it is later.
+    """
+    order, shared = compare(a, b, places)
     parting = 0 if shared is None else shared + 1  # behind the last line where they are equal
     left, right = [["epoch %d" % epoch] + ["%d.%d" % tuple(one) for one in tuples] for epoch, tuples in (a, b)]
     width = max(map(len, left))

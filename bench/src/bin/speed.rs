@@ -27,7 +27,7 @@ fn step(state: &mut Network, step: &[u8], r: u32) -> u64 {
         b'e' => number(state.epoch(a, r)),
         b'l' => number(state.deliver(a, b)),
         _ => match state.schedule(a) {
-            Ok(answer) => answer.stamp.counts[answer.stamp.sites.ilog2() as usize] as u64,
+            Ok(answer) => answer.stamp.own() as u64,
             Err(cause) => cause as u64,
         },
     }
@@ -67,7 +67,7 @@ fn full(state: &mut Network) -> u64 {
 
 /// Every field of a record goes into a sum.
 fn digest(r: &Record) -> u64 {
-    let own = r.stamp.counts[r.site as usize & 7];
+    let own = r.stamp.own();
     let ops: u64 = r.ops.iter().map(|o| o.kind as u64 + o.item as u64 + o.value as u32 as u64).sum();
     r.site as u64 + r.len as u64 + r.stamp.epoch as u64 + own as u64 + ops
 }

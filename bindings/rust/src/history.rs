@@ -1,7 +1,7 @@
 //! Reading a history file, from a buffer that it may end.
 use crate::raw;
 use crate::refusal::answered;
-use crate::{Record, Refusal};
+use crate::{Places, Record, Refusal, SITES};
 use std::fmt;
 use std::iter::FusedIterator;
 
@@ -18,6 +18,8 @@ pub struct File {
     pub sites: u32,
     /// How many items the network had.
     pub items: u32,
+    /// The places of its sites, by which the timestamps of the records are compared.
+    pub places: Places,
 }
 
 impl fmt::Display for File {
@@ -29,9 +31,11 @@ impl fmt::Display for File {
 /// Checks the file that ends a buffer. 21 to 23.
 pub fn read(buffer: &[u8]) -> Result<File, Refusal> {
     let mut answer = raw::File::default();
-    // SAFETY: a list that is only read, and a struct of the header to write to.
-    let number = unsafe { raw::gevrolen_read(buffer.as_ptr(), buffer.len(), &mut answer) };
-    answered(number, || File { start: answer.start, length: answer.length, records: answer.records, sites: answer.sites as u32, items: answer.items as u32 })
+    let mut places = [0; SITES];
+    // SAFETY: a list that is only read, a struct of the header and places to write to.
+    let number = unsafe { raw::gevrolen_read(buffer.as_ptr(), buffer.len(), &mut answer, &mut places) };
+    let raw::File { start, length, records, sites, items } = answer;
+    answered(number, || File { start, length, records, sites: sites as u32, items: items as u32, places })
 }
 
 /// The record of a number, from 0, of the file that ends a buffer; the whole file is checked each time. 21 to 24.
@@ -59,14 +63,14 @@ pub fn record(buffer: &[u8], number: usize) -> Result<Record, Refusal> {
 pub fn records(buffer: &[u8]) -> Result<Records<'_>, Refusal> {
     let file = read(buffer)?;
     let part = &buffer[file.start..file.start + file.length];
-    Ok(Records { part, place: 0, left: file.records, file })
+    Ok(Records { part, from: 0, left: file.records, file })
 }
 
 /// The records of an accepted file.
 #[derive(Clone, Debug)]
 pub struct Records<'a> {
     part: &'a [u8],
-    place: usize,
+    from: usize,
     left: usize,
     file: File,
 }
@@ -77,13 +81,13 @@ impl Iterator for Records<'_> {
     fn next(&mut self) -> Option<Record> {
         let mut answer = raw::Record::default();
         let mut next = 0;
-        // SAFETY: a list that is only read, a struct of the header and a size to write to.
-        let number =
-            unsafe { raw::gevrolen_record_from(self.part.as_ptr(), self.part.len(), self.place, self.file.sites, self.file.items, &mut answer, &mut next) };
+        let File { sites, items, places, .. } = self.file;
+        // SAFETY: a list and places that are only read, a struct of the header and a size to write to.
+        let number = unsafe { raw::gevrolen_record_from(self.part.as_ptr(), self.part.len(), self.from, sites, items, &places, &mut answer, &mut next) };
         if number != 0 {
             return None;
         }
-        self.place = next;
+        self.from = next;
         self.left -= 1;
         Some(Record::of(&answer))
     }

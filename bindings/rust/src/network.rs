@@ -1,7 +1,7 @@
 //! A network that owns its state, and every call on it.
 use crate::raw;
 use crate::refusal::answered;
-use crate::{Committed, Line, Operation, Origin, Refusal, Scheduled, Stamp};
+use crate::{Committed, Line, Operation, Origin, Places, Refusal, Scheduled, Stamp};
 use crate::{ANSWERS, FILE_BYTES, ITEMS, SITES, WORDS};
 use std::fmt;
 
@@ -52,7 +52,8 @@ impl Network {
         &self.words
     }
 
-    /// Starts a group anew: for each item its primary site and its mask of copies, in which the bit of weight 2 to the power k names site k. 1 to 5.
+    /// Starts a group anew: for each item its primary site and its mask of copies, in which the bit of weight 2 to the power k names site k. Copies may be at any other
+    /// sites, as long as the lines form no cycle. 1 to 5.
     pub fn set_up(&mut self, sites: u32, items: u32, primaries: &[u32], masks: &[u8]) -> Result<(), Refusal> {
         let words = &mut *self.words;
         // SAFETY: the state is this network's own; the lists are only read.
@@ -167,6 +168,29 @@ impl Network {
         let mut answer = raw::Line::default();
         let number = unsafe { raw::gevrolen_line(&*self.words, parent, child, &mut answer) };
         answered(number, || Line { held: answer.held, arrived: answer.arrived })
+    }
+
+    /// The places of the sites, by which the network's timestamps are compared: again and again the lowest-numbered site whose parents all have their place. 6.
+    ///
+    /// ```
+    /// # use gevrolen::{compare, Network, Refusal, Stamp};
+    /// # use std::cmp::Ordering;
+    /// # fn main() -> Result<(), gevrolen::Refusal> {
+    /// let mut network = Network::new();
+    /// // site 2 joined late and owns item 0, which both others copy; site 1 copies item 1 of site 0
+    /// network.set_up(3, 2, &[2, 0], &[0b011, 0b010])?;
+    /// let places = network.places()?;
+    /// assert_eq!(places[..3], [1, 2, 0]);
+    /// let (late, older) = (network.dummy(2)?, network.dummy(0)?);
+    /// assert_eq!(compare(&older, &late, &places).order, Ordering::Less);
+    /// assert_eq!(network.set_up(2, 2, &[0, 1], &[0b10, 0b01]), Err(Refusal::Cycle));
+    /// # Ok(())
+    /// # }
+    /// ```
+    pub fn places(&self) -> Result<Places, Refusal> {
+        let mut answer = [0; SITES];
+        let number = unsafe { raw::gevrolen_places(&*self.words, &mut answer) };
+        answered(number, || answer)
     }
 
     /// Where the value of a read in the history came from: its own commit where it follows a write of the item there; else the last commit before that in timestamp

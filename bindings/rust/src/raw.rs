@@ -99,9 +99,10 @@ pub struct Progress {
 }
 
 type State = [u32; WORDS];
+type Places = [u8; SITES];
 
-// A pointer and the length behind it are a list of so many elements, and the pointer is never null; a pointer to a struct is one to write to. The library keeps none
-// of them, and takes any values behind them.
+// A pointer and the length behind it are a list of so many elements, and the pointer is never null; a `mut` pointer to a struct or to places is one to write to. The
+// library keeps none of them, and takes any values behind them.
 extern "C" {
     pub fn gevrolen_set_up(state: *mut State, sites: u32, items: u32, primaries: *const u32, primary_count: usize, masks: *const u8, mask_count: usize) -> u32;
     pub fn gevrolen_commit(state: *mut State, site: u32, operations: *const Operation, count: usize, answer: *mut Committed) -> u32;
@@ -125,11 +126,21 @@ extern "C" {
     pub fn gevrolen_stamp(state: *const State, site: u32, answer: *mut Stamp) -> u32;
     pub fn gevrolen_line(state: *const State, parent: u32, child: u32, answer: *mut Line) -> u32;
     pub fn gevrolen_origin(state: *const State, record: u32, operation: u32, answer: *mut Origin) -> u32;
-    pub fn gevrolen_compare(first: *const Stamp, second: *const Stamp, answer: *mut Compared) -> i32;
+    pub fn gevrolen_places(state: *const State, places: *mut Places) -> u32;
+    pub fn gevrolen_compare(first: *const Stamp, second: *const Stamp, places: *const Places, answer: *mut Compared) -> i32;
     pub fn gevrolen_export(state: *const State, buffer: *mut u8, room: usize, length: *mut usize) -> u32;
-    pub fn gevrolen_read(buffer: *const u8, length: usize, answer: *mut File) -> u32;
+    pub fn gevrolen_read(buffer: *const u8, length: usize, answer: *mut File, places: *mut Places) -> u32;
     pub fn gevrolen_record(buffer: *const u8, length: usize, number: usize, answer: *mut Record) -> u32;
-    pub fn gevrolen_record_from(part: *const u8, length: usize, place: usize, sites: u32, items: u32, answer: *mut Record, next: *mut usize) -> u32;
+    pub fn gevrolen_record_from(
+        part: *const u8,
+        length: usize,
+        from: usize,
+        sites: u32,
+        items: u32,
+        places: *const Places,
+        answer: *mut Record,
+        next: *mut usize,
+    ) -> u32;
     pub fn gevrolen_script(state: *mut State, text: *const u8, length: usize, answer: *mut u8) -> usize;
     pub fn gevrolen_run(state: *mut State, text: *const u8, length: usize, answers: *mut u8, room: usize, progress: *mut Progress);
 }

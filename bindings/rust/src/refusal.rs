@@ -45,7 +45,7 @@ refusals! {
     2 WrongItems "The items are not 1 to 64, or a list has another length: give a primary and a mask for each item."
     3 NoSuchPrimary "An item's primary is no site: correct it."
     4 WrongMask "An item's mask names a missing site or the primary itself: clear that bit."
-    5 CopyBelowPrimary "A copy stands at a site below the primary: number the sites so that copies go upwards."
+    5 Cycle "The lines form a cycle: leave out a copy or move a primary, so that no site hears of itself."
     6 NoState "The state is not well shaped, or was never set up: set it up, or load a saved one."
     7 NoSuchSite "There is no such site: correct its number."
     8 WrongOperations "The operations are not 1 to 8, or their lists differ in length: split the commit, or mend the lists."

@@ -4,7 +4,11 @@ use crate::SITES;
 use std::cmp::Ordering;
 use std::fmt;
 
-/// A timestamp: an epoch and tuples of a site and its count, sites rising. It displays as a script prints it.
+/// A table of places: entry k is the place of site k in the order of sites, and a number that is no site is its own place. Timestamps are compared by places, not by
+/// numbers; where every copy is at a higher-numbered site than its primary, the two are the same.
+pub type Places = [u8; SITES];
+
+/// A timestamp: an epoch and tuples of a site and its count, the places of the sites rising. It displays as a script prints it.
 ///
 /// ```
 /// # use gevrolen::Stamp;
@@ -79,31 +83,39 @@ pub struct Compared {
     pub shared: Option<usize>,
 }
 
-/// Which of two timestamps is the earlier, and where they part: the lower epoch is earlier; with equal epochs the one that ends where they part, or has the higher site
-/// there, or of one site the lower count.
+/// Which of two timestamps is the earlier, and where they part: the lower epoch is earlier; with equal epochs the one that ends where they part, or has the site of the
+/// higher place there, or of one site the lower count. The places are those of the network or the file from which the timestamps come ([`Network::places`],
+/// [`File::places`]). Any table is taken: a number above seven is its own place, and of two sites at one place, as no order of sites has them, the higher-numbered is earlier.
 ///
 /// ```
 /// # use gevrolen::{compare, Compared, Stamp};
 /// # use std::cmp::Ordering;
 /// let stamp = |epoch, tuples: &[(u32, u32)]| Stamp::new(epoch, tuples).unwrap();
+/// let places = [0, 1, 2, 3, 4, 5, 6, 7];
 /// let first = stamp(0, &[(0, 1), (2, 1)]);
-/// assert_eq!(compare(&first, &stamp(0, &[(0, 1), (1, 1)])), Compared { order: Ordering::Less, shared: Some(1) });
-/// assert_eq!(compare(&first, &stamp(0, &[(0, 1)])), Compared { order: Ordering::Greater, shared: Some(1) });
-/// assert_eq!(compare(&first, &stamp(1, &[(0, 1), (2, 1)])), Compared { order: Ordering::Less, shared: None });
+/// assert_eq!(compare(&first, &stamp(0, &[(0, 1), (1, 1)]), &places), Compared { order: Ordering::Less, shared: Some(1) });
+/// assert_eq!(compare(&first, &stamp(0, &[(0, 1)]), &places), Compared { order: Ordering::Greater, shared: Some(1) });
+/// assert_eq!(compare(&first, &stamp(1, &[(0, 1), (2, 1)]), &places), Compared { order: Ordering::Less, shared: None });
+/// // in an order that has site 2 before site 1
+/// assert_eq!(compare(&first, &stamp(0, &[(0, 1), (1, 1)]), &[0, 2, 1, 3, 4, 5, 6, 7]).order, Ordering::Greater);
 /// ```
-pub fn compare(first: &Stamp, second: &Stamp) -> Compared {
+///
+/// [`Network::places`]: crate::Network::places
+/// [`File::places`]: crate::File::places
+pub fn compare(first: &Stamp, second: &Stamp, places: &Places) -> Compared {
     let mut answer = raw::Compared::default();
-    // SAFETY: two structs of the header, only read, and one to write to.
-    let order = unsafe { raw::gevrolen_compare(&first.raw(), &second.raw(), &mut answer) };
+    // SAFETY: two structs of the header and places, only read, and a struct to write to.
+    let order = unsafe { raw::gevrolen_compare(&first.raw(), &second.raw(), places, &mut answer) };
     Compared { order: order.cmp(&0), shared: (answer.epochs_differ == 0).then_some(answer.shared as usize) }
 }
 
-/// Two timestamps as text, the epochs on a line, then tuple by tuple. The line where they part has `<` between them where the first is earlier, `>` where it is later.
+/// Two timestamps, compared by places, as text: the epochs on a line, then tuple by tuple. The line where they part has `<` between them where the first is earlier, `>` where
+/// it is later.
 ///
 /// ```
 /// # use gevrolen::{side_by_side, Stamp};
 /// let stamp = |tuples: &[(u32, u32)]| Stamp::new(0, tuples).unwrap();
-/// let text = side_by_side(&stamp(&[(0, 1), (1, 1)]), &stamp(&[(0, 1), (2, 1), (3, 4)]));
+/// let text = side_by_side(&stamp(&[(0, 1), (1, 1)]), &stamp(&[(0, 1), (2, 1), (3, 4)]), &[0, 1, 2, 3, 4, 5, 6, 7]);
 /// let lines = [
 ///     "epoch 0   epoch 0",
 ///     "0.1       0.1",
@@ -112,8 +124,8 @@ pub fn compare(first: &Stamp, second: &Stamp) -> Compared {
 /// ];
 /// assert_eq!(text, lines.join("\n"));
 /// ```
-pub fn side_by_side(first: &Stamp, second: &Stamp) -> String {
-    let Compared { order, shared } = compare(first, second);
+pub fn side_by_side(first: &Stamp, second: &Stamp, places: &Places) -> String {
+    let Compared { order, shared } = compare(first, second, places);
     let parting = shared.map_or(0, |count| count + 1); // behind the last line where they are equal
     let mark = if order == Ordering::Less { "<" } else { ">" };
     let (left, right) = (first.texts(), second.texts());

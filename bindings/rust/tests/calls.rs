@@ -1,6 +1,8 @@
 //! Every call once accepted, and refused where it can be; what the words are then.
-use gevrolen::{compare, read, record, records, side_by_side, Compared, Kind, Line, Network, Operation, Origin, Record, Refusal, Stamp, WORDS};
+use gevrolen::{compare, read, record, records, side_by_side, Compared, Kind, Line, Network, Operation, Origin, Places, Record, Refusal, Stamp, WORDS};
 use std::cmp::Ordering;
+
+const NUMBERS: Places = [0, 1, 2, 3, 4, 5, 6, 7];
 
 fn stamp(tuples: &[(u32, u32)]) -> Stamp {
     Stamp::new(0, tuples).unwrap()
@@ -33,6 +35,7 @@ fn the_worked_example() {
     assert_eq!(network.stamp(2).unwrap(), stamp(&[(0, 1), (2, 1)]));
     assert_eq!(network.line(1, 2).unwrap(), Line { held: 1, arrived: 1 });
     assert_eq!(network.waiting(2).unwrap(), [1]);
+    assert_eq!(network.places().unwrap(), NUMBERS);
     // site 2 read item 1 at a timestamp before that of site 1's commit, which was made before
     assert_eq!([(1, 0), (2, 0), (2, 1)].map(|(k, a)| network.origin(k, a)), [Ok(Origin::Commit(0)), Ok(Origin::Commit(0)), Ok(Origin::Start)]);
     for (k, a) in [(0, 0), (1, 1), (1, 2), (1, u32::MAX), (3, 0), (u32::MAX, 0)] {
@@ -159,6 +162,7 @@ fn saved_and_loaded() {
     assert_eq!(Network::from_words(&words).table(0), Err(Refusal::NoState));
     assert_eq!(Network::from_words(&words).origin(0, 0), Err(Refusal::NoState));
     assert_eq!(Network::from_words(&words).waiting(2), Err(Refusal::NoState));
+    assert_eq!(Network::from_words(&words).places(), Err(Refusal::NoState));
     assert_eq!(Network::from_words(&[u32::MAX; WORDS]).export(), Err(Refusal::NoState));
 }
 
@@ -173,7 +177,7 @@ fn files() {
     // the file may end a longer buffer
     let longer = [b"in front of it", &buffer[..40]].concat();
     let file = read(&longer).unwrap();
-    assert_eq!((file.start, file.length, file.records, file.sites, file.items), (14, 24, 1, 3, 2));
+    assert_eq!((file.start, file.length, file.records, file.sites, file.items, file.places), (14, 24, 1, 3, 2, NUMBERS));
     assert_eq!(file.to_string(), "1 records of 3 sites and 2 items");
     let first = Record { site: 0, stamp: stamp(&[(0, 1)]), operations: vec![Operation::write(0, -2147483648)] };
     assert_eq!(record(&longer, 0), Ok(first));
@@ -212,15 +216,99 @@ fn where_timestamps_part() {
         (stamp(&eight), stamp(&eight), Ordering::Equal, Some(8)),
     ];
     for (first, second, order, shared) in cases {
-        assert_eq!(compare(&first, &second), Compared { order, shared }, "{first} and {second}");
-        assert_eq!(compare(&second, &first), Compared { order: order.reverse(), shared }, "{second} and {first}");
+        assert_eq!(compare(&first, &second, &NUMBERS), Compared { order, shared }, "{first} and {second}");
+        assert_eq!(compare(&second, &first, &NUMBERS), Compared { order: order.reverse(), shared }, "{second} and {first}");
     }
 }
 
 #[test]
+fn by_places() {
+    let places: Places = [2, 0, 3, 1, 4, 5, 6, 7];
+    let reverse: Places = [7, 6, 5, 4, 3, 2, 1, 0];
+    let cases = [
+        // the higher place is earlier, behind shared tuples too; the lower count of one site
+        (stamp(&[(0, 1)]), stamp(&[(3, 1)]), places, Some(0)),
+        (stamp(&[(1, 1), (0, 1)]), stamp(&[(1, 1), (3, 1)]), places, Some(1)),
+        (stamp(&[(1, 1)]), stamp(&[(2, 1)]), reverse, Some(0)),
+        (stamp(&[(1, 1)]), stamp(&[(1, 2)]), reverse, Some(0)),
+        (stamp(&[(7, 1)]), stamp(&[(7, 1), (6, 1)]), reverse, Some(1)),
+        (Stamp::new(0, &[(3, 1)]).unwrap(), Stamp::new(1, &[(0, 1)]).unwrap(), places, None),
+        // a number past the table is its own place; of two sites at one place the higher number
+        (stamp(&[(8, 1)]), stamp(&[(0, 1)]), reverse, Some(0)),
+        (stamp(&[(7, 1)]), stamp(&[(8, 1)]), [0, 0, 0, 0, 0, 0, 0, 9], Some(0)),
+        (stamp(&[(5, 9)]), stamp(&[(2, 1)]), [0; 8], Some(0)),
+    ];
+    for (first, second, table, shared) in cases {
+        assert_eq!(compare(&first, &second, &table), Compared { order: Ordering::Less, shared }, "{first} and {second}");
+        assert_eq!(compare(&second, &first, &table), Compared { order: Ordering::Greater, shared }, "{second} and {first}");
+    }
+    assert_eq!(compare(&stamp(&[(7, 1), (6, 1)]), &stamp(&[(7, 1), (6, 1)]), &reverse), Compared { order: Ordering::Equal, shared: Some(2) });
+}
+
+/// Four sites with places 2 0 3 1: item 0 at site 3 with copies at 0 and 2, item 1 at site 0 with a copy at 2.
+#[test]
+fn copies_at_lower_sites() {
+    let mut network = Network::new();
+    let (read_item, write) = (Operation::read, Operation::write);
+    network.set_up(4, 2, &[3, 0], &[5, 4]).unwrap();
+    assert_eq!(network.places(), Ok([2, 0, 3, 1, 4, 5, 6, 7]));
+    network.commit(3, &[write(0, 5)]).unwrap();
+    network.commit(0, &[read_item(0), write(1, 7)]).unwrap();
+    assert_eq!(network.waiting(2).unwrap(), [1, 0]);
+    network.deliver(3, 2).unwrap();
+    network.deliver(0, 2).unwrap();
+    // by its number site 3 would be earlier
+    assert_eq!(network.schedule(2).unwrap().parent, 0);
+    network.deliver(3, 0).unwrap();
+    network.schedule(0).unwrap();
+    let heard = network.commit(0, &[read_item(0), write(1, 8)]).unwrap();
+    assert_eq!((heard.stamp, heard.values), (stamp(&[(3, 1), (0, 2)]), vec![5]));
+    assert_eq!([network.origin(1, 0), network.origin(2, 0)], [Ok(Origin::Start), Ok(Origin::Commit(0))]);
+
+    let file = network.export().unwrap();
+    let found = read(&file).unwrap();
+    assert_eq!((found.start, found.length, found.records, found.places), (4, 96, 3, [2, 0, 3, 1, 4, 5, 6, 7]));
+    assert_eq!(file[..4], [2, 0, 3, 1]);
+    let lines: Vec<String> = records(&file).unwrap().map(|record| record.to_string()).collect();
+    assert_eq!(lines, ["3 0 3.1 w0=5", "0 0 0.1 r0=0 w1=7", "0 0 3.1,0.2 r0=5 w1=8"]);
+    assert_eq!(record(&file, 2).unwrap().to_string(), lines[2]);
+    // a table with a place twice, the numbers, and none
+    for table in [[2, 0, 2, 1], [0, 1, 2, 3]] {
+        assert_eq!(read(&[&table, &file[4..]].concat()), Err(Refusal::InvalidFile));
+    }
+    assert_eq!(read(&file[4..]), Err(Refusal::WrongDistance));
+
+    let before = network.clone();
+    assert_eq!(network.set_up(3, 3, &[0, 1, 2], &[2, 4, 1]), Err(Refusal::Cycle));
+    assert_eq!(network.set_up(3, 3, &[0, 1, 2], &[2, 1, 4]), Err(Refusal::WrongMask));
+    assert_eq!(network.as_words(), before.as_words());
+}
+
+/// The longest file there is: eight sites in reverse, 256 records of eight tuples and eight operations, and a table.
+#[test]
+fn the_longest_file() {
+    let mut network = Network::new();
+    network.set_up(8, 8, &[0, 7, 6, 5, 4, 3, 2, 1], &[0, 64, 32, 16, 8, 4, 2, 1]).unwrap();
+    assert_eq!(network.places(), Ok([7, 6, 5, 4, 3, 2, 1, 0]));
+    for site in (1..8).rev() {
+        network.dummy(site).unwrap();
+        network.deliver(site, site - 1).unwrap();
+        network.schedule(site - 1).unwrap();
+    }
+    for _ in 0..gevrolen::RECORDS {
+        network.commit(0, &[Operation::write(0, -1); 8]).unwrap();
+    }
+    let file = network.export().unwrap();
+    assert_eq!(file.len(), gevrolen::FILE_BYTES);
+    assert_eq!(records(&file).unwrap().len(), gevrolen::RECORDS);
+    assert_eq!(network.export_to(&mut vec![0; file.len() - 1]), Err(Refusal::BufferTooShort));
+}
+
+#[test]
 fn in_words() {
-    assert_eq!(side_by_side(&stamp(&[(0, 1), (1, 1)]), &stamp(&[(0, 1)])), "epoch 0   epoch 0\n0.1       0.1\n1.1     >");
-    assert_eq!(side_by_side(&stamp(&[]), &Stamp::new(1, &[(0, 1)]).unwrap()), "epoch 0 < epoch 1\n          0.1");
+    assert_eq!(side_by_side(&stamp(&[(0, 1), (1, 1)]), &stamp(&[(0, 1)]), &NUMBERS), "epoch 0   epoch 0\n0.1       0.1\n1.1     >");
+    assert_eq!(side_by_side(&stamp(&[]), &Stamp::new(1, &[(0, 1)]).unwrap(), &NUMBERS), "epoch 0 < epoch 1\n          0.1");
+    assert_eq!(side_by_side(&stamp(&[(2, 1)]), &stamp(&[(0, 1)]), &[1, 2, 0, 3, 4, 5, 6, 7]), "epoch 0   epoch 0\n2.1     > 0.1");
     let read = Operation { kind: Kind::Read, item: 3, value: -1 };
     assert_eq!(format!("{read} {read:?}"), "r3=-1 Operation(r3=-1)");
     assert_eq!(format!("{:?}", stamp(&[(0, 1), (2, 4)])), "Stamp(0 0.1,2.4)");

@@ -18,10 +18,10 @@ use Rattle.protocol.specs.Calls.{Call}
 use Rattle.network_layout.specs.Promises.{Performed}
 use Rattle.history_file.specs.File.{trailerSize}
 use Rattle.history_file.specs.Bytes.{unitSize}
-use Rattle.history_file.specs.Reading.{opUnits, opsFrom, opCount, opRead, recordRead, recordValid, distanceRead, countRead, partRead, fileNumber}
-use Rattle.history_file.specs.Promises.{noStep, stepOf, stepNumbered, partAnswered}
+use Rattle.history_file.specs.Reading.{opUnits, opsFrom, opCount, opRead, recordRead, recordValid, distanceRead, countRead, startRead, leadSize, partRead, fileNumber}
+use Rattle.history_file.specs.Promises.{noStep, stepOf, stepNumbered, partAnswered, placesAnswered}
 use Rattle.history_file.proofs.Held.{valid-counts}
-use Rattle.history_file.proofs.Files.{accepted, numbered-refused, numbered-past, numbered-there}
+use Rattle.history_file.proofs.Files.{accepted, good-parts, numbered-refused, numbered-past, numbered-there}
 use Rattle.c_answers.specs.Answers.{listed, valueWords}
 use Rattle.gevrolen_c.specs.Answers.{committedWords, dummiedWords, scheduledWords, Answered, startAnswered, fileWords, FileRead}
 
@@ -56,20 +56,21 @@ module _ (call : Call) (entry exit : List ℕ) (number parent : ℕ) (t : Stamp)
 
 -- ---- a file's part
 module _ (b : List ℕ) where
-  size-read : fileNumber b ≡ 0 → trailerSize + length (partRead b) ≡ distanceRead b
+  size-read : fileNumber b ≡ 0 → leadSize b + trailerSize + length (partRead b) ≡ distanceRead b
   unfolding partRead
   size-read z =
       let a = accepted b z in
-      let size = part-length b (length b - distanceRead b) (distanceRead b - trailerSize) (omega (arith, a .low, a .high)) in
-      omega (arith, size, a .low)
+      let near = good-parts b a .room in
+      let size = part-length b (startRead b + leadSize b) (distanceRead b - (leadSize b + trailerSize)) (omega (arith, near, a .high)) in
+      omega (arith, size, near)
 
   there : fileNumber b ≡ 0 → part b (length b - trailerSize - length (partRead b)) (length (partRead b)) ≡ partRead b
   unfolding partRead
   there z =
       let a = accepted b z in
       let size = size-read z in
-      let from : length b - trailerSize - length (partRead b) ≡ length b - distanceRead b = omega (arith, size) in
-      let long : length (partRead b) ≡ distanceRead b - trailerSize = omega (arith, size) in
+      let from : length b - trailerSize - length (partRead b) ≡ startRead b + leadSize b = omega (arith, size, a .high) in
+      let long : length (partRead b) ≡ distanceRead b - (leadSize b + trailerSize) = omega (arith, size) in
       ap₂ {C = List ℕ} (λ (i n : ℕ). part b i n) from long
 
   answered : fileNumber b ≡ 0 → partAnswered b ≡ partRead b
@@ -87,17 +88,17 @@ module _ (b : List ℕ) where
       go true e = rw e (there (eqb-true (fileNumber b) 0 e))
       go false e = rw e refl
 
-pub file-read : (b : List ℕ) (number : ℕ) (answer : List ℕ) → number ≡ fileNumber b → answer ≡ fileWords b → FileRead b number answer
-file-read b number answer n e = record { number-is = n; answer-is = e; part-is = rw e (part-there b) }
+pub file-read : (b : List ℕ) (number : ℕ) (answer places : List ℕ) → number ≡ fileNumber b → answer ≡ fileWords b → places ≡ placesAnswered b → FileRead b number answer places
+file-read b number answer places n e p = record { number-is = n; answer-is = e; places-are = p; part-is = rw e (part-there b) }
 
 -- ---- a record: at most eight operations
-pub step-few : (b : List ℕ) (at sites items : ℕ) → length (stepOf b at sites items .found .ops) ≤ opsMost
+pub step-few : (b : List ℕ) (at : ℕ) (place : ℕ → ℕ) (sites items : ℕ) → length (stepOf b at place sites items .found .ops) ≤ opsMost
 unfolding stepOf recordRead
-step-few b at sites items = go (leb (length b) at) refl (recordValid sites items (drop at b)) refl
+step-few b at place sites items = go (leb (length b) at) refl (recordValid place sites items (drop at b)) refl
   where
-    go : (past : Bool) → leb (length b) at ≡ past → (valid : Bool) → recordValid sites items (drop at b) ≡ valid → length (stepOf b at sites items .found .ops) ≤ opsMost
+    go : (past : Bool) → leb (length b) at ≡ past → (valid : Bool) → recordValid place sites items (drop at b) ≡ valid → length (stepOf b at place sites items .found .ops) ≤ opsMost
     go true e valid f = rw e (omega arith)
-    go false e true f = rw (e, f) (omega (arith, length-map (opUnits (drop at b)) opRead, chunks-length unitSize (opCount (drop at b)) (drop (opsFrom (drop at b)) (drop at b)), valid-counts sites items (drop at b) f .1))
+    go false e true f = rw (e, f) (omega (arith, length-map (opUnits (drop at b)) opRead, chunks-length unitSize (opCount (drop at b)) (drop (opsFrom (drop at b)) (drop at b)), valid-counts place sites items (drop at b) f .1))
     go false e false f = rw (e, f) (omega arith)
 
 pub numbered-few : (b : List ℕ) (k : ℕ) → length (stepNumbered b k .found .ops) ≤ opsMost
@@ -109,4 +110,4 @@ numbered-few b k = go (eqb (fileNumber b) 0) refl (leb (countRead b) k) refl
     go : (ok : Bool) → eqb (fileNumber b) 0 ≡ ok → (past : Bool) → leb (countRead b) k ≡ past → length (stepNumbered b k .found .ops) ≤ opsMost
     go false e past f = none (fileNumber b) (numbered-refused b k (fileNumber b) refl (eqb-false (fileNumber b) 0 e))
     go true e true f = none 24 (numbered-past b k (eqb-true (fileNumber b) 0 e) (leb-true (countRead b) k f))
-    go true e false f = rw (← numbered-there b k (eqb-true (fileNumber b) 0 e) (leb-false (countRead b) k f)) (step-few _ _ _ _)
+    go true e false f = rw (← numbered-there b k (eqb-true (fileNumber b) 0 e) (leb-false (countRead b) k f)) (step-few _ _ _ _ _)

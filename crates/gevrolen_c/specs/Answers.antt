@@ -20,7 +20,7 @@ use Rattle.c_fields.specs.Fields.{originWords}
 use Rattle.c_answers.specs.Answers.{listed, valueWords}
 use Rattle.history_file.specs.File.{trailerSize}
 use Rattle.history_file.specs.Reading.{fileNumber, historyRead}
-use Rattle.history_file.specs.Promises.{partAnswered}
+use Rattle.history_file.specs.Promises.{partAnswered, placesAnswered}
 
 -- ---- the steps
 abbrev pub committedWords : Outcome → List ℕ
@@ -62,10 +62,11 @@ fileWords b =
     startAnswered b
     ∷ (length (partAnswered b) ∷ (length (historyRead b .records) ∷ (historyRead b .sites ∷ (historyRead b .items ∷ []))))
 
--- the part is that of the buffer from there on
-pub record FileRead (b : List ℕ) (number : ℕ) (answer : List ℕ) : Type 0 where
+-- the part is that of the buffer from there on, and beside it are the places of the sites
+pub record FileRead (b : List ℕ) (number : ℕ) (answer places : List ℕ) : Type 0 where
   pub number-is : number ≡ fileNumber b
   pub answer-is : answer ≡ fileWords b
+  pub places-are : places ≡ placesAnswered b
   pub part-is : part b (getD answer 0 0) (getD answer 1 0) ≡ partAnswered b
 
 -- ---- many lines

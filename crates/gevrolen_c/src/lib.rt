@@ -1,18 +1,20 @@
 // The engine for C and what calls C: each call under its name in the header, its answer laid into an array that the caller lends.
+use limits::SITES_WIDE;
 use network::WORDS;
 use script::ANSWER;
 ghost use mathlib.Core.Path.{_≡_};
 ghost use mathlib.Core.List.{[], map};
 ghost use Rattle.timestamp_words.specs.InWords.{stampIn, stampWords};
-ghost use Rattle.timestamp_order.specs.Order.{order};
+ghost use Rattle.timestamp_order.specs.Order.{rank, orderBy};
 ghost use Rattle.timestamp_order.specs.Parting.{parting};
 ghost use Rattle.protocol.specs.Network.{noStamp};
-ghost use Rattle.protocol.specs.Questions.{waiting as waitingOf, table as tableOf, stamp as stampOf, line as lineOf, origin};
+ghost use Rattle.protocol.specs.Questions.{waiting as waitingOf, table as tableOf, stamp as stampOf, line as lineOf, origin, places as placesQuestion};
 ghost use Rattle.protocol.specs.Calls.{setUp, commit, dummy, epoch, deliver, schedule, ask};
 ghost use Rattle.network_layout.specs.InWords.{meaning};
 ghost use Rattle.network_layout.specs.Promises.{Performed};
 ghost use Rattle.network_operations.specs.Gathered.{operationsCall};
 ghost use Rattle.network_readers.specs.Readers.{stampAnswer};
+ghost use Rattle.network_order.specs.Order.{placesAnswer};
 ghost use Rattle.history_file.specs.Promises.{exportOf, stepNumbered, stepOf};
 ghost use Rattle.script_notation.specs.Parse.{parse};
 ghost use Rattle.script_notation.specs.Answers.{Replied};
@@ -166,16 +168,27 @@ pub extern "C" fn gevrolen_origin(
     c_answers::put_origin(answer, network::origin(state, reader, operation))
 }
 
-// -1, 0 or 1, where the first timestamp is earlier, the same or later; and where the two part.
+#[no_mangle]
+pub extern "C" fn gevrolen_places(state: &[u32; WORDS], places: &mut [u8; SITES_WIDE]) -> u32
+    ensures { λ r. ⌜ Performed (ask placesQuestion) (now (state .entry)) (now (state .entry)) r 0 noStamp [] × (now (places .exit) ≡ placesAnswer (now (state .entry))) ⌝ }
+{
+    let given = network::places(state);
+    let found = given.places;
+    *places = found;
+    given.number
+}
+
+// By the places of the sites: -1, 0 or 1, where the first timestamp is earlier, the same or later; and where the two part.
 #[no_mangle]
 pub extern "C" fn gevrolen_compare(
     first: &[u32; STAMP],
     second: &[u32; STAMP],
+    places: &[u8; SITES_WIDE],
     answer: &mut [u32; 2],
 ) -> i32
-    ensures { λ r. ⌜ (r ≡ orderNumber (order (stampIn (now (first .entry))) (stampIn (now (second .entry))))) × (now (answer .exit) ≡ partingWords (parting (stampIn (now (first .entry))) (stampIn (now (second .entry))))) ⌝ }
+    ensures { λ r. ⌜ (r ≡ orderNumber (orderBy (rank (now (places .entry))) (stampIn (now (first .entry))) (stampIn (now (second .entry))))) × (now (answer .exit) ≡ partingWords (parting (stampIn (now (first .entry))) (stampIn (now (second .entry))))) ⌝ }
 {
-    let found = timestamp_comparison::compare_words(first, second);
+    let found = timestamp_comparison::compare_words(first, second, *places);
     let parting = found.parting;
     let order = found.order;
     c_parting::put_parting(answer, parting);
@@ -197,10 +210,16 @@ pub extern "C" fn gevrolen_export(
 }
 
 #[no_mangle]
-pub extern "C" fn gevrolen_read(buffer: &[u8], answer: &mut [usize; 5]) -> u32
-    ensures { λ r. ⌜ FileRead (now (buffer .entry)) r (now (answer .exit)) ⌝ }
+pub extern "C" fn gevrolen_read(
+    buffer: &[u8],
+    answer: &mut [usize; 5],
+    places: &mut [u8; SITES_WIDE],
+) -> u32
+    ensures { λ r. ⌜ FileRead (now (buffer .entry)) r (now (answer .exit)) (now (places .exit)) ⌝ }
 {
     let given = history::check(buffer);
+    let found = given.places;
+    *places = found;
     let start = c_files::part_start(given.number, buffer.len(), given.length);
     *answer = [
         start,
@@ -224,15 +243,16 @@ pub extern "C" fn gevrolen_record(buffer: &[u8], number: usize, answer: &mut [u3
 #[no_mangle]
 pub extern "C" fn gevrolen_record_from(
     part: &[u8],
-    place: usize,
+    from: usize,
     sites: u32,
     items: u32,
+    places: &[u8; SITES_WIDE],
     answer: &mut [u32; RECORD],
     next: &mut usize,
 ) -> u32
-    ensures { λ r. ⌜ (r ≡ stepOf (now (part .entry)) place sites items .number) × RecordLaid (stepOf (now (part .entry)) place sites items .found) (now (answer .exit)) × (now (next .exit) ≡ stepOf (now (part .entry)) place sites items .next) ⌝ }
+    ensures { λ r. ⌜ (r ≡ stepOf (now (part .entry)) from (rank (now (places .entry))) sites items .number) × RecordLaid (stepOf (now (part .entry)) from (rank (now (places .entry))) sites items .found) (now (answer .exit)) × (now (next .exit) ≡ stepOf (now (part .entry)) from (rank (now (places .entry))) sites items .next) ⌝ }
 {
-    let given = history::record_from(part, place, sites, items);
+    let given = history::record_from(part, from, sites, items, *places);
     c_files::put_record(answer, given);
     *next = given.next;
     given.number

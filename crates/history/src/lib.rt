@@ -6,13 +6,18 @@ pub use history_file::Found;
 use history_file::MARK;
 use history_file::TRAILER;
 pub use history_record::record_from;
+use limits::SITES_WIDE;
 ghost use mathlib.Core.Path.{_≡_};
-ghost use Prim.Native.Nat.{_+_, _≤_};
+ghost use Prim.Native.Nat.{_≤_};
 ghost use lib.ListN.{length};
-ghost use Rattle.history_file.specs.File.{mark, trailerSize};
-ghost use Rattle.history_file.specs.Reading.{same, distanceRead, countRead, sitesRead, itemsRead, trailerFits, partRead, valid as validOf, fileNumber, historyRead, startOf};
-ghost use Rattle.history_file.specs.Promises.{partAnswered, stepNumbered, Gives};
-ghost use Rattle.history.specs.Asked.{Reached};
+ghost use Rattle.timestamp_order.specs.Order.{rank};
+ghost use Rattle.history_file.specs.Bytes.{same};
+ghost use Rattle.history_file.specs.File.{mark};
+ghost use Rattle.history_file.specs.Reading.{sitesRead, itemsRead, placesRead, partRead, recordsFill, tableFits, valid as validOf, fileNumber, startOf};
+ghost use Rattle.history_file.specs.Promises.{partAnswered, placesAnswered, eight, stepNumbered, Gives};
+ghost use Rattle.history_fields.specs.Asked.{Led};
+ghost use Rattle.history.specs.Asked.{Reached, Placed, Numbered};
+ghost use Rattle.history.specs.Answers.{Checks};
 
 // Whether four bytes are the mark.
 fn marked(b: &[u8]) -> bool
@@ -31,70 +36,33 @@ fn marked(b: &[u8]) -> bool
     b[3] == MARK[3]
 }
 
-// The trailer's fields.
-fn records_said(b: &[u8]) -> u32
-    requires { ⌜ trailerSize ≤ length (now b) ⌝ }
-    ensures { λ r. ⌜ r ≡ countRead (now (b .entry)) ⌝ }
+// The places of the sites: those of the table, or the numbers.
+fn places(b: &[u8]) -> [u8; SITES_WIDE]
+    requires { ⌜ Led (now b) ⌝ }
+    ensures { λ r. ⌜ r ≡ eight (placesRead (now (b .entry))) ⌝ }
 {
-    let t = b.len() - TRAILER;
-    history_numbers::number(b, t + 4)
+    history_table::table(history_fields::lead(b))
 }
 
-fn distance(b: &[u8]) -> usize
-    requires { ⌜ trailerSize ≤ length (now b) ⌝ }
-    ensures { λ r. ⌜ r ≡ distanceRead (now (b .entry)) ⌝ }
+// Whether the table fits, where there is one.
+fn table_fits(b: &[u8]) -> bool
+    requires { ⌜ Led (now b) ⌝ }
+    ensures { λ r. ⌜ r ≡ tableFits (now (b .entry)) ⌝ }
 {
-    let t = b.len() - TRAILER;
-    words::wide(history_numbers::number(b, t + 8))
-}
-
-fn sites_said(b: &[u8]) -> u32
-    requires { ⌜ trailerSize ≤ length (now b) ⌝ }
-    ensures { λ r. ⌜ r ≡ sitesRead (now (b .entry)) ⌝ }
-{
-    let t = b.len() - TRAILER;
-    history_numbers::field(b, t + 12)
-}
-
-fn items_said(b: &[u8]) -> u32
-    requires { ⌜ trailerSize ≤ length (now b) ⌝ }
-    ensures { λ r. ⌜ r ≡ itemsRead (now (b .entry)) ⌝ }
-{
-    let t = b.len() - TRAILER;
-    history_numbers::field(b, t + 13)
-}
-
-// The part from the first record to the trailer, found by the distance.
-fn part_of(b: &[u8]) -> &[u8]
-    requires { ⌜ Reached (now b) ⌝ }
-    ensures { λ r. ⌜ now r ≡ partRead (now (b .entry)) ⌝ }
-{
-    let a = b.len() - distance(b);
-    let e = b.len() - TRAILER;
-    &b[a..e]
-}
-
-// 1 to 8 sites, 1 to 64 items, and the last two bytes 0.
-fn trailer_fits(b: &[u8]) -> bool
-    requires { ⌜ trailerSize ≤ length (now b) ⌝ }
-    ensures { λ r. ⌜ r ≡ trailerFits (now (b .entry)) ⌝ }
-{
-    let sites = sites_said(b);
-    let items = items_said(b);
-    if sites < 1 {
-        return false;
+    if !history_fields::has_table(b) {
+        return true;
     }
-    if 8 < sites {
-        return false;
-    }
-    if items < 1 {
-        return false;
-    }
-    if 64 < items {
-        return false;
-    }
-    let a = b.len() - 2;
-    history_numbers::zeros(&b[a..])
+    history_table::fits(history_fields::lead(b))
+}
+
+// Whether n records fill the part.
+fn filled(b: &[u8], n: u32) -> bool
+    requires { ⌜ Placed (now b) ⌝ }
+    ensures { λ r. ⌜ r ≡ recordsFill (rank (placesRead (now (b .entry)))) (sitesRead (now (b .entry))) (itemsRead (now (b .entry))) n (partRead (now (b .entry))) ⌝ }
+{
+    let sites = history_fields::sites_said(b);
+    let items = history_fields::items_said(b);
+    history_part::records_fill(history_fields::part_of(b), n, sites, items, places(b))
 }
 
 // Whether the bytes from the distance on are a valid file.
@@ -102,16 +70,20 @@ fn valid(b: &[u8]) -> bool
     requires { ⌜ Reached (now b) ⌝ }
     ensures { λ r. ⌜ r ≡ validOf (now (b .entry)) ⌝ }
 {
-    if !trailer_fits(b) {
+    if !history_fields::trailer_fits(b) {
         return false;
     }
-    let n = records_said(b);
+    if !history_fields::reaches(b) {
+        return false;
+    }
+    if !table_fits(b) {
+        return false;
+    }
+    let n = history_fields::records_said(b);
     if 256 < n {
         return false;
     }
-    let sites = sites_said(b);
-    let items = items_said(b);
-    history_part::records_fill(part_of(b), n, sites, items)
+    filled(b, n)
 }
 
 // The number for which the bytes are refused, or 0.
@@ -126,7 +98,7 @@ fn file_number(b: &[u8]) -> u32
     if !marked(&b[t..e]) {
         return 21;
     }
-    let d = distance(b);
+    let d = history_fields::distance(b);
     if d < TRAILER {
         return 22;
     }
@@ -147,22 +119,39 @@ fn part_numbered(b: &[u8], number: u32) -> &[u8]
     if number != 0 {
         return &b[0..0];
     }
-    part_of(b)
+    history_fields::part_of(b)
 }
 
-// What reading a file hands back: the number for which it is refused, or 0; and the part of the buffer from the first record to the trailer, which
-// it excludes, empty where the file is refused.
+// The places of its sites, with the numbers behind them; all 0 where it is refused.
+fn places_numbered(b: &[u8], number: u32) -> [u8; SITES_WIDE]
+    requires { ⌜ number ≡ fileNumber (now b) ⌝ }
+    ensures { λ r. ⌜ r ≡ placesAnswered (now (b .entry)) ⌝ }
+{
+    if number != 0 {
+        return [0; SITES_WIDE];
+    }
+    places(b)
+}
+
+// What reading a file hands back: the number for which it is refused, or 0; the part of the buffer from the first record to the trailer, which
+// it excludes, empty where the file is refused; and the places of its sites, with the numbers behind them, all 0 where it is refused.
 pub struct Reading<'a> {
     pub number: u32,
     pub part: &'a [u8],
+    pub places: [u8; SITES_WIDE],
 }
 
 pub fn read<'a>(b: &'a [u8]) -> Reading<'a>
-    ensures { λ r. ⌜ (r .number ≡ fileNumber (now (b .entry))) × (now (r .part) ≡ partAnswered (now (b .entry))) ⌝ }
+    ensures { λ r. ⌜ (r .number ≡ fileNumber (now (b .entry))) × (now (r .part) ≡ partAnswered (now (b .entry))) × (r .places ≡ placesAnswered (now (b .entry))) ⌝ }
 {
     let number = file_number(b);
     let part = part_numbered(b, number);
-    Reading { number, part }
+    let places = places_numbered(b, number);
+    Reading {
+        number,
+        part,
+        places,
+    }
 }
 
 // The part alone: a caller that holds no `Reading` needs no walk by hand.
@@ -173,9 +162,9 @@ pub fn part(b: &[u8]) -> &[u8]
     part_numbered(b, number)
 }
 
-// The number of the file, how many records, sites and items it has, and the length of its part.
+// The number of the file, how many records, sites and items it has, the length of its part, and the places of its sites.
 pub fn check(b: &[u8]) -> Checked
-    ensures { λ r. ⌜ (r .number ≡ fileNumber (now (b .entry))) × (r .records ≡ length (historyRead (now (b .entry)) .records)) × (r .sites ≡ historyRead (now (b .entry)) .sites) × (r .items ≡ historyRead (now (b .entry)) .items) × (r .length ≡ length (partAnswered (now (b .entry)))) ⌝ }
+    ensures { λ r. ⌜ Checks (now (b .entry)) r ⌝ }
 {
     let number = file_number(b);
     if number != 0 {
@@ -185,15 +174,25 @@ pub fn check(b: &[u8]) -> Checked
             sites: 0,
             items: 0,
             length: 0,
+            places: [0; SITES_WIDE],
         };
     }
-    let part = part_of(b);
+    accepted(b)
+}
+
+// The same of a file that is not refused.
+fn accepted(b: &[u8]) -> Checked
+    requires { ⌜ fileNumber (now b) ≡ 0 ⌝ }
+    ensures { λ r. ⌜ Checks (now (b .entry)) r ⌝ }
+{
+    let part = history_fields::part_of(b);
     Checked {
         number: 0,
-        records: records_said(b),
-        sites: sites_said(b),
-        items: items_said(b),
+        records: history_fields::records_said(b),
+        sites: history_fields::sites_said(b),
+        items: history_fields::items_said(b),
         length: part.len(),
+        places: places(b),
     }
 }
 
@@ -222,6 +221,15 @@ pub fn record(b: &[u8], k: usize) -> Found
     if words::wide(file.records) <= k {
         return history_record::refused(24);
     }
-    let part = part_of(b);
-    history_record::record_from(part, start(part, k), file.sites, file.items)
+    let places = file.places;
+    record_there(b, k, file.sites, file.items, places)
+}
+
+// The same of a number that the file has, from what it says of its group.
+fn record_there(b: &[u8], k: usize, sites: u32, items: u32, places: [u8; SITES_WIDE]) -> Found
+    requires { ⌜ Numbered (now b) k sites items places ⌝ }
+    ensures { λ r. ⌜ Gives (stepNumbered (now (b .entry)) k) r ⌝ }
+{
+    let part = history_fields::part_of(b);
+    history_record::record_from(part, start(part, k), sites, items, places)
 }

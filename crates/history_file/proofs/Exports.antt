@@ -1,22 +1,27 @@
--- The records of a state written one after another, the trailer behind them, and what an export answers.
+-- The records of a state written one after another, what leads them and the trailer behind them, and what an export answers.
 use mathlib.Core.Path.{_≡_, refl, sym, ap, ap₂, _∙_}
-use mathlib.Core.Bool.{true, false}
-use mathlib.Core.List.{List, [], _∷_, _++_, append-nil}
+use mathlib.Core.Bool.{Bool, true, false, cond}
+use mathlib.Core.List.{List, [], _∷_, _++_, map, append-assoc, append-nil}
 use Prim.Native.Nat.{ℕ, _+_, _-_, _/_, _≤_, _<_}
 use native.Mathlib.Omega.{arith}
-use lib.ListN.{length, getD, take, drop, length-append, drop-of-length-le, take-append-drop}
-use borrow.Author.Tests.{lt-ltb, le-ltb}
-use Rattle.words.specs.Words.{part, put}
-use Rattle.words.proofs.Parts.{part-length, put-length}
-use Rattle.limits.specs.Limits.{recordsMost}
+use lib.ListN.{length, getD, take, drop, length-append, length-map, drop-of-length-le, take-append-drop}
+use lib.Dec.{eqb}
+use borrow.Author.Tests.{lt-ltb, le-ltb, ne-eqb}
+use Rattle.words.specs.Words.{put}
+use Rattle.words.proofs.Parts.{put-length}
+use Rattle.limits.specs.Limits.{sitesMost, recordsMost}
+use Rattle.placement.specs.Places.{placesOf, InGroup}
+use Rattle.placement.proofs.Groups.{group-places}
 use Rattle.records.specs.Records.{Record}
-use Rattle.protocol.specs.Network.{noRecord}
+use Rattle.protocol.specs.Network.{Network, noRecord}
+use Rattle.protocol.proofs.WellShaped.{shape-parts}
 use Rattle.network_layout.specs.InWords.{networkIn, shaped, meaning}
 use Rattle.network_layout.proofs.Assembled.{partsOf, range-parts}
-use Rattle.network_layout.proofs.Performs.{records-count, shaped-range}
+use Rattle.network_layout.proofs.Performs.{sites-count, records-count, shaped-range, shaped-well}
 use Rattle.history_file.specs.Bytes.{byte, joined}
-use Rattle.history_file.specs.File.{History, historyOf, recordBytes, trailer, trailerSize, body, fileOf}
+use Rattle.history_file.specs.File.{History, historyOf, recordBytes, isNumbers, lead, flag, trailer, trailerSize, body, fileOf}
 use Rattle.history_file.specs.Promises.{exportOf}
+use Rattle.history_file.proofs.Tables.{bytes-back, table-length, table-low}
 use Rattle.history_file.proofs.Written.{put-next, joined-append, joined-next, joined-all}
 
 -- ---- the records
@@ -58,63 +63,132 @@ body-all hs i at h e b w long we =
     ∙ append-nil (joined recordBytes hs)
 
 -- ---- the trailer, sixteen bytes copied over sixteen
-pub trailer-copied : (d out : List ℕ) (n k s i a b c p q r t u v w : ℕ) → length d ≡ trailerSize
-    → out ≡ (0x53 ∷ (0x45 ∷ (0x41 ∷ (0x54 ∷ (a ∷ (b ∷ (c ∷ (p ∷ (q ∷ (r ∷ (t ∷ (u ∷ (v ∷ (w ∷ (0 ∷ (0 ∷ [])))))))))))))))) ++ drop trailerSize d
+pub trailer-copied : (d out : List ℕ) (n k s i f a b c p q r t u v w x : ℕ) → length d ≡ trailerSize
+    → out ≡ (0x53 ∷ (0x45 ∷ (0x41 ∷ (0x54 ∷ (a ∷ (b ∷ (c ∷ (p ∷ (q ∷ (r ∷ (t ∷ (u ∷ (v ∷ (w ∷ (x ∷ (0 ∷ [])))))))))))))))) ++ drop trailerSize d
     → a ≡ byte n → b ≡ byte (n / 256) → c ≡ byte (n / 256 / 256) → p ≡ byte (n / 256 / 256 / 256)
     → q ≡ byte k → r ≡ byte (k / 256) → t ≡ byte (k / 256 / 256) → u ≡ byte (k / 256 / 256 / 256)
-    → v ≡ byte s → w ≡ byte i → out ≡ trailer n k s i
+    → v ≡ byte s → w ≡ byte i → x ≡ byte f → out ≡ trailer n k s i f
 unfolding trailer
-trailer-copied d out n k s i a b c p q r t u v w size e ea eb ec ep eq er et eu ev ew =
+trailer-copied d out n k s i f a b c p q r t u v w x size e ea eb ec ep eq er et eu ev ew ex =
     e
-    ∙ ap (λ (l : List ℕ). (0x53 ∷ (0x45 ∷ (0x41 ∷ (0x54 ∷ (a ∷ (b ∷ (c ∷ (p ∷ (q ∷ (r ∷ (t ∷ (u ∷ (v ∷ (w ∷ (0 ∷ (0 ∷ [])))))))))))))))) ++ l) (drop-of-length-le d {i = trailerSize} (omega arith))
-    ∙ (λ x. 0x53 ∷ (0x45 ∷ (0x41 ∷ (0x54 ∷ (ea x ∷ (eb x ∷ (ec x ∷ (ep x ∷ (eq x ∷ (er x ∷ (et x ∷ (eu x ∷ (ev x ∷ (ew x ∷ (0 ∷ (0 ∷ []))))))))))))))))
+    ∙ ap (λ (l : List ℕ). (0x53 ∷ (0x45 ∷ (0x41 ∷ (0x54 ∷ (a ∷ (b ∷ (c ∷ (p ∷ (q ∷ (r ∷ (t ∷ (u ∷ (v ∷ (w ∷ (x ∷ (0 ∷ [])))))))))))))))) ++ l) (drop-of-length-le d {i = trailerSize} (omega arith))
+    ∙ (λ y. 0x53 ∷ (0x45 ∷ (0x41 ∷ (0x54 ∷ (ea y ∷ (eb y ∷ (ec y ∷ (ep y ∷ (eq y ∷ (er y ∷ (et y ∷ (eu y ∷ (ev y ∷ (ew y ∷ (ex y ∷ (0 ∷ []))))))))))))))))
 
-pub trailer-length : (n k s i : ℕ) → length (trailer n k s i) ≡ trailerSize
+pub trailer-length : (n k s i f : ℕ) → length (trailer n k s i f) ≡ trailerSize
 unfolding trailer
-trailer-length n k s i = refl
+trailer-length n k s i f = refl
 
-pub file-length : (h : History) → length (fileOf h) ≡ length (body h) + trailerSize
+-- ---- a file: what leads it, its records and its trailer
+abbrev pub trailerOf : History → ℕ → List ℕ
+trailerOf h distance = trailer (length (h .records)) distance (h .sites) (h .items) (flag h)
+
+pub file-length : (h : History) → length (fileOf h) ≡ length (lead h) + (length (body h) + trailerSize)
 unfolding fileOf
 file-length h =
-    length-append (body h) (trailer (length (h .records)) (length (body h) + trailerSize) (h .sites) (h .items))
-    ∙ ap (λ (k : ℕ). length (body h) + k) (trailer-length (length (h .records)) (length (body h) + trailerSize) (h .sites) (h .items))
+    let d = length (lead h) + (length (body h) + trailerSize) in
+    length-append (lead h) (body h ++ trailerOf h d)
+    ∙ ap (λ (k : ℕ). length (lead h) + k) (length-append (body h) (trailerOf h d) ∙ ap (λ (k : ℕ). length (body h) + k) (trailer-length (length (h .records)) d (h .sites) (h .items) (flag h)))
+
+-- written one after another over exactly its bytes, of which n lead it and m - n are those of its records
+module _ (h : History) (b : List ℕ) (n m : ℕ) (ns : n ≡ length (lead h)) (ms : m ≡ n + length (body h)) (size : length b ≡ m + trailerSize) where
+  module _ (xs : List ℕ) (xi : xs ≡ lead h) where
+    led : put b 0 (n - 0) xs ≡ xs ++ drop n b
+    led = let whole : n - 0 ≡ n = omega arith in ap (λ (k : ℕ). xs ++ drop k b) whole
+
+    module _ (ys : List ℕ) (yi : ys ≡ body h) where
+      abbrev filled : List ℕ
+      filled = put (put b 0 (n - 0) xs) n (m - n) ys
+
+      filled-is : filled ≡ (xs ++ ys) ++ drop m b
+      filled-is =
+          put-next b xs ys (put b 0 (n - 0) xs) n (m - n) (m - n) led (ap length xi ∙ sym ns) refl ∙ (let z : n + (m - n) ≡ m = omega arith in ap (λ (k : ℕ). (xs ++ ys) ++ drop k b) z)
+
+      both : length (xs ++ ys) ≡ m
+      both = length-append xs ys ∙ (let z : length xs + length ys ≡ m = omega (arith, ap length xi, ap length yi) in z)
+
+      pub file-written : (zs : List ℕ) (e : ℕ) → e ≡ m + trailerSize → zs ≡ trailerOf h e → put filled m (e - m) zs ≡ fileOf h
+      unfolding fileOf
+      file-written zs e es zi =
+          let far : e ≡ length (lead h) + (length (body h) + trailerSize) = omega arith in
+          put-next b (xs ++ ys) zs filled m (e - m) (e - m) filled-is both refl
+          ∙ ap (λ (x : List ℕ). ((xs ++ ys) ++ zs) ++ x) (drop-of-length-le b {i = m + (e - m)} (omega arith))
+          ∙ append-nil ((xs ++ ys) ++ zs)
+          ∙ append-assoc xs ys zs
+          ∙ (λ t. xi t ++ (yi t ++ (zi ∙ ap (trailerOf h) far) t))
+
+-- ---- the places of a well-shaped state
+module _ (w : List ℕ) (e : shaped w ≡ true) where
+  abbrev group : Network
+  group = networkIn w
+
+  pub state-few : length (group .sites) ≤ sitesMost
+  unfolding partsOf
+  state-few = omega (arith, sites-count w, range-parts w (shaped-range w e) .few-sites)
+
+  pub state-some : 1 ≤ length (group .sites)
+  unfolding partsOf
+  state-some = omega (arith, sites-count w, range-parts w (shaped-range w e) .some-sites)
+
+  pub state-places : InGroup (length (group .sites)) (group .items)
+  state-places = group-places (length (group .sites)) (group .items) state-few (shape-parts group (shaped-well w e) .placed)
+
+  -- ---- what leads its file
+  abbrev own : History
+  own = historyOf group
+
+  module _ (n : ℕ) (ns : n ≡ cond (isNumbers (own .places)) 0 (own .sites)) where
+    pub lead-size : n ≡ length (lead own)
+    unfolding lead
+    lead-size = ns ∙ go (isNumbers (own .places))
+      where
+        go : (t : Bool) → cond t 0 (own .sites) ≡ length (cond t [] (map byte (own .places)))
+        go true = refl
+        go false = sym (length-map (own .places) byte ∙ table-length (own .sites) (group .items) state-few state-places)
+
+    pub lead-flag : cond (eqb n 0) 0 1 ≡ flag own
+    unfolding flag
+    lead-flag = ap (λ (k : ℕ). cond (eqb k 0) 0 1) ns ∙ go (isNumbers (own .places))
+      where
+        go : (t : Bool) → _≡_ {A = ℕ} (cond (eqb (cond t 0 (own .sites)) 0) 0 1) (cond t 0 1)
+        go true = refl
+        go false = ap (λ (t : Bool). cond t 0 1) (ne-eqb (own .sites) 0 (λ z. omega (arith, state-some)))
+
+    pub lead-few : n ≤ sitesMost
+    lead-few = go (isNumbers (own .places)) ns
+      where
+        go : (t : Bool) → n ≡ cond t 0 (own .sites) → n ≤ sitesMost
+        go true z = omega arith
+        go false z = omega (arith, state-few)
+
+    pub lead-taken : take n (placesOf (group .items)) ≡ lead own
+    unfolding lead
+    lead-taken = ap (λ (k : ℕ). take k (placesOf (group .items))) ns ∙ go (isNumbers (own .places))
+      where
+        go : (t : Bool) → take (cond t 0 (own .sites)) (placesOf (group .items)) ≡ cond t [] (map byte (own .places))
+        go true = refl
+        go false = sym (bytes-back (own .places) (table-low (own .sites) (group .items) state-few state-places))
+
+  pub few-records : length (group .history) ≤ recordsMost
+  unfolding partsOf
+  few-records = omega (arith, records-count w, range-parts w (shaped-range w e) .few-records)
 
 -- ---- an export
 module _ (w b : List ℕ) where
-  abbrev own : History
-  own = historyOf (networkIn w)
-
   pub export-unshaped : shaped w ≡ false → exportOf (meaning w) b ≡ record { number = 6; size = 0; buffer = b }
   unfolding exportOf meaning
   export-unshaped e = rw e
 
-  module _ (e : shaped w ≡ true) where
-    pub few-records : length (networkIn w .history) ≤ recordsMost
-    unfolding partsOf
-    few-records = omega (arith, records-count w, range-parts w (shaped-range w e) .few-records)
+  module _ (e : shaped w ≡ true) (n : ℕ) (ns : n ≡ length (fileOf (historyOf (networkIn w)))) where
+    abbrev whole : List ℕ
+    whole = fileOf (historyOf (networkIn w))
 
-    module _ (m : ℕ) (ms : m ≡ length (joined recordBytes (networkIn w .history))) where
-      pub export-short : length b < m + trailerSize → exportOf (meaning w) b ≡ record { number = 25; size = 0; buffer = b }
-      unfolding exportOf meaning
-      export-short h = rw (e, lt-ltb (length b) (length (fileOf own)) (omega (arith, file-length own)))
+    pub export-short : length b < n → exportOf (meaning w) b ≡ record { number = 25; size = 0; buffer = b }
+    unfolding exportOf meaning
+    export-short h = rw (e, lt-ltb (length b) (length whole) (omega arith))
 
-      pub body-lent : m + trailerSize ≤ length b → length (part b 0 (m - 0)) ≡ length (joined recordBytes (networkIn w .history))
-      body-lent h = (let z : m - 0 ≡ m = omega arith in ap (λ (k : ℕ). length (part b 0 k)) z) ∙ part-length b 0 m (omega arith) ∙ ms
-
-      module _ (room : m + trailerSize ≤ length b) (ys : List ℕ) (yi : ys ≡ joined recordBytes (networkIn w .history)) where
-        whole : m - 0 ≡ m
-        whole = omega arith
-
-        written-is : put b 0 (m - 0) ys ≡ ys ++ drop m b
-        written-is = ap (λ (k : ℕ). put b 0 k ys) whole
-
-        pub export-done : (zs : List ℕ) → zs ≡ trailer (length (own .records)) (m + trailerSize) (own .sites) (own .items)
-            → exportOf (meaning w) b ≡ record { number = 0; size = m + trailerSize; buffer = put (put b 0 (m - 0) ys) m (m + trailerSize - m) zs }
-        unfolding exportOf meaning fileOf
-        export-done zs zi =
-            let file : ys ++ zs ≡ fileOf own = ap₂ (λ (x y : List ℕ). x ++ y) yi (zi ∙ ap (λ (k : ℕ). trailer (length (own .records)) (k + trailerSize) (own .sites) (own .items)) ms) in
-            let size : length (fileOf own) ≡ m + trailerSize = file-length own ∙ ap (λ (x : ℕ). x + trailerSize) (sym ms) in
-            let buffer : put (put b 0 (m - 0) ys) m (m + trailerSize - m) zs ≡ fileOf own ++ drop (m + trailerSize) b
-            = put-next b ys zs (put b 0 (m - 0) ys) m trailerSize (m + trailerSize - m) written-is (ap length yi ∙ sym ms) (omega arith) ∙ ap (λ (x : List ℕ). x ++ drop (m + trailerSize) b) file in
-            rw (e, le-ltb (length b) (length (fileOf own)) (omega (arith, size)))
-            ((λ t. record { number = 0; size = size t; buffer = fileOf own ++ drop (size t) b }) ∙ (λ t. record { number = 0; size = m + trailerSize; buffer = sym buffer t }))
+    pub export-done : n ≤ length b → (file : List ℕ) → file ≡ whole → exportOf (meaning w) b ≡ record { number = 0; size = n; buffer = put b 0 (n - 0) file }
+    unfolding exportOf meaning
+    export-done h file fi =
+        let same-size : n - 0 ≡ n = omega arith in
+        rw (e, le-ltb (length b) (length whole) (omega arith))
+        ((λ t. record { number = 0; size = sym ns t; buffer = sym fi t ++ drop (sym ns t) b }) ∙ (λ t. record { number = 0; size = n; buffer = file ++ drop (sym same-size t) b }))

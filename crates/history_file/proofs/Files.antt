@@ -4,23 +4,26 @@ use mathlib.Core.Bool.{Bool, true, false, _&&_}
 use mathlib.Core.List.{List, [], _∷_}
 use Prim.Native.Nat.{ℕ, zero, suc, _+_, _-_, _≤_, _<_}
 use native.Mathlib.Omega.{arith}
-use lib.ListN.{length, getD, drop, length-drop}
+use lib.ListN.{length, getD, drop, replicate, length-drop}
 use lib.Seq.{drop-drop}
 use lib.Dec.{eqb, ltb, leb}
-use borrow.Author.Tests.{lt-ltb, le-ltb, le-leb, lt-leb, eq-eqb, ne-eqb, ltb-false}
+use borrow.Author.Tests.{lt-ltb, le-ltb, le-leb, lt-leb, eq-eqb, ne-eqb, ltb-false, leb-true, eqb-true}
 use Rattle.words.specs.Words.{part}
+use Rattle.limits.specs.Limits.{sitesMost}
 use Rattle.lists.proofs.Every.{and-true}
+use Rattle.timestamp_order.specs.Order.{rank}
 use Rattle.records.specs.Records.{Record}
 use Rattle.protocol.specs.Network.{noRecord}
-use Rattle.history_file.specs.Bytes.{allZero}
+use Rattle.history_file.specs.Bytes.{same}
 use Rattle.history_file.specs.File.{History, mark, trailerSize}
-use Rattle.history_file.specs.Reading.{recordRead, sizeRead, recordValid, recordsRead, recordsFill, startOf, trailerAt, same, marked, countRead, distanceRead, sitesRead, itemsRead, partRead, within, trailerFits, valid, fileNumber, noHistory, historyRead}
-use Rattle.history_file.specs.Promises.{partAnswered, Step, noStep, stepOf, recordNumber, stepNumbered}
+use Rattle.history_file.specs.Reading.{recordRead, sizeRead, recordValid, recordsRead, recordsFill, startOf, trailerAt, marked, countRead, distanceRead, sitesRead, itemsRead, flagRead, leadSize, placesRead, partRead, within, tableFits, trailerFits, valid, fileNumber, noHistory, historyRead}
+use Rattle.history_file.specs.Promises.{partAnswered, eight, placesAnswered, Step, noStep, stepOf, recordNumber, stepNumbered}
+use Rattle.history_file.proofs.Tables.{read-few, eight-ranks}
 use Rattle.history_file.proofs.Units.{rest-part}
 use Rattle.history_file.proofs.Validity.{valid-room, size-some}
 
 -- ---- the mark
-and-last : (x : Bool) → (x && true) ≡ x
+pub and-last : (x : Bool) → (x && true) ≡ x
 and-last true = refl
 and-last false = refl
 
@@ -48,9 +51,9 @@ module _ (b : List ℕ) (size : length b ≡ 4) where
       mark-fourth r = sym (mark-is b size ∙ rw (eq-eqb (getD b 0 0) 0x53 p, eq-eqb (getD b 1 0) 0x45 q, eq-eqb (getD b 2 0) 0x41 r))
 
 -- ---- the trailer's fields
-module _ (b : List ℕ) (long : trailerSize ≤ length b) (s t : ℕ) (ss : s ≡ sitesRead b) (ts : t ≡ itemsRead b) where
-  trailer-is : trailerFits b ≡ (within 1 8 s && (within 1 64 t && allZero (part b (trailerAt b + 14) 2)))
-  trailer-is = sym (ap₂ (λ (x y : ℕ). within 1 8 x && (within 1 64 y && allZero (part b (trailerAt b + 14) 2))) ss ts)
+module _ (b : List ℕ) (s t f z : ℕ) (ss : s ≡ sitesRead b) (ts : t ≡ itemsRead b) (fs : f ≡ flagRead b) (zs : z ≡ getD b (trailerAt b + 15) 0) where
+  trailer-is : trailerFits b ≡ (within 1 8 s && (within 1 64 t && (leb f 1 && eqb z 0)))
+  trailer-is = sym (λ i. within 1 8 (ss i) && (within 1 64 (ts i) && (leb (fs i) 1 && eqb (zs i) 0)))
 
   pub no-sites : s < 1 → false ≡ trailerFits b
   no-sites h = sym (trailer-is ∙ rw (lt-leb 1 s h))
@@ -67,18 +70,20 @@ module _ (b : List ℕ) (long : trailerSize ≤ length b) (s t : ℕ) (ss : s �
         pub many-items : 64 < t → false ≡ trailerFits b
         many-items l = sym (trailer-is ∙ rw (le-leb 1 s h, le-leb s 8 g, le-leb 1 t k, lt-leb t 64 l))
 
-        pub trailer-zeros : t ≤ 64 → (r : Bool) → r ≡ allZero (part b (length b - 2) (length b - (length b - 2))) → r ≡ trailerFits b
-        trailer-zeros l r e =
-            let n : length b - (length b - 2) ≡ 2 = omega arith in
-            let a : length b - 2 ≡ trailerAt b + 14 = omega arith in
-            e ∙ ap₂ (λ (x y : ℕ). allZero (part b x y)) a n ∙ sym (trailer-is ∙ rw (le-leb 1 s h, le-leb s 8 g, le-leb 1 t k, le-leb t 64 l))
+        module _ (l : t ≤ 64) where
+          pub other-flag : 1 < f → false ≡ trailerFits b
+          other-flag m = sym (trailer-is ∙ rw (le-leb 1 s h, le-leb s 8 g, le-leb 1 t k, le-leb t 64 l, lt-leb f 1 m))
+
+          pub trailer-last : f ≤ 1 → eqb z 0 ≡ trailerFits b
+          trailer-last m = sym (trailer-is ∙ rw (le-leb 1 s h, le-leb s 8 g, le-leb 1 t k, le-leb t 64 l, le-leb f 1 m))
 
 -- ---- the part
-pub part-is : (b : List ℕ) (d : ℕ) → d ≡ distanceRead b → trailerSize ≤ d → d ≤ length b → part b (length b - d) (length b - trailerSize - (length b - d)) ≡ partRead b
+pub part-is : (b : List ℕ) (d n : ℕ) → d ≡ distanceRead b → n ≡ leadSize b → n + trailerSize ≤ d → d ≤ length b
+    → part b (length b - d + n) (length b - trailerSize - (length b - d + n)) ≡ partRead b
 unfolding partRead
-part-is b d e low high =
-    let n : length b - trailerSize - (length b - d) ≡ d - trailerSize = omega arith in
-    ap (part b (length b - d)) n ∙ ap (λ (k : ℕ). part b (length b - k) (k - trailerSize)) e
+part-is b d n e f low high =
+    let size : length b - trailerSize - (length b - d + n) ≡ d - (n + trailerSize) = omega arith in
+    ap (part b (length b - d + n)) size ∙ (λ i. part b (length b - e i + f i) (e i - (f i + trailerSize)))
 
 -- ---- a valid file
 module _ (b : List ℕ) (fits : Bool) (f : fits ≡ trailerFits b) where
@@ -86,17 +91,32 @@ module _ (b : List ℕ) (fits : Bool) (f : fits ≡ trailerFits b) where
   unfolding valid
   valid-untrailed z = sym (rw (sym f ∙ z))
 
-  module _ (z : fits ≡ true) (n : ℕ) (ns : n ≡ countRead b) where
-    pub valid-many : 256 < n → false ≡ valid b
+  module _ (z : fits ≡ true) (n d : ℕ) (ns : n ≡ leadSize b) (ds : d ≡ distanceRead b) where
+    pub valid-near : d < n + trailerSize → false ≡ valid b
     unfolding valid
-    valid-many h = sym (rw (sym f ∙ z, ← ns, lt-leb n 256 h))
+    valid-near h =
+        let near : leb (leadSize b + trailerSize) (distanceRead b) ≡ false = lt-leb (leadSize b + trailerSize) (distanceRead b) (omega arith) in
+        sym (rw (sym f ∙ z, near))
 
-    pub valid-by-records : n ≤ 256 → (p : List ℕ) → p ≡ partRead b → (s t : ℕ) → s ≡ sitesRead b → t ≡ itemsRead b → (r : Bool) → r ≡ recordsFill s t n p → r ≡ valid b
-    unfolding valid
-    valid-by-records h p ps s t ss ts r e =
-        let good : trailerFits b ≡ true = sym f ∙ z in
-        let few : leb (countRead b) 256 ≡ true = le-leb (countRead b) 256 (omega arith) in
-        e ∙ (λ i. recordsFill (ss i) (ts i) (ns i) (ps i)) ∙ sym (rw (good, few))
+    module _ (room : n + trailerSize ≤ d) (table : Bool) (ts : table ≡ tableFits b) where
+      far : leb (leadSize b + trailerSize) (distanceRead b) ≡ true
+      far = le-leb (leadSize b + trailerSize) (distanceRead b) (omega arith)
+
+      pub valid-untabled : table ≡ false → false ≡ valid b
+      unfolding valid
+      valid-untabled q = sym (rw (sym f ∙ z, far, sym ts ∙ q))
+
+      module _ (q : table ≡ true) (k : ℕ) (ks : k ≡ countRead b) where
+        pub valid-many : 256 < k → false ≡ valid b
+        unfolding valid
+        valid-many h = sym (rw (sym f ∙ z, far, sym ts ∙ q, ← ks, lt-leb k 256 h))
+
+        pub valid-by-records : k ≤ 256 → (p : List ℕ) → p ≡ partRead b → (place : ℕ → ℕ) → place ≡ rank (placesRead b) → (s t : ℕ) → s ≡ sitesRead b → t ≡ itemsRead b
+            → (r : Bool) → r ≡ recordsFill place s t k p → r ≡ valid b
+        unfolding valid
+        valid-by-records h p ps place is s t ss us r e =
+            let few : leb (countRead b) 256 ≡ true = le-leb (countRead b) 256 (omega arith) in
+            e ∙ (λ i. recordsFill (is i) (ss i) (us i) (ks i) (ps i)) ∙ sym (rw (sym f ∙ z, far, sym ts ∙ q, few))
 
 -- ---- the number of a file
 module _ (b : List ℕ) where
@@ -171,17 +191,50 @@ unfolding fileNumber
 accepts b a =
     rw (le-ltb (length b) trailerSize (a .long), a .mark-there, le-ltb (distanceRead b) trailerSize (a .low), le-ltb (length b) (distanceRead b) (a .high), a .good)
 
-module _ (b : List ℕ) (a : Accepted b) where
-  pub accepted-trailer : trailerFits b ≡ true
-  unfolding valid
-  accepted-trailer = and-true (trailerFits b) (leb (countRead b) 256 && recordsFill (sitesRead b) (itemsRead b) (countRead b) (partRead b)) (a .good) .0
+-- what its test says, part by part
+pub record Good (b : List ℕ) : Type 0 where
+  pub trailer-fits : trailerFits b ≡ true
+  pub room : leadSize b + trailerSize ≤ distanceRead b
+  pub table-fits : tableFits b ≡ true
+  pub fills : recordsFill (rank (placesRead b)) (sitesRead b) (itemsRead b) (countRead b) (partRead b) ≡ true
 
-  accepted-rest : (leb (countRead b) 256 && recordsFill (sitesRead b) (itemsRead b) (countRead b) (partRead b)) ≡ true
-  unfolding valid
-  accepted-rest = and-true (trailerFits b) (leb (countRead b) 256 && recordsFill (sitesRead b) (itemsRead b) (countRead b) (partRead b)) (a .good) .1
+pub good-parts : (b : List ℕ) → Accepted b → Good b
+unfolding valid
+good-parts b a =
+    let fills = recordsFill (rank (placesRead b)) (sitesRead b) (itemsRead b) (countRead b) (partRead b) in
+    let few = leb (countRead b) 256 in
+    let near = leb (leadSize b + trailerSize) (distanceRead b) in
+    let p = and-true (trailerFits b) (near && (tableFits b && (few && fills))) (a .good) in
+    let q = and-true near (tableFits b && (few && fills)) (p .1) in
+    let r = and-true (tableFits b) (few && fills) (q .1) in
+    record {
+      trailer-fits = p .0;
+      room = leb-true (leadSize b + trailerSize) (distanceRead b) (q .0);
+      table-fits = r .0;
+      fills = and-true few fills (r .1) .1;
+    }
 
-  pub accepted-fill : recordsFill (sitesRead b) (itemsRead b) (countRead b) (partRead b) ≡ true
-  accepted-fill = and-true (leb (countRead b) 256) (recordsFill (sitesRead b) (itemsRead b) (countRead b) (partRead b)) accepted-rest .1
+-- ---- the trailer of an accepted file
+pub record Trailed (b : List ℕ) : Type 0 where
+  pub few-sites : sitesRead b ≤ sitesMost
+  pub flag-low : flagRead b ≤ 1
+  pub last-zero : getD b (trailerAt b + 15) 0 ≡ 0
+
+pub trailed : (b : List ℕ) → trailerFits b ≡ true → Trailed b
+trailed b e =
+    let last = eqb (getD b (trailerAt b + 15) 0) 0 in
+    let low = leb (flagRead b) 1 in
+    let p = and-true (within 1 sitesMost (sitesRead b)) (within 1 64 (itemsRead b) && (low && last)) e in
+    let q = and-true (within 1 64 (itemsRead b)) (low && last) (p .1) in
+    let r = and-true low last (q .1) in
+    record {
+      few-sites = leb-true (sitesRead b) sitesMost (and-true (leb 1 (sitesRead b)) (leb (sitesRead b) sitesMost) (p .0) .1);
+      flag-low = leb-true (flagRead b) 1 (r .0);
+      last-zero = eqb-true (getD b (trailerAt b + 15) 0) 0 (r .1);
+    }
+
+pub places-few : (b : List ℕ) → Accepted b → length (placesRead b) ≤ sitesMost
+places-few b a = omega (arith, read-few b, trailed b (good-parts b a .trailer-fits) .few-sites)
 
 -- ---- the history
 pub records-length : (n : ℕ) (b : List ℕ) → length (recordsRead n b) ≡ n
@@ -191,7 +244,8 @@ records-length (suc n) b = ap suc (records-length n (drop (sizeRead b) b))
 
 module _ (b : List ℕ) where
   abbrev pub historyOfBytes : History
-  historyOfBytes = record { sites = sitesRead b; items = itemsRead b; records = recordsRead (countRead b) (partRead b) }
+  historyOfBytes =
+      record { sites = sitesRead b; items = itemsRead b; places = placesRead b; records = recordsRead (countRead b) (partRead b) }
 
   pub history-read : fileNumber b ≡ 0 → historyRead b ≡ historyOfBytes
   unfolding historyRead
@@ -208,6 +262,14 @@ module _ (b : List ℕ) where
   pub part-none : (fileNumber b ≡ 0 → ⊥) → [] ≡ partAnswered b
   unfolding partAnswered
   part-none n = sym (rw (ne-eqb (fileNumber b) 0 n))
+
+  pub places-answered : fileNumber b ≡ 0 → eight (placesRead b) ≡ placesAnswered b
+  unfolding placesAnswered
+  places-answered e = sym (rw (eq-eqb (fileNumber b) 0 e))
+
+  pub places-none : (fileNumber b ≡ 0 → ⊥) → replicate sitesMost 0 ≡ placesAnswered b
+  unfolding placesAnswered
+  places-none n = sym (rw (ne-eqb (fileNumber b) 0 n))
 
 -- ---- where a record starts
 module _ (k : ℕ) (b : List ℕ) (i at : ℕ) (e : startOf k b ≡ at + startOf (k - i) (drop at b)) where
@@ -236,25 +298,25 @@ start-first k b =
     ap (λ (j : ℕ). startOf j b) z ∙ (let y : startOf (k - 0) b ≡ 0 + startOf (k - 0) b = omega arith in y)
 
 -- the record of a number that the records fill
-pub record Filled (sites items n : ℕ) (b : List ℕ) (k : ℕ) : Type 0 where
+pub record Filled (place : ℕ → ℕ) (sites items n : ℕ) (b : List ℕ) (k : ℕ) : Type 0 where
   pub inside : startOf k b < length b
-  pub there : recordValid sites items (drop (startOf k b) b) ≡ true
+  pub there : recordValid place sites items (drop (startOf k b) b) ≡ true
   pub is : recordRead (drop (startOf k b) b) ≡ getD (recordsRead n b) k noRecord
   pub next : startOf (suc k) b ≡ startOf k b + sizeRead (drop (startOf k b) b)
 
-pub filled : (sites items n : ℕ) (b : List ℕ) (k : ℕ) → recordsFill sites items n b ≡ true → k < n → Filled sites items n b k
+pub filled : (place : ℕ → ℕ) (sites items n : ℕ) (b : List ℕ) (k : ℕ) → recordsFill place sites items n b ≡ true → k < n → Filled place sites items n b k
 unfolding recordsFill recordsRead startOf
-filled sites items zero b k e h = absurd (omega arith)
-filled sites items (suc n) b zero e h =
-    let v = and-true (recordValid sites items b) (recordsFill sites items n (drop (sizeRead b) b)) e .0 in
-    record { inside = omega (arith, valid-room sites items b v, size-some b); there = v; is = refl; next = omega arith }
-filled sites items (suc n) b (suc k) e h =
-    let p = and-true (recordValid sites items b) (recordsFill sites items n (drop (sizeRead b) b)) e in
-    let rest = filled sites items n (drop (sizeRead b) b) k (p .1) (omega arith) in
+filled place sites items zero b k e h = absurd (omega arith)
+filled place sites items (suc n) b zero e h =
+    let v = and-true (recordValid place sites items b) (recordsFill place sites items n (drop (sizeRead b) b)) e .0 in
+    record { inside = omega (arith, valid-room place sites items b v, size-some b); there = v; is = refl; next = omega arith }
+filled place sites items (suc n) b (suc k) e h =
+    let p = and-true (recordValid place sites items b) (recordsFill place sites items n (drop (sizeRead b) b)) e in
+    let rest = filled place sites items n (drop (sizeRead b) b) k (p .1) (omega arith) in
     let same-drop : drop (startOf k (drop (sizeRead b) b)) (drop (sizeRead b) b) ≡ drop (sizeRead b + startOf k (drop (sizeRead b) b)) b = drop-drop (startOf k (drop (sizeRead b) b)) (sizeRead b) b in
     record {
       inside = omega (arith, rest .inside, length-drop (sizeRead b) b);
-      there = subst (λ (x : List ℕ). recordValid sites items x ≡ true) same-drop (rest .there);
+      there = subst (λ (x : List ℕ). recordValid place sites items x ≡ true) same-drop (rest .there);
       is = ap recordRead (sym same-drop) ∙ rest .is;
       next = (let f : sizeRead b + startOf (suc k) (drop (sizeRead b) b) ≡ sizeRead b + startOf k (drop (sizeRead b) b) + sizeRead (drop (startOf k (drop (sizeRead b) b)) (drop (sizeRead b) b)) = omega (arith, rest .next) in f) ∙ ap (λ (x : List ℕ). sizeRead b + startOf k (drop (sizeRead b) b) + sizeRead x) same-drop;
     }
@@ -276,13 +338,13 @@ module _ (b : List ℕ) (k : ℕ) where
     numbered-past h = sym (rw (eq-eqb (fileNumber b) 0 e, le-leb (length (historyRead b .records)) k (omega (arith, records-are))))
 
     module _ (h : k < countRead b) where
-      fills : Filled (sitesRead b) (itemsRead b) (countRead b) (partRead b) k
-      fills = filled (sitesRead b) (itemsRead b) (countRead b) (partRead b) k (accepted-fill b (accepted b e)) h
+      fills : Filled (rank (placesRead b)) (sitesRead b) (itemsRead b) (countRead b) (partRead b) k
+      fills = filled (rank (placesRead b)) (sitesRead b) (itemsRead b) (countRead b) (partRead b) k (good-parts b (accepted b e) .fills) h
 
       pub start-inside : startOf k (partRead b) ≤ length (partRead b)
       start-inside = omega (arith, fills .inside)
 
-      pub numbered-there : stepOf (partRead b) (startOf k (partRead b)) (sitesRead b) (itemsRead b) ≡ stepNumbered b k
+      pub numbered-there : stepOf (partRead b) (startOf k (partRead b)) (rank (placesRead b)) (sitesRead b) (itemsRead b) ≡ stepNumbered b k
       unfolding stepNumbered recordNumber stepOf
       numbered-there =
           let f = fills in
@@ -297,12 +359,14 @@ fields-read b e =
     let h = history-read b e in
     (ap (λ (x : History). length (x .records)) h ∙ records-length (countRead b) (partRead b), ap (λ (x : History). x .sites) h, ap (λ (x : History). x .items) h)
 
--- the record that starts there is the one of that number
-pub numbered-by : (b : List ℕ) (k : ℕ) (e : fileNumber b ≡ 0) → k < countRead b → (p : List ℕ) (at s i : ℕ) → p ≡ partRead b → at ≡ startOf k p → s ≡ historyRead b .sites → i ≡ historyRead b .items
-    → stepOf p at s i ≡ stepNumbered b k
-numbered-by b k e h p at s i ps os ss is =
+-- the record that starts there is the one of that number, by the places that are answered
+pub numbered-by : (b : List ℕ) (k : ℕ) (e : fileNumber b ≡ 0) → k < countRead b → (p ps : List ℕ) (at s i : ℕ)
+    → p ≡ partRead b → ps ≡ placesAnswered b → at ≡ startOf k p → s ≡ historyRead b .sites → i ≡ historyRead b .items
+    → stepOf p at (rank ps) s i ≡ stepNumbered b k
+numbered-by b k e h p ps at s i parted placed os ss is =
     let f = fields-read b e in
-    let starts = os ∙ ap (startOf k) ps in
+    let starts = os ∙ ap (startOf k) parted in
+    let ranks : rank ps ≡ rank (placesRead b) = ap rank (placed ∙ sym (places-answered b e)) ∙ eight-ranks (placesRead b) (omega (arith, places-few b (accepted b e))) in
     let sites = ss ∙ f .1 in
     let items = is ∙ f .2 in
-    (λ t. stepOf (ps t) (starts t) (sites t) (items t)) ∙ numbered-there b k e h
+    (λ t. stepOf (parted t) (starts t) (ranks t) (sites t) (items t)) ∙ numbered-there b k e h

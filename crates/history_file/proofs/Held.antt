@@ -1,6 +1,6 @@
 -- A record as a value: its tuples and operations at eight places each.
 use mathlib.Core.Path.{_≡_, refl, sym, ap, ap₂, subst, _∙_}
-use mathlib.Core.Bool.{true, _&&_}
+use mathlib.Core.Bool.{true}
 use mathlib.Core.List.{List, [], map}
 use Prim.Native.Nat.{ℕ, _+_, _-_, _*_, _≤_, _<_}
 use native.Mathlib.Omega.{arith}
@@ -20,16 +20,14 @@ use Rattle.timestamp.specs.declared.Tuple.{Tuple}
 use Rattle.timestamp_order.specs.Timestamp.{Pair, noPair, room}
 use Rattle.timestamp.specs.Value.{pairOf, PlainValue}
 use Rattle.timestamp.proofs.Plain.{plain-places, plain-as}
-use Rattle.timestamp_order.specs.Order.{byNumber}
 use Rattle.site_operations.specs.Operations.{Op, noOp}
 use Rattle.limits.specs.Limits.{opsMost}
-use Rattle.records.specs.Records.{recordFits}
 use Rattle.history_file.specs.declared.Found.{Found}
 use Rattle.history_file.specs.Bytes.{unitSize, numberAt}
-use Rattle.history_file.specs.Reading.{opRead, tupleCount, opCount, opUnits, sizeRead, countsFit, within, padsZero, recordRead, recordValid}
+use Rattle.history_file.specs.Reading.{opRead, tupleCount, opCount, opUnits, sizeRead, within, recordRead, recordValid}
 use Rattle.history_file.specs.Promises.{placesFrom, Gives, Step, noStep, stepOf}
 use Rattle.history_file.proofs.Units.{pairsOf, pairs-length, pair-at, rest-part}
-use Rattle.history_file.proofs.Validity.{sized, step-valid, step-invalid, valid-room}
+use Rattle.history_file.proofs.Validity.{sized, step-valid, step-invalid, valid-parts, valid-room}
 
 -- the number in an eight of bytes
 module _ (b : List ℕ) (i : ℕ) where
@@ -118,39 +116,36 @@ module _ (b : List ℕ) (t o a : ℕ) (ts : t ≡ tupleCount b) (os : o ≡ opCo
       }
 
 -- ---- counts of a valid record
-pub valid-counts : (sites items : ℕ) (b : List ℕ) → recordValid sites items b ≡ true → (tupleCount b ≤ room) × (opCount b ≤ opsMost)
-unfolding recordValid
-valid-counts sites items b e =
-    let v = and-true (leb (sizeRead b) (length b)) (countsFit (tupleCount b) (opCount b) && (padsZero b && recordFits byNumber sites items (recordRead b))) e .1 in
-    let c = and-true (countsFit (tupleCount b) (opCount b)) (padsZero b && recordFits byNumber sites items (recordRead b)) v .0 in
-    let d = and-true (within 1 room (tupleCount b)) (within 1 opsMost (opCount b)) c in (
+pub valid-counts : (place : ℕ → ℕ) (sites items : ℕ) (b : List ℕ) → recordValid place sites items b ≡ true → (tupleCount b ≤ room) × (opCount b ≤ opsMost)
+valid-counts place sites items b e =
+    let d = and-true (within 1 room (tupleCount b)) (within 1 opsMost (opCount b)) (valid-parts place sites items b e .counts) in (
       leb-true (tupleCount b) room (and-true (leb 1 (tupleCount b)) (leb (tupleCount b) room) (d .0) .1),
       leb-true (opCount b) opsMost (and-true (leb 1 (opCount b)) (leb (opCount b) opsMost) (d .1) .1),
     )
 
 -- ---- the record that starts at a place
-module _ (b : List ℕ) (at sites items : ℕ) where
-  pub step-ended : length b ≤ at → noStep 24 ≡ stepOf b at sites items
+module _ (b : List ℕ) (at : ℕ) (place : ℕ → ℕ) (sites items : ℕ) where
+  pub step-ended : length b ≤ at → noStep 24 ≡ stepOf b at place sites items
   unfolding stepOf
   step-ended h = sym (rw (le-leb (length b) at h))
 
-  module _ (h : at < length b) (k : ℕ) (e : k ≡ sized sites items b at) where
-    pub step-wrong : k ≡ 0 → noStep 23 ≡ stepOf b at sites items
+  module _ (h : at < length b) (k : ℕ) (e : k ≡ sized place sites items b at) where
+    pub step-wrong : k ≡ 0 → noStep 23 ≡ stepOf b at place sites items
     unfolding stepOf
-    step-wrong z = sym (rw (lt-leb (length b) at h, step-invalid sites items b at k e z))
+    step-wrong z = sym (rw (lt-leb (length b) at h, step-invalid place sites items b at k e z))
 
     module _ (some : k ≡ 0 → ⊥) where
       pub step-inside : at + k ≤ length b
-      step-inside = step-valid sites items b at k e some .2 (omega arith)
+      step-inside = step-valid place sites items b at k e some .2 (omega arith)
 
       pub step-fits : (sizeRead (part b at (length b - at)) ≤ length (part b at (length b - at))) × (tupleCount (part b at (length b - at)) ≤ room) × (opCount (part b at (length b - at)) ≤ opsMost)
       step-fits =
-          let v = step-valid sites items b at k e some .0 in
-          let c = valid-counts sites items (drop at b) v in
-          subst (λ (x : List ℕ). (sizeRead x ≤ length x) × (tupleCount x ≤ room) × (opCount x ≤ opsMost)) (sym (rest-part b at)) (valid-room sites items (drop at b) v, c .0, c .1)
+          let v = step-valid place sites items b at k e some .0 in
+          let c = valid-counts place sites items (drop at b) v in
+          subst (λ (x : List ℕ). (sizeRead x ≤ length x) × (tupleCount x ≤ room) × (opCount x ≤ opsMost)) (sym (rest-part b at)) (valid-room place sites items (drop at b) v, c .0, c .1)
 
-      pub step-right : _≡_ {A = Step} (record { number = 0; next = at + k; found = recordRead (part b at (length b - at)) }) (stepOf b at sites items)
+      pub step-right : _≡_ {A = Step} (record { number = 0; next = at + k; found = recordRead (part b at (length b - at)) }) (stepOf b at place sites items)
       unfolding stepOf
       step-right =
-          let v = step-valid sites items b at k e some in
+          let v = step-valid place sites items b at k e some in
           ap₂ {C = Step} (λ (n : ℕ) (x : List ℕ). record { number = 0; next = at + n; found = recordRead x }) (v .1) (rest-part b at) ∙ sym (rw (lt-leb (length b) at h, v .0))

@@ -1,4 +1,5 @@
 pub mod Units
+pub mod Tables
 pub mod Validity
 pub mod Held
 pub mod Files
@@ -7,5 +8,7 @@ pub mod Exports
 pub mod OnlyFile
 pub mod RoundTrip
 pub mod OfStates
+pub mod Before
+pub mod Inside
 pub mod Examples
 pub mod Theorems

@@ -1,5 +1,5 @@
 -- The history of a well-shaped state fits the file, so what an export wrote reads back.
-use mathlib.Core.Path.{_≡_, refl, sym, subst}
+use mathlib.Core.Path.{_≡_, refl, sym, ap, subst}
 use mathlib.Core.Bool.{Bool, true, false, _&&_}
 use mathlib.Core.List.{List, [], _∷_, _++_, map}
 use mathlib.Core.Option.{some}
@@ -8,20 +8,19 @@ use native.Mathlib.Omega.{arith}
 use lib.ListN.{length, getD, take, drop}
 use lib.Seq.{take-append-seam}
 use lib.Dec.{eqb, ltb, leb}
-use borrow.Author.Tests.{leb-true, ltb-true}
+use borrow.Author.Tests.{leb-true, ltb-true, ltb-false}
 use mir.ValLaws.{toZ-fits}
 use mir.Syntax.{w32}
 use Rattle.words.specs.Words.{part, chunks}
 use Rattle.lists.specs.Lists.{every, everyFrom}
 use Rattle.lists.proofs.Every.{and-true}
 use Rattle.timestamp_order.specs.Timestamp.{Pair, Stamp, lastPair, room}
-use Rattle.timestamp_order.specs.Order.{byNumber}
 use Rattle.timestamp_words.specs.InWords.{pairsAt, stampIn, stampSize, stampRange}
 use Rattle.timestamp_order.specs.Made.{rising as risingOf, madeBy}
 use Rattle.timestamp_order.proofs.Made.{made-parts, made-length}
 use Rattle.site_operations.specs.Operations.{Op}
 use Rattle.limits.specs.Limits.{opsMost}
-use Rattle.placement.specs.Placement.{itemsNumber}
+use Rattle.placement.specs.Places.{placementNumber}
 use Rattle.record_codes.specs.Codes.{codesMost, valuesAt, opOfCode, opsOf, codesIn, placesIn}
 use Rattle.records.specs.Records.{opFits, recordFits}
 use Rattle.records.specs.InWords.{recordIn, recordRange, recordSize, countIn}
@@ -30,10 +29,12 @@ use Rattle.network_layout.specs.Layout.{historyAt, historySize}
 use Rattle.protocol.specs.Network.{placeOf, lineFits, wellShaped}
 use Rattle.network_layout.specs.InWords.{recordWords, networkIn, shaped, meaning}
 use Rattle.network_layout.proofs.Assembled.{partsOf, range-parts}
-use Rattle.network_layout.proofs.Performs.{sites-count, items-count, records-count, shaped-range, shaped-well}
+use Rattle.network_layout.proofs.Performs.{items-count, records-count, shaped-range, shaped-well}
 use Rattle.history_file.specs.File.{historyOf, fileOf}
 use Rattle.history_file.specs.Reading.{fileNumber, historyRead}
 use Rattle.history_file.specs.Promises.{exportOf}
+use Rattle.history_file.proofs.Tables.{table-length, table-ranks, table-holds-each, table-low}
+use Rattle.history_file.proofs.Exports.{state-few, state-some, state-places}
 use Rattle.history_file.proofs.OnlyFile.{every-drop, every-take}
 use Rattle.history_file.proofs.RoundTrip.{All, none as no-more, more, PairFits, OpFits, RecordFits, HistoryFits, reads-back}
 
@@ -70,19 +71,26 @@ counts-fit w at (suc n) e = more (word-at w (at + 1) e) (counts-fit w (at + 2) n
 first-of : {P : Pair → Type 0} (x : Pair) (xs : List Pair) → All P (x ∷ xs) → P x
 first-of x xs (more p a) = p
 
--- rising sites are at most the last
-sites-fit : (ps : List Pair) (j : ℕ) → risingOf byNumber ps ≡ true → lastPair ps .site ≡ j → All (λ (p : Pair). p .site ≤ j) ps
+-- rising sites stand at the last one's place or before it
+sites-fit : (place : ℕ → ℕ) (ps : List Pair) (j : ℕ) → risingOf place ps ≡ true → lastPair ps .site ≡ j → All (λ (p : Pair). place (p .site) ≤ place j) ps
 unfolding risingOf
-sites-fit [] j r e = no-more
-sites-fit (x ∷ []) j r e = more {x = x} (omega arith) no-more
-sites-fit (x ∷ (y ∷ ys)) j r e =
-    let q = and-true (ltb (x .site) (y .site)) (risingOf byNumber (y ∷ ys)) r in
-    let rest = sites-fit (y ∷ ys) j (q .1) e in
-    more {x = x} (omega (arith, ltb-true (x .site) (y .site) (q .0), first-of y ys rest)) rest
+sites-fit place [] j r e = no-more
+sites-fit place (x ∷ []) j r e = more {x = x} (omega (arith, ap place e)) no-more
+sites-fit place (x ∷ (y ∷ ys)) j r e =
+    let q = and-true (ltb (place (x .site)) (place (y .site))) (risingOf place (y ∷ ys)) r in
+    let rest = sites-fit place (y ∷ ys) j (q .1) e in
+    more {x = x} (omega (arith, ltb-true (place (x .site)) (place (y .site)) (q .0), first-of y ys rest)) rest
 
-pairs-fit : (ps : List Pair) (j : ℕ) → j < 256 → All (λ (p : Pair). p .site ≤ j) ps → All (λ (p : Pair). p .count < 4294967296) ps → All PairFits ps
-pairs-fit [] j h a b = no-more
-pairs-fit (p ∷ ps) j h (more s a) (more c b) = more {x = p} (record { site = omega arith; count = c }) (pairs-fit ps j h a b)
+-- a number that stands before a site of the group is one of them, since past them each number is its own place
+pairs-fit : (place : ℕ → ℕ) (ps : List Pair) (j sites : ℕ) → place j < sites → sites ≤ 8 → ((k : ℕ) → sites ≤ k → place k ≡ k)
+    → All (λ (p : Pair). place (p .site) ≤ place j) ps → All (λ (p : Pair). p .count < 4294967296) ps → All PairFits ps
+pairs-fit place [] j sites h few past a b = no-more
+pairs-fit place (p ∷ ps) j sites h few past (more s a) (more c b) =
+    more {x = p} (record { site = small (ltb (p .site) sites) refl; count = c }) (pairs-fit place ps j sites h few past a b)
+  where
+    small : (t : Bool) → ltb (p .site) sites ≡ t → p .site < 256
+    small true e = omega (arith, ltb-true (p .site) sites e)
+    small false e = absurd (omega (arith, past (p .site) (ltb-false (p .site) sites e), ltb-false (p .site) sites e))
 
 -- ---- operations
 ops-fit : (items : ℕ) → items ≤ 64 → (n : ℕ) (cs vs : List ℕ) → Words vs → every (opFits items) (take n (opsOf cs vs)) ≡ true → All OpFits (take n (opsOf cs vs))
@@ -101,8 +109,8 @@ ops-fit items h (suc n) (c ∷ cs) vs e f =
     (ops-fit items h n cs (drop 1 vs) (every-drop isWord 1 vs e) (q .1))
 
 -- ---- a record
-module _ (sites items : ℕ) (few-sites : sites ≤ 8) (few-items : items ≤ 64) where
-  record-fits : (w : List ℕ) → Words w → recordRange w ≡ true → recordFits byNumber sites items (recordIn w) ≡ true → RecordFits sites items (recordIn w)
+module _ (place : ℕ → ℕ) (sites items : ℕ) (few-sites : sites ≤ 8) (few-items : items ≤ 64) (inside : (k : ℕ) → k < sites → place k < sites) (past : (k : ℕ) → sites ≤ k → place k ≡ k) where
+  record-fits : (w : List ℕ) → Words w → recordRange w ≡ true → recordFits place sites items (recordIn w) ≡ true → RecordFits place sites items (recordIn w)
   unfolding recordIn recordFits recordRange stampIn
   record-fits w e r f =
       let s = part w 2 stampSize in
@@ -110,11 +118,11 @@ module _ (sites items : ℕ) (few-sites : sites ≤ 8) (few-items : items ≤ 64
       let site = getD w 0 0 in
       let stamp : Stamp = stampIn s in
       let n = countIn w in
-      let p = and-true (ltb site sites) (madeBy byNumber site stamp && every (opFits items) (take n os)) f in
-      let q = and-true (madeBy byNumber site stamp) (every (opFits items) (take n os)) (p .1) in
+      let p = and-true (ltb site sites) (madeBy place site stamp && every (opFits items) (take n os)) f in
+      let q = and-true (madeBy place site stamp) (every (opFits items) (take n os)) (p .1) in
       let c = and-true (leb 1 (getD w 1 0)) (leb (getD w 1 0) opsMost && (stampRange s && every (λ c. ltb c codesMost) (take n (codesIn w)))) r in
       let count : length (take n os) ≡ n = count-law w in
-      let m = made-parts byNumber site stamp (q .0) in
+      let m = made-parts place site stamp (q .0) in
       let below : site < sites = ltb-true site sites (p .0) in
       let some : 1 ≤ getD w 1 0 = leb-true 1 (getD w 1 0) (c .0) in
       let counts : All (λ (x : Pair). x .count < 4294967296) (stamp .tuples) = all-take (getD s 1 0) (pairsAt s 2 room) (counts-fit s 2 room (words-part w 2 stampSize e)) in
@@ -123,43 +131,50 @@ module _ (sites items : ℕ) (few-sites : sites ≤ 8) (few-items : items ≤ 64
         site = omega arith;
         epoch = word-at s 0 (words-part w 2 stampSize e);
         some-tuples = omega (arith, m .some);
-        few-tuples = omega (arith, made-length byNumber site stamp (q .0));
+        few-tuples = omega (arith, made-length place site stamp (q .0), inside site below);
         some-ops = omega (arith, count);
         few-ops = omega (arith, count);
-        tuples = pairs-fit (stamp .tuples) site (omega arith) (sites-fit (stamp .tuples) site (m .rises) (m .last)) counts;
+        tuples = pairs-fit place (stamp .tuples) site sites (inside site below) few-sites past (sites-fit place (stamp .tuples) site (m .rises) (m .last)) counts;
         ops = ops-fit items few-items n (codesIn w) (part w valuesAt opsMost) (words-part w valuesAt opsMost e) (q .1);
       }
 
-  records-fit : (ws : List (List ℕ)) → All Words ws → every recordRange ws ≡ true → every (recordFits byNumber sites items) (map recordIn ws) ≡ true → All (RecordFits sites items) (map recordIn ws)
+  records-fit : (ws : List (List ℕ)) → All Words ws → every recordRange ws ≡ true → every (recordFits place sites items) (map recordIn ws) ≡ true → All (RecordFits place sites items) (map recordIn ws)
   records-fit [] a r f = no-more
   records-fit (w ∷ ws) (more e a) r f =
       let p = and-true (recordRange w) (every recordRange ws) r in
-      let q = and-true (recordFits byNumber sites items (recordIn w)) (every (recordFits byNumber sites items) (map recordIn ws)) f in
+      let q = and-true (recordFits place sites items (recordIn w)) (every (recordFits place sites items) (map recordIn ws)) f in
       more (record-fits w e (p .0) (q .0)) (records-fit ws a (p .1) (q .1))
 
 -- ---- a state
 pub history-fits : (w : List ℕ) → Words w → shaped w ≡ true → HistoryFits (historyOf (networkIn w))
-unfolding partsOf networkIn placeOf wellShaped
+unfolding partsOf networkIn wellShaped
 history-fits w e s =
     let r = range-parts w (shaped-range w s) in
     let n = networkIn w in
+    let place = placeOf (n .items) in
     let sites = length (n .sites) in
     let items = length (n .items) in
-    let stamps = everyFrom (λ i x. madeBy byNumber i (x .stamp)) 0 (n .sites) in
-    let records = every (recordFits byNumber sites items) (n .history) in
+    let stamps = everyFrom (λ i x. madeBy place i (x .stamp)) 0 (n .sites) in
+    let records = every (recordFits place sites items) (n .history) in
     let lines = everyFrom (lineFits (n .items) (n .history)) 0 (n .lines) in
-    let a = and-true (eqb (itemsNumber sites (n .items)) 0) (stamps && (records && lines)) (shaped-well w s) .1 in
+    let a = and-true (eqb (placementNumber sites (n .items)) 0) (stamps && (records && lines)) (shaped-well w s) .1 in
     let b = and-true stamps (records && lines) a .1 in
     let c = and-true records lines b .0 in
-    let few-sites : sites ≤ 8 = omega (arith, sites-count w, r .few-sites) in
+    let few-sites : sites ≤ 8 = state-few w s in
     let few-items : items ≤ 64 = omega (arith, items-count w 0, r .few-items) in
+    let g = state-places w s in
+    let fits : All (RecordFits place sites items) (n .history)
+    = records-fit place sites items few-sites few-items (g .inside) (g .missing) (recordWords w) (words-chunks recordSize (getD w 2 0) (part w historyAt historySize) (words-part w historyAt historySize e)) (r .record-ranges) c in
     record {
-      some-sites = omega (arith, sites-count w, r .some-sites);
+      some-sites = state-some w s;
       few-sites = few-sites;
       some-items = omega (arith, items-count w 0, r .some-items);
       few-items = few-items;
       few-records = omega (arith, records-count w, r .few-records);
-      records = records-fit sites items few-sites few-items (recordWords w) (words-chunks recordSize (getD w 2 0) (part w historyAt historySize) (words-part w historyAt historySize e)) (r .record-ranges) c;
+      as-many = table-length sites (n .items) few-sites g;
+      each = table-holds-each sites (n .items) few-sites g;
+      low = table-low sites (n .items) few-sites g;
+      records = subst (λ (f : ℕ → ℕ). All (RecordFits f sites items) (n .history)) (sym (table-ranks sites (n .items) few-sites g)) fits;
     }
 
 -- the file of a well-shaped state, alone or at the end of any longer buffer, reads back to its history

@@ -1,13 +1,13 @@
 -- An accepted file is the one that its history is written as: so no other has the same history.
 use mathlib.Core.Path.{_≡_, refl, sym, ap, ap₂, subst, _∙_}
-use mathlib.Core.Bool.{Bool, true, _&&_}
+use mathlib.Core.Bool.{Bool, true, false, not, _&&_}
 use mathlib.Core.List.{List, [], _∷_, _++_, map, append-assoc, append-nil}
-use Prim.Native.Nat.{ℕ, zero, suc, _+_, _-_, _*_, _/_, _≤_, _<_}
+use Prim.Native.Nat.{ℕ, zero, suc, _+_, _-_, _*_, _/_, _%_, _≤_, _<_}
 use native.Mathlib.Omega.{arith}
 use lib.ListN.{length, getD, take, drop, length-map, length-drop, take-append-drop, drop-of-length-le}
 use lib.Seq.{take-add, take-all, drop-drop, length-take-le}
-use lib.Dec.{eqb, leb}
-use borrow.Author.Tests.{ltb-true, eqb-true}
+use lib.Dec.{eqb}
+use borrow.Author.Tests.{ltb-true, eqb-true, eqb-false}
 use mir.ValLaws.{ofZ-toZ}
 use mir.Syntax.{w32}
 use Rattle.words.specs.Words.{part, chunks}
@@ -15,13 +15,14 @@ use Rattle.lists.specs.Lists.{every, isEmpty}
 use Rattle.words.proofs.Parts.{part-length, part-getD}
 use Rattle.words.proofs.Chunks.{chunks-length}
 use Rattle.lists.proofs.Every.{and-true, every-at}
-use Rattle.timestamp_order.specs.Order.{byNumber}
-use Rattle.records.specs.Records.{recordFits}
-use Rattle.history_file.specs.Bytes.{isByte, byte, little, unitSize, unit, joined, numberAt, allZero, padded}
-use Rattle.history_file.specs.File.{pairBytes, opBytes, recordBytes, mark, trailer, trailerSize, fileOf}
-use Rattle.history_file.specs.Reading.{pairRead, opRead, tupleCount, opCount, tupleUnits, opUnits, opsFrom, recordRead, sizeRead, countsFit, padsZero, recordValid, recordsRead, recordsFill, trailerAt, same, countRead, distanceRead, sitesRead, itemsRead, within, partRead, fileRead, fileNumber, historyRead}
-use Rattle.history_file.proofs.Validity.{valid-room}
-use Rattle.history_file.proofs.Files.{Accepted, accepted, accepts, accepted-trailer, accepted-fill, history-read, records-length}
+use Rattle.lists.proofs.Numbers.{flip-true}
+use Rattle.timestamp_order.specs.Order.{rank}
+use Rattle.history_file.specs.Bytes.{isByte, byte, little, unitSize, unit, joined, numberAt, padded}
+use Rattle.history_file.specs.File.{History, pairBytes, opBytes, recordBytes, isNumbers, lead, flag, mark, trailer, trailerSize, body, fileOf}
+use Rattle.history_file.specs.Reading.{pairRead, opRead, tupleCount, opCount, tupleUnits, opUnits, opsFrom, recordRead, sizeRead, recordValid, recordsRead, recordsFill, trailerAt, countRead, distanceRead, sitesRead, itemsRead, flagRead, hasTable, startRead, leadSize, placesRead, partRead, fileRead, holdsEach, tableFits, fileNumber, historyRead}
+use Rattle.history_file.proofs.Tables.{same-lists, numbers-same}
+use Rattle.history_file.proofs.Validity.{valid-parts}
+use Rattle.history_file.proofs.Files.{Accepted, accepted, accepts, Good, good-parts, Trailed, trailed, historyOfBytes, history-read, records-length}
 
 -- ---- bytes
 module _ (p : ℕ → Bool) where
@@ -46,6 +47,10 @@ below x l e = let q = and-true (isByte x) (every isByte l) e in (ltb-true x 256 
 
 pub byte-same : (x : ℕ) → x < 256 → byte x ≡ x
 byte-same x h = omega arith
+
+bytes-same : (l : List ℕ) → Bytes l → map byte l ≡ l
+bytes-same [] e = refl
+bytes-same (x ∷ l) e = let q = below x l e in ap₂ {C = List ℕ} (λ y m. y ∷ m) (byte-same x (q .0)) (bytes-same l (q .1))
 
 module _ (p q r s : ℕ) (hp : p < 256) (hq : q < 256) (hr : r < 256) (hs : s < 256) where
   abbrev four : ℕ
@@ -185,22 +190,13 @@ units-back f g good back (suc n) b h e p =
     ∙ ap (λ (k : ℕ). take k b) m
 
 -- ---- a record
-module _ (sites items : ℕ) (b : List ℕ) (v : recordValid sites items b ≡ true) (e : Bytes b) where
-  room-for : sizeRead b ≤ length b
-  room-for = valid-room sites items b v
-
-  pads : padsZero b ≡ true
-  unfolding recordValid
-  pads =
-      let r = and-true (leb (sizeRead b) (length b)) (countsFit (tupleCount b) (opCount b) && (padsZero b && recordFits byNumber sites items (recordRead b))) v .1 in
-      let s = and-true (countsFit (tupleCount b) (opCount b)) (padsZero b && recordFits byNumber sites items (recordRead b)) r .1 in
-      and-true (padsZero b) (recordFits byNumber sites items (recordRead b)) s .0
-
+module _ (place : ℕ → ℕ) (sites items : ℕ) (b : List ℕ) (v : recordValid place sites items b ≡ true) (e : Bytes b) where
   pub record-back : recordBytes (recordRead b) ≡ take (sizeRead b) b
   unfolding recordBytes recordRead sizeRead
   record-back =
-      let h : unitSize + unitSize * tupleCount b + unitSize * opCount b ≤ length b = room-for in
-      let p = and-true (eqb (getD b 3 0) 0) (every (padded 1) (tupleUnits b) && every (padded 2) (opUnits b)) pads in
+      let parts = valid-parts place sites items b v in
+      let h : unitSize + unitSize * tupleCount b + unitSize * opCount b ≤ length b = parts .room in
+      let p = and-true (eqb (getD b 3 0) 0) (every (padded 1) (tupleUnits b) && every (padded 2) (opUnits b)) (parts .pads) in
       let q = and-true (every (padded 1) (tupleUnits b)) (every (padded 2) (opUnits b)) (p .1) in
       let t : tupleCount b * unitSize ≡ unitSize * tupleCount b = omega arith in
       let o : opCount b * unitSize ≡ unitSize * opCount b = omega arith in
@@ -220,46 +216,39 @@ nothing : (b : List ℕ) → isEmpty b ≡ true → [] ≡ b
 nothing [] e = refl
 nothing (x ∷ b) e = absurd (let z : _≡_ {A = ℕ} 0 1 = cc in omega arith)
 
-pub records-back : (sites items n : ℕ) (b : List ℕ) → recordsFill sites items n b ≡ true → Bytes b → joined recordBytes (recordsRead n b) ≡ b
+pub records-back : (place : ℕ → ℕ) (sites items n : ℕ) (b : List ℕ) → recordsFill place sites items n b ≡ true → Bytes b → joined recordBytes (recordsRead n b) ≡ b
 unfolding recordsFill recordsRead
-records-back sites items zero b f e = nothing b f
-records-back sites items (suc n) b f e =
-    let q = and-true (recordValid sites items b) (recordsFill sites items n (drop (sizeRead b) b)) f in
-    ap₂ (λ (x y : List ℕ). x ++ y) (record-back sites items b (q .0) e) (records-back sites items n (drop (sizeRead b) b) (q .1) (every-drop isByte (sizeRead b) b e))
+records-back place sites items zero b f e = nothing b f
+records-back place sites items (suc n) b f e =
+    let q = and-true (recordValid place sites items b) (recordsFill place sites items n (drop (sizeRead b) b)) f in
+    ap₂ (λ (x y : List ℕ). x ++ y) (record-back place sites items b (q .0) e) (records-back place sites items n (drop (sizeRead b) b) (q .1) (every-drop isByte (sizeRead b) b e))
     ∙ take-append-drop (sizeRead b) b
 
 -- ---- the trailer
-same-lists : (xs ys : List ℕ) → same xs ys ≡ true → ys ≡ xs
-same-lists [] [] e = refl
-same-lists [] (y ∷ ys) e = absurd (let z : _≡_ {A = ℕ} 0 1 = cc in omega arith)
-same-lists (x ∷ xs) [] e = absurd (let z : _≡_ {A = ℕ} 0 1 = cc in omega arith)
-same-lists (x ∷ xs) (y ∷ ys) e =
-    let q = and-true (eqb x y) (same xs ys) e in
-    ap₂ {C = List ℕ} (λ a l. a ∷ l) (sym (eqb-true x y (q .0))) (same-lists xs ys (q .1))
-
 module _ (b : List ℕ) (a : Accepted b) (e : Bytes b) where
-  last-four : byte (sitesRead b) ∷ (byte (itemsRead b) ∷ (0 ∷ (0 ∷ []))) ≡ part b (trailerAt b + 12) 4
+  abbrev good : Good b
+  good = good-parts b a
+
+  abbrev end : Trailed b
+  end = trailed b (good .trailer-fits)
+
+  last-four : byte (sitesRead b) ∷ (byte (itemsRead b) ∷ (byte (flagRead b) ∷ (0 ∷ []))) ≡ part b (trailerAt b + 12) 4
   last-four =
       let t = trailerAt b in
       let long = a .long in
-      let fits = accepted-trailer b a in
-      let z = and-true (within 1 64 (itemsRead b)) (allZero (part b (t + 14) 2)) (and-true (within 1 8 (sitesRead b)) (within 1 64 (itemsRead b) && allZero (part b (t + 14) 2)) fits .1) .1 in
-      let size : length (part b (t + 14) 2) ≡ 2 = part-length b (t + 14) 2 (omega arith) in
-      let zero-at : (j : ℕ) → j < 2 → getD b (t + 14 + j) 0 ≡ 0
-      = λ j h. sym (part-getD b (t + 14) 2 j h) ∙ eqb-true (getD (part b (t + 14) 2) j 0) 0 (every-at (λ (x : ℕ). eqb x 0) (part b (t + 14) 2) j 0 z (omega arith)) in
       let u = part b (t + 12) 4 in
       let n : length u ≡ 4 = part-length b (t + 12) 4 (omega arith) in
       let at : (j k : ℕ) → j < 4 → t + 12 + j ≡ k → getD b k 0 ≡ getD u j 0
       = λ j k h q. ap (λ (i : ℕ). getD b i 0) (sym q) ∙ sym (part-getD b (t + 12) 4 j h) in
       let p0 : getD b (t + 12) 0 ≡ getD u 0 0 = at 0 (t + 12) (omega arith) (omega arith) in
       let p1 : getD b (t + 13) 0 ≡ getD u 1 0 = at 1 (t + 13) (omega arith) (omega arith) in
-      let p2 : 0 ≡ getD u 2 0 = sym (zero-at 0 (omega arith)) ∙ at 2 (t + 14 + 0) (omega arith) (omega arith) in
-      let p3 : 0 ≡ getD u 3 0 = sym (zero-at 1 (omega arith)) ∙ at 3 (t + 14 + 1) (omega arith) (omega arith) in
+      let p2 : getD b (t + 14) 0 ≡ getD u 2 0 = at 2 (t + 14) (omega arith) (omega arith) in
+      let p3 : 0 ≡ getD u 3 0 = sym (end .last-zero) ∙ at 3 (t + 15) (omega arith) (omega arith) in
       (λ i. byte (p0 i) ∷ (byte (p1 i) ∷ (byte (p2 i) ∷ (byte (p3 i) ∷ []))))
       ∙ four-list u (omega arith) (bytes-part b (t + 12) 4 e)
       ∙ take-all 4 u (omega arith)
 
-  trailer-back : trailer (countRead b) (distanceRead b) (sitesRead b) (itemsRead b) ≡ drop (trailerAt b) b
+  trailer-back : trailer (countRead b) (distanceRead b) (sitesRead b) (itemsRead b) (flagRead b) ≡ drop (trailerAt b) b
   unfolding trailer
   trailer-back =
       let t = trailerAt b in
@@ -276,24 +265,50 @@ module _ (b : List ℕ) (a : Accepted b) (e : Bytes b) where
       ∙ cut 0 4 (omega arith)
       ∙ ap (λ (k : ℕ). drop k b) z
 
+  -- ---- what leads the records follows from the places: a table of the numbers is refused
+  abbrev held : History
+  held = historyOfBytes b
+
+  record Led : Type 0 where
+    lead-is : lead held ≡ part b (startRead b) (leadSize b)
+    flag-is : flag held ≡ flagRead b
+
+  led : Led
+  unfolding lead flag placesRead tableFits
+  led = go (hasTable b) refl
+    where
+      go : (t : Bool) → hasTable b ≡ t → Led
+      go true h =
+          let table = part b (startRead b) (sitesRead b) in
+          let fits : (holdsEach table && not (isNumbers table)) ≡ true = rw h at (good .table-fits) in
+          let other : isNumbers table ≡ false = flip-true (not (isNumbers table)) (isNumbers table) refl (and-true (holdsEach table) (not (isNumbers table)) fits .1) in
+          let one : flagRead b ≡ 1 = omega (arith, end .flag-low, eqb-true (flagRead b % 2) 1 h) in
+          record { lead-is = rw (h, other) (bytes-same table (bytes-part b (startRead b) (sitesRead b) e)); flag-is = rw (h, other) (sym one) }
+      go false h =
+          let none : flagRead b ≡ 0 = omega (arith, end .flag-low, eqb-false (flagRead b % 2) 1 h) in
+          let numbers = numbers-same (sitesRead b) in
+          record { lead-is = rw (h, numbers); flag-is = rw (h, numbers) (sym none) }
+
   -- an accepted file is what its history is written as
   pub file-is : fileOf (historyRead b) ≡ fileRead b
   unfolding fileOf fileRead partRead
   file-is =
       let d = distanceRead b in
       let n = length b in
-      let low = a .low in
+      let l = leadSize b in
+      let s = startRead b in
+      let room : l + trailerSize ≤ d = good .room in
       let high = a .high in
       let long = a .long in
-      let records = joined recordBytes (recordsRead (countRead b) (partRead b)) in
-      let body-is : records ≡ partRead b = records-back (sitesRead b) (itemsRead b) (countRead b) (partRead b) (accepted-fill b a) (bytes-part b (n - d) (d - trailerSize) e) in
-      let size : length records + trailerSize ≡ d = (let z : length records + trailerSize ≡ d = omega (arith, ap length body-is, part-length b (n - d) (d - trailerSize) (omega arith)) in z) in
-      let rest : drop (d - trailerSize) (drop (n - d) b) ≡ drop (trailerAt b) b = drop-drop (d - trailerSize) (n - d) b ∙ (let z : n - d + (d - trailerSize) ≡ trailerAt b = omega arith in ap (λ (k : ℕ). drop k b) z) in
+      let body-is : body held ≡ partRead b = records-back (rank (placesRead b)) (sitesRead b) (itemsRead b) (countRead b) (partRead b) (good .fills) (bytes-part b (s + l) (d - (l + trailerSize)) e) in
+      let size : length (lead held) + (length (body held) + trailerSize) ≡ d = (let z : length (lead held) + (length (body held) + trailerSize) ≡ d = omega (arith, ap length (led .lead-is), part-length b s l (omega arith), ap length body-is, part-length b (s + l) (d - (l + trailerSize)) (omega arith)) in z) in
+      let rest : drop (d - (l + trailerSize)) (drop (s + l) b) ≡ drop (trailerAt b) b = drop-drop (d - (l + trailerSize)) (s + l) b ∙ (let z : s + l + (d - (l + trailerSize)) ≡ trailerAt b = omega arith in ap (λ (k : ℕ). drop k b) z) in
       ap fileOf (history-read b (accepts b a))
-      ∙ (λ i. body-is i ++ trailer (records-length (countRead b) (partRead b) i) (size i) (sitesRead b) (itemsRead b))
-      ∙ ap (λ (x : List ℕ). partRead b ++ x) (trailer-back ∙ sym rest)
-      ∙ take-append-drop (d - trailerSize) (drop (n - d) b)
+      ∙ (λ i. led .lead-is i ++ (body-is i ++ trailer (records-length (countRead b) (partRead b) i) (size i) (sitesRead b) (itemsRead b) (led .flag-is i)))
+      ∙ ap (λ (x : List ℕ). part b s l ++ (partRead b ++ x)) (trailer-back ∙ sym rest)
+      ∙ ap (λ (x : List ℕ). part b s l ++ x) (take-append-drop (d - (l + trailerSize)) (drop (s + l) b) ∙ sym (drop-drop l s b))
+      ∙ take-append-drop l (drop s b)
 
--- two accepted files with the same history are the same bytes, from the first record to the end
+-- two accepted files with the same history are the same bytes, from the file's start to the end
 pub only-file : (a b : List ℕ) → Bytes a → Bytes b → fileNumber a ≡ 0 → fileNumber b ≡ 0 → historyRead a ≡ historyRead b → fileRead a ≡ fileRead b
 only-file a b ba bb ea eb same-history = sym (file-is a (accepted a ea) ba) ∙ ap fileOf same-history ∙ file-is b (accepted b eb) bb

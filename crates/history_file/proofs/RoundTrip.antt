@@ -1,10 +1,10 @@
 -- What a history is written as reads back to the same history, alone or at the end of any longer buffer.
 use mathlib.Core.Path.{_≡_, refl, sym, ap, ap₂, _∙_}
-use mathlib.Core.Bool.{Bool, true, _&&_}
+use mathlib.Core.Bool.{Bool, true, false, not, cond, _&&_, _||_}
 use mathlib.Core.List.{List, [], _∷_, _++_, map, append-assoc}
-use Prim.Native.Nat.{ℕ, _+_, _-_, _*_, _/_, _≤_, _<_}
+use Prim.Native.Nat.{ℕ, _+_, _-_, _*_, _/_, _%_, _≤_, _<_}
 use native.Mathlib.Omega.{arith}
-use lib.ListN.{length, getD, take, drop, length-append}
+use lib.ListN.{length, getD, take, drop, length-append, length-map}
 use lib.Seq.{take-at, drop-at, drop-drop, take-append-seam, drop-append-seam, getD-append-add}
 use lib.Dec.{eqb, leb}
 use borrow.Author.Tests.{le-leb, eq-eqb}
@@ -12,17 +12,19 @@ use mir.Val.{toZ, ofZ, SFits}
 use mir.ValLaws.{toZ-ofZ, ofZ-fits}
 use mir.Syntax.{w32}
 use Rattle.words.specs.Words.{part, chunks}
-use Rattle.lists.specs.Lists.{every}
+use Rattle.lists.specs.Lists.{every, upTo}
+use Rattle.lists.proofs.Chains.{Each}
 use Rattle.timestamp_order.specs.Timestamp.{Pair, room}
-use Rattle.timestamp_order.specs.Order.{byNumber}
+use Rattle.timestamp_order.specs.Order.{rank}
 use Rattle.site_operations.specs.Operations.{Op}
 use Rattle.limits.specs.Limits.{opsMost}
 use Rattle.records.specs.Records.{Record, recordFits}
-use Rattle.history_file.specs.Bytes.{byte, unitSize, unit, joined, numberAt, padded, allZero}
-use Rattle.history_file.specs.File.{History, pairBytes, opBytes, recordBytes, mark, trailer, trailerSize, body, fileOf}
-use Rattle.history_file.specs.Reading.{pairRead, opRead, tupleCount, opCount, tupleUnits, opUnits, opsFrom, recordRead, sizeRead, recordValid, recordsRead, recordsFill, trailerAt, same, marked, countRead, distanceRead, sitesRead, itemsRead, partRead, valid, fileNumber, historyRead}
+use Rattle.history_file.specs.Bytes.{byte, unitSize, unit, joined, numberAt, padded, same}
+use Rattle.history_file.specs.File.{History, pairBytes, opBytes, recordBytes, isNumbers, lead, flag, mark, trailer, trailerSize, body, fileOf}
+use Rattle.history_file.specs.Reading.{pairRead, opRead, tupleCount, opCount, tupleUnits, opUnits, opsFrom, recordRead, sizeRead, recordValid, recordsRead, recordsFill, trailerAt, marked, countRead, distanceRead, sitesRead, itemsRead, flagRead, hasTable, startRead, leadSize, placesRead, partRead, holdsEach, tableFits, valid, fileNumber, historyRead}
 use Rattle.history_file.proofs.Written.{unit-length, pair-size, op-size, pairs-size, record-size}
-use Rattle.history_file.proofs.Exports.{file-length}
+use Rattle.history_file.proofs.Exports.{trailerOf, file-length}
+use Rattle.history_file.proofs.Tables.{numbers-are, bytes-back}
 use Rattle.history_file.proofs.Files.{Accepted, accepts, history-read}
 
 -- ---- histories whose fields fit the file
@@ -39,8 +41,8 @@ pub record OpFits (o : Op) : Type 0 where
   pub item : o .item < 256
   pub value : SFits w32 (o .value)
 
-pub record RecordFits (sites items : ℕ) (r : Record) : Type 0 where
-  pub fits : recordFits byNumber sites items r ≡ true
+pub record RecordFits (place : ℕ → ℕ) (sites items : ℕ) (r : Record) : Type 0 where
+  pub fits : recordFits place sites items r ≡ true
   pub site : r .site < 256
   pub epoch : r .stamp .epoch < 4294967296
   pub some-tuples : 1 ≤ length (r .stamp .tuples)
@@ -56,7 +58,10 @@ pub record HistoryFits (h : History) : Type 0 where
   pub some-items : 1 ≤ h .items
   pub few-items : h .items ≤ 64
   pub few-records : length (h .records) ≤ 256
-  pub records : All (RecordFits (h .sites) (h .items)) (h .records)
+  pub as-many : length (h .places) ≡ h .sites
+  pub each : holdsEach (h .places) ≡ true
+  pub low : Each (λ (q : ℕ). q < 256) (h .places)
+  pub records : All (RecordFits (rank (h .places)) (h .sites) (h .items)) (h .records)
 
 -- ---- numbers
 small : (n : ℕ) → n < 256 → byte n ≡ n
@@ -113,7 +118,7 @@ unfolding unit
 op-padded o = refl
 
 -- ---- a record in front of other bytes
-module _ (sites items : ℕ) (r : Record) (h : RecordFits sites items r) (rest : List ℕ) where
+module _ (place : ℕ → ℕ) (sites items : ℕ) (r : Record) (h : RecordFits place sites items r) (rest : List ℕ) where
   abbrev there : List ℕ
   there = recordBytes r ++ rest
 
@@ -174,7 +179,7 @@ module _ (sites items : ℕ) (r : Record) (h : RecordFits sites items r) (rest :
   unfolding sizeRead
   size-reads = ap₂ (λ (x y : ℕ). unitSize + unitSize * x + unitSize * y) tuples-there ops-there ∙ sym (record-size r)
 
-  pub valid-reads : recordValid sites items there ≡ true
+  pub valid-reads : recordValid place sites items there ≡ true
   unfolding recordValid
   valid-reads =
       let long : leb (sizeRead there) (length there) ≡ true = le-leb (sizeRead there) (length there) (omega (arith, size-reads, length-append (recordBytes r) rest)) in
@@ -185,29 +190,29 @@ module _ (sites items : ℕ) (r : Record) (h : RecordFits sites items r) (rest :
       let z : eqb (getD there 3 0) 0 ≡ true = eq-eqb (getD there 3 0) 0 zero-there in
       let p : every (padded 1) (tupleUnits there) ≡ true = ap (every (padded 1)) tuple-units ∙ every-good PairFits pairBytes pairRead pair-size (padded 1) pair-padded (r .stamp .tuples) in
       let q : every (padded 2) (opUnits there) ≡ true = ap (every (padded 2)) op-units ∙ every-good OpFits opBytes opRead op-size (padded 2) op-padded (r .ops) in
-      let f : recordFits byNumber sites items (recordRead there) ≡ true = ap (recordFits byNumber sites items) record-reads ∙ h .fits in
+      let f : recordFits place sites items (recordRead there) ≡ true = ap (recordFits place sites items) record-reads ∙ h .fits in
       λ i. long i && (((t1 i && t2 i) && (o1 i && o2 i)) && ((z i && (p i && q i)) && f i))
 
   pub rest-reads : drop (sizeRead there) there ≡ rest
   rest-reads = drop-at (recordBytes r) rest (sizeRead there) (sym size-reads)
 
 -- ---- all records
-module _ (sites items : ℕ) where
-  pub records-read : (rs : List Record) → All (RecordFits sites items) rs → recordsRead (length rs) (joined recordBytes rs) ≡ rs
+module _ (place : ℕ → ℕ) (sites items : ℕ) where
+  pub records-read : (rs : List Record) → All (RecordFits place sites items) rs → recordsRead (length rs) (joined recordBytes rs) ≡ rs
   unfolding recordsRead
   records-read [] a = refl
   records-read (r ∷ rs) (more h a) =
-      ap₂ {C = List Record} (λ x l. x ∷ l) (record-reads sites items r h (joined recordBytes rs))
-      (ap (λ (l : List ℕ). recordsRead (length rs) l) (rest-reads sites items r h (joined recordBytes rs)) ∙ records-read rs a)
+      ap₂ {C = List Record} (λ x l. x ∷ l) (record-reads place sites items r h (joined recordBytes rs))
+      (ap (λ (l : List ℕ). recordsRead (length rs) l) (rest-reads place sites items r h (joined recordBytes rs)) ∙ records-read rs a)
 
-  pub records-fill : (rs : List Record) → All (RecordFits sites items) rs → recordsFill sites items (length rs) (joined recordBytes rs) ≡ true
+  pub records-fill : (rs : List Record) → All (RecordFits place sites items) rs → recordsFill place sites items (length rs) (joined recordBytes rs) ≡ true
   unfolding recordsFill
   records-fill [] a = refl
   records-fill (r ∷ rs) (more h a) =
-      rw (valid-reads sites items r h (joined recordBytes rs))
-      (ap (λ (l : List ℕ). recordsFill sites items (length rs) l) (rest-reads sites items r h (joined recordBytes rs)) ∙ records-fill rs a)
+      rw (valid-reads place sites items r h (joined recordBytes rs))
+      (ap (λ (l : List ℕ). recordsFill place sites items (length rs) l) (rest-reads place sites items r h (joined recordBytes rs)) ∙ records-fill rs a)
 
-  pub records-short : (rs : List Record) → All (RecordFits sites items) rs → length (joined recordBytes rs) ≤ 136 * length rs
+  pub records-short : (rs : List Record) → All (RecordFits place sites items) rs → length (joined recordBytes rs) ≤ 136 * length rs
   records-short [] a = omega arith
   records-short (r ∷ rs) (more h a) = omega (arith, length-append (recordBytes r) (joined recordBytes rs), record-size r, h .few-tuples, h .few-ops, records-short rs a)
 
@@ -224,33 +229,49 @@ number-append xs ys i =
     λ t. p t + 256 * (q t + 256 * (r t + 256 * s t))
 
 module _ (h : History) (f : HistoryFits h) (before : List ℕ) where
+  abbrev distance : ℕ
+  distance = length (lead h) + (length (body h) + trailerSize)
+
   abbrev end : List ℕ
-  end = trailer (length (h .records)) (length (body h) + trailerSize) (h .sites) (h .items)
+  end = trailerOf h distance
 
   abbrev whole : List ℕ
   whole = before ++ fileOf h
 
-  whole-is : whole ≡ (before ++ body h) ++ end
+  abbrev front : List ℕ
+  front = (before ++ lead h) ++ body h
+
+  whole-is : whole ≡ front ++ end
   unfolding fileOf
-  whole-is = sym (append-assoc before (body h) end)
+  whole-is = sym (append-assoc (before ++ lead h) (body h) end ∙ append-assoc before (lead h) (body h ++ end))
 
-  whole-length : length whole ≡ length before + length (body h) + trailerSize
-  whole-length = length-append before (fileOf h) ∙ (let e : length before + length (fileOf h) ≡ length before + length (body h) + trailerSize = omega (arith, file-length h) in e)
+  whole-length : length whole ≡ length before + distance
+  whole-length = length-append before (fileOf h) ∙ ap (λ (k : ℕ). length before + k) (file-length h)
 
-  at-end : trailerAt whole ≡ length (before ++ body h)
-  at-end = (let e : trailerAt whole ≡ length before + length (body h) = omega (arith, whole-length) in e) ∙ sym (length-append before (body h))
+  at-end : trailerAt whole ≡ length front
+  at-end =
+      let e : trailerAt whole ≡ length (before ++ lead h) + length (body h) = omega (arith, whole-length, length-append before (lead h)) in
+      e ∙ sym (length-append (before ++ lead h) (body h))
 
-  short : length (body h) + trailerSize < 4294967296
-  short = omega (arith, records-short (h .sites) (h .items) (h .records) (f .records), f .few-records)
+  lead-short : length (lead h) ≤ 8
+  unfolding lead
+  lead-short = go (isNumbers (h .places))
+    where
+      go : (t : Bool) → length (cond t [] (map byte (h .places))) ≤ 8
+      go true = omega arith
+      go false = omega (arith, length-map (h .places) byte, f .as-many, f .few-sites)
+
+  short : distance < 4294967296
+  short = omega (arith, lead-short, records-short (rank (h .places)) (h .sites) (h .items) (h .records) (f .records), f .few-records)
 
   end-drop : drop (trailerAt whole) whole ≡ end
-  end-drop = ap₂ (λ (k : ℕ) (l : List ℕ). drop k l) at-end whole-is ∙ drop-append-seam (before ++ body h) end
+  end-drop = ap₂ (λ (k : ℕ) (l : List ℕ). drop k l) at-end whole-is ∙ drop-append-seam front end
 
   end-getD : (i : ℕ) → getD whole (trailerAt whole + i) 0 ≡ getD end i 0
-  end-getD i = ap₂ (λ (k : ℕ) (l : List ℕ). getD l (k + i) 0) at-end whole-is ∙ getD-append-add (before ++ body h) end i 0
+  end-getD i = ap₂ (λ (k : ℕ) (l : List ℕ). getD l (k + i) 0) at-end whole-is ∙ getD-append-add front end i 0
 
   end-number : (i : ℕ) → numberAt whole (trailerAt whole + i) ≡ numberAt end i
-  end-number i = ap₂ (λ (k : ℕ) (l : List ℕ). numberAt l (k + i)) at-end whole-is ∙ number-append (before ++ body h) end i
+  end-number i = ap₂ (λ (k : ℕ) (l : List ℕ). numberAt l (k + i)) at-end whole-is ∙ number-append front end i
 
   mark-there : marked whole ≡ true
   unfolding trailer
@@ -260,9 +281,9 @@ module _ (h : History) (f : HistoryFits h) (before : List ℕ) where
   unfolding trailer numberAt
   count-there = end-number 4 ∙ number-of (length (h .records)) (omega (arith, f .few-records))
 
-  distance-there : distanceRead whole ≡ length (body h) + trailerSize
+  distance-there : distanceRead whole ≡ distance
   unfolding trailer numberAt
-  distance-there = end-number 8 ∙ number-of (length (body h) + trailerSize) short
+  distance-there = end-number 8 ∙ number-of distance short
 
   sites-there : sitesRead whole ≡ h .sites
   unfolding trailer
@@ -272,16 +293,73 @@ module _ (h : History) (f : HistoryFits h) (before : List ℕ) where
   unfolding trailer
   items-there = end-getD 13 ∙ small (h .items) (omega (arith, f .few-items))
 
-  zeros-there : allZero (part whole (trailerAt whole + 14) 2) ≡ true
+  flag-low : flag h ≤ 1
+  unfolding flag
+  flag-low = go (isNumbers (h .places))
+    where
+      go : (t : Bool) → cond t 0 1 ≤ 1
+      go true = omega arith
+      go false = omega arith
+
+  flag-there : flagRead whole ≡ flag h
   unfolding trailer
-  zeros-there = ap (λ (l : List ℕ). allZero (take 2 l)) (sym (drop-drop 14 (trailerAt whole) whole) ∙ ap (drop 14) end-drop)
+  flag-there = end-getD 14 ∙ small (flag h) (omega (arith, flag-low))
+
+  zero-last : getD whole (trailerAt whole + 15) 0 ≡ 0
+  unfolding trailer
+  zero-last = end-getD 15
+
+  start-there : startRead whole ≡ length before
+  start-there = omega (arith, whole-length, distance-there)
+
+  -- the table is there where the places are not the numbers
+  table-there : hasTable whole ≡ not (isNumbers (h .places))
+  unfolding flag
+  table-there = ap (λ (k : ℕ). eqb (k % 2) 1) flag-there ∙ go (isNumbers (h .places))
+    where
+      go : (t : Bool) → eqb (cond t 0 1 % 2) 1 ≡ not t
+      go true = refl
+      go false = refl
+
+  lead-there : leadSize whole ≡ length (lead h)
+  unfolding lead
+  lead-there = ap₂ (λ (t : Bool) (k : ℕ). cond t k 0) table-there sites-there ∙ go (isNumbers (h .places))
+    where
+      go : (t : Bool) → cond (not t) (h .sites) 0 ≡ length (cond t [] (map byte (h .places)))
+      go true = refl
+      go false = sym (length-map (h .places) byte ∙ f .as-many)
+
+  places-there : placesRead whole ≡ h .places
+  unfolding placesRead fileOf lead
+  places-there =
+      (λ i. cond (table-there i) (part whole (start-there i) (sites-there i)) (upTo 0 (sites-there i)))
+      ∙ ap (λ (l : List ℕ). cond (not (isNumbers (h .places))) (take (h .sites) l) (upTo 0 (h .sites))) (drop-append-seam before (fileOf h))
+      ∙ go (isNumbers (h .places)) refl
+    where
+      go : (t : Bool) → isNumbers (h .places) ≡ t → cond (not t) (take (h .sites) (fileOf h)) (upTo 0 (h .sites)) ≡ h .places
+      go true e = ap (upTo 0) (sym (f .as-many)) ∙ numbers-are (h .places) e
+      go false e =
+          let table : lead h ≡ h .places = rw e (bytes-back (h .places) (f .low)) in
+          let size : length (lead h) ≡ h .sites = ap length table ∙ f .as-many in
+          take-at (lead h) (body h ++ end) (h .sites) size ∙ table
 
   part-there : partRead whole ≡ body h
-  unfolding partRead fileOf
+  unfolding partRead
   part-there =
-      let start : length whole - distanceRead whole ≡ length before = omega (arith, whole-length, distance-there) in
-      let size : distanceRead whole - trailerSize ≡ length (body h) = omega (arith, distance-there) in
-      ap₂ (λ (k n : ℕ). part whole k n) start size ∙ ap (take (length (body h))) (drop-append-seam before (body h ++ end)) ∙ take-append-seam (body h) end
+      let start : startRead whole + leadSize whole ≡ length (before ++ lead h) = (let z : startRead whole + leadSize whole ≡ length before + length (lead h) = omega (arith, start-there, lead-there) in z) ∙ sym (length-append before (lead h)) in
+      let size : distanceRead whole - (leadSize whole + trailerSize) ≡ length (body h) = omega (arith, distance-there, lead-there) in
+      ap₂ (λ (k n : ℕ). part whole k n) start size
+      ∙ ap (λ (l : List ℕ). take (length (body h)) (drop (length (before ++ lead h)) l)) (whole-is ∙ append-assoc (before ++ lead h) (body h) end)
+      ∙ ap (take (length (body h))) (drop-append-seam (before ++ lead h) (body h ++ end))
+      ∙ take-append-seam (body h) end
+
+  table-fits : tableFits whole ≡ true
+  unfolding tableFits
+  table-fits = (λ i. not (table-there i) || (holdsEach (places-there i) && not (isNumbers (places-there i)))) ∙ go (isNumbers (h .places))
+    where
+      go : (t : Bool) → (not (not t) || (holdsEach (h .places) && not t)) ≡ true
+      go true = refl
+      go false = rw (f .each)
 
   pub file-accepted : Accepted whole
   unfolding valid
@@ -290,20 +368,23 @@ module _ (h : History) (f : HistoryFits h) (before : List ℕ) where
       let s2 : leb (sitesRead whole) 8 ≡ true = le-leb (sitesRead whole) 8 (omega (arith, sites-there, f .few-sites)) in
       let i1 : leb 1 (itemsRead whole) ≡ true = le-leb 1 (itemsRead whole) (omega (arith, items-there, f .some-items)) in
       let i2 : leb (itemsRead whole) 64 ≡ true = le-leb (itemsRead whole) 64 (omega (arith, items-there, f .few-items)) in
+      let f1 : leb (flagRead whole) 1 ≡ true = le-leb (flagRead whole) 1 (omega (arith, flag-there, flag-low)) in
+      let z : eqb (getD whole (trailerAt whole + 15) 0) 0 ≡ true = eq-eqb (getD whole (trailerAt whole + 15) 0) 0 zero-last in
+      let far : leb (leadSize whole + trailerSize) (distanceRead whole) ≡ true = le-leb (leadSize whole + trailerSize) (distanceRead whole) (omega (arith, lead-there, distance-there)) in
       let few : leb (countRead whole) 256 ≡ true = le-leb (countRead whole) 256 (omega (arith, count-there, f .few-records)) in
-      let fills : recordsFill (sitesRead whole) (itemsRead whole) (countRead whole) (partRead whole) ≡ true
-      = (λ t. recordsFill (sites-there t) (items-there t) (count-there t) (part-there t)) ∙ records-fill (h .sites) (h .items) (h .records) (f .records) in
+      let fills : recordsFill (rank (placesRead whole)) (sitesRead whole) (itemsRead whole) (countRead whole) (partRead whole) ≡ true
+      = (λ t. recordsFill (rank (places-there t)) (sites-there t) (items-there t) (count-there t) (part-there t)) ∙ records-fill (rank (h .places)) (h .sites) (h .items) (h .records) (f .records) in
       record {
         long = omega (arith, whole-length);
         mark-there = mark-there;
         low = omega (arith, distance-there);
         high = omega (arith, distance-there, whole-length);
-        good = λ t. ((s1 t && s2 t) && ((i1 t && i2 t) && zeros-there t)) && (few t && fills t);
+        good = λ t. ((s1 t && s2 t) && ((i1 t && i2 t) && (f1 t && z t))) && (far t && (table-fits t && (few t && fills t)));
       }
 
-  -- what was written reads back to the same history, with the numbers of sites and items
+  -- what was written reads back to the same history: its numbers of sites and items, its places, its records
   pub reads-back : (fileNumber whole ≡ 0) × (historyRead whole ≡ h)
   reads-back =
       let z : fileNumber whole ≡ 0 = accepts whole file-accepted in
-      let records = ap₂ (λ (n : ℕ) (l : List ℕ). recordsRead n l) count-there part-there ∙ records-read (h .sites) (h .items) (h .records) (f .records) in
-      (z, history-read whole z ∙ (λ t. record { sites = sites-there t; items = items-there t; records = records t }))
+      let records = ap₂ (λ (n : ℕ) (l : List ℕ). recordsRead n l) count-there part-there ∙ records-read (rank (h .places)) (h .sites) (h .items) (h .records) (f .records) in
+      (z, history-read whole z ∙ (λ t. record { sites = sites-there t; items = items-there t; places = places-there t; records = records t }))

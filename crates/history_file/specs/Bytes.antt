@@ -1,5 +1,5 @@
 -- Numbers in bytes, little-endian, and the eight bytes of which records are made: three fields of a byte each, 00, and a number in four bytes.
-use mathlib.Core.Bool.{Bool}
+use mathlib.Core.Bool.{Bool, true, false, _&&_}
 use mathlib.Core.List.{List, [], _∷_, _++_}
 use Prim.Native.Nat.{ℕ, _+_, _*_, _/_, _%_, _-_}
 use lib.ListN.{getD}
@@ -9,6 +9,13 @@ use Rattle.lists.specs.Lists.{every}
 
 abbrev pub isByte : ℕ → Bool
 isByte x = ltb x 256
+
+-- two lists are the same
+abbrev pub same : List ℕ → List ℕ → Bool
+same [] [] = true
+same [] (y ∷ ys) = false
+same (x ∷ xs) [] = false
+same (x ∷ xs) (y ∷ ys) = eqb x y && same xs ys
 
 -- ---- written
 -- a number in one byte

@@ -1,23 +1,33 @@
 -- The history file: the bytes that a history is written as.
-use mathlib.Core.List.{List, [], _∷_, _++_}
+use mathlib.Core.Bool.{Bool, cond}
+use mathlib.Core.List.{List, [], _∷_, _++_, map}
 use Prim.Native.Nat.{ℕ, _+_}
-use lib.ListN.{length}
+use lib.ListN.{length, take}
 use mir.Val.{ofZ}
 use mir.Syntax.{w32}
+use Rattle.lists.specs.Lists.{upTo}
 use Rattle.timestamp_order.specs.Timestamp.{Pair}
+use Rattle.placement.specs.Places.{placesOf}
 use Rattle.site_operations.specs.Operations.{Op}
 use Rattle.records.specs.Records.{Record}
 use Rattle.protocol.specs.Network.{Network}
-use Rattle.history_file.specs.Bytes.{byte, little, unit, joined}
+use Rattle.history_file.specs.Bytes.{byte, little, unit, joined, same}
 
--- a history: its records in order, with the numbers of sites and items
+-- a history: its records in order, with the numbers of sites and items and the place of each site
 pub record History : Type 0 where
   pub sites : ℕ
   pub items : ℕ
+  pub places : List ℕ
   pub records : List Record
 
 abbrev pub historyOf : Network → History
-historyOf n = record { sites = length (n .sites); items = length (n .items); records = n .history }
+historyOf n =
+    record {
+      sites = length (n .sites);
+      items = length (n .items);
+      places = take (length (n .sites)) (placesOf (n .items));
+      records = n .history;
+    }
 
 -- per tuple: site, three 00, count
 abbrev pub pairBytes : Pair → List ℕ
@@ -33,18 +43,32 @@ recordBytes r =
     unit (r .site) (length (r .stamp .tuples)) (length (r .ops)) (r .stamp .epoch)
     ++ (joined pairBytes (r .stamp .tuples) ++ joined opBytes (r .ops))
 
--- ---- the trailer: the mark, record count, distance from the end back to the first record, sites, items, 00, 00
+-- ---- the table of places, in front of the records, where places and numbers differ
+-- each site's place is its number
+abbrev pub isNumbers : List ℕ → Bool
+isNumbers ps = same ps (upTo 0 (length ps))
+
+-- byte k is the place of site k
+unfoldable pub lead : History → List ℕ
+lead h = cond (isNumbers (h .places)) [] (map byte (h .places))
+
+-- the flags: weight 1 says that the table is there
+unfoldable pub flag : History → ℕ
+flag h = cond (isNumbers (h .places)) 0 1
+
+-- ---- the trailer: the mark, record count, distance from the end back to the file's start, sites, items, flags, 00
 abbrev pub mark : List ℕ
 mark = 0x53 ∷ (0x45 ∷ (0x41 ∷ (0x54 ∷ [])))
 
 abbrev pub trailerSize : ℕ
 trailerSize = 16
 
-unfoldable pub trailer : ℕ → ℕ → ℕ → ℕ → List ℕ
-trailer count distance sites items = mark ++ (little count ++ (little distance ++ (byte sites ∷ (byte items ∷ (0 ∷ (0 ∷ []))))))
+unfoldable pub trailer : ℕ → ℕ → ℕ → ℕ → ℕ → List ℕ
+trailer count distance sites items flag = mark ++ (little count ++ (little distance ++ (byte sites ∷ (byte items ∷ (byte flag ∷ (0 ∷ []))))))
 
 abbrev pub body : History → List ℕ
 body h = joined recordBytes (h .records)
 
 unfoldable pub fileOf : History → List ℕ
-fileOf h = body h ++ trailer (length (h .records)) (length (body h) + trailerSize) (h .sites) (h .items)
+fileOf h =
+    lead h ++ (body h ++ trailer (length (h .records)) (length (lead h) + (length (body h) + trailerSize)) (h .sites) (h .items) (flag h))

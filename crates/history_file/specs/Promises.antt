@@ -1,20 +1,22 @@
 -- What the contracts of the calls say.
 use mathlib.Core.Path.{_≡_}
 use mathlib.Core.Bool.{cond}
-use mathlib.Core.List.{List, [], _∷_, _++_}
+use mathlib.Core.List.{List, [], _∷_, _++_, map}
 use mathlib.Core.Option.{Option, none, some}
 use Prim.Native.Nat.{ℕ, zero, suc, _+_}
-use lib.ListN.{length, getD, drop}
+use lib.ListN.{length, getD, drop, replicate}
 use lib.Dec.{eqb, ltb, leb}
+use Rattle.timestamp_order.specs.Order.{rank}
 use Rattle.timestamp.specs.Value.{PlainValue}
 use Rattle.site_operations.specs.Operations.{Op, noOp}
-use Rattle.limits.specs.Limits.{opsMost}
+use Rattle.limits.specs.Limits.{opsMost, sitesMost}
+use Rattle.lists.specs.Lists.{upTo}
 use Rattle.lists.specs.Numbers.{firstNumber, numberIf}
 use Rattle.records.specs.Records.{Record}
 use Rattle.protocol.specs.Network.{Network, noRecord}
 use Rattle.history_file.specs.declared.Found.{Found}
 use Rattle.history_file.specs.File.{historyOf, fileOf}
-use Rattle.history_file.specs.Reading.{fileNumber, historyRead, partRead, recordRead, recordValid, sizeRead, startOf}
+use Rattle.history_file.specs.Reading.{fileNumber, historyRead, partRead, placesRead, recordRead, recordValid, sizeRead, startOf}
 
 -- ---- export: its number, the file's length, and the buffer afterwards; refused, the buffer as it was
 pub record Export : Type 0 where
@@ -34,6 +36,13 @@ exportOf (some n) b = exported (fileOf (historyOf n)) b
 -- ---- read: the part, empty where refused
 unfoldable pub partAnswered : List ℕ → List ℕ
 partAnswered b = cond (eqb (fileNumber b) 0) (partRead b) []
+
+-- the places beside it: of a history's sites, and the numbers behind them; 0 where refused
+abbrev pub eight : List ℕ → List ℕ
+eight ps = map (rank ps) (upTo 0 sitesMost)
+
+unfoldable pub placesAnswered : List ℕ → List ℕ
+placesAnswered b = cond (eqb (fileNumber b) 0) (eight (placesRead b)) (replicate sitesMost 0)
 
 -- ---- read one record
 -- a field of n operations from number i on, that of no operation past the last
@@ -70,9 +79,10 @@ unfoldable pub stepNumbered : List ℕ → ℕ → Step
 stepNumbered b k =
     cond (eqb (recordNumber b k) 0) (record { number = 0; next = startOf (suc k) (partRead b); found = getD (historyRead b .records) k noRecord }) (noStep (recordNumber b k))
 
--- ---- by the place of a part where it starts, of a group of that many sites and items
-abbrev pub stepAt : ℕ → ℕ → ℕ → List ℕ → Step
-stepAt sites items at b = cond (recordValid sites items b) (record { number = 0; next = at + sizeRead b; found = recordRead b }) (noStep 23)
+-- ---- by where in a part it starts, of a group of that many sites and items, each site at its `place`
+abbrev pub stepAt : (ℕ → ℕ) → ℕ → ℕ → ℕ → List ℕ → Step
+stepAt place sites items at b =
+    cond (recordValid place sites items b) (record { number = 0; next = at + sizeRead b; found = recordRead b }) (noStep 23)
 
-unfoldable pub stepOf : List ℕ → ℕ → ℕ → ℕ → Step
-stepOf b at sites items = cond (leb (length b) at) (noStep 24) (stepAt sites items at (drop at b))
+unfoldable pub stepOf : List ℕ → ℕ → (ℕ → ℕ) → ℕ → ℕ → Step
+stepOf b at place sites items = cond (leb (length b) at) (noStep 24) (stepAt place sites items at (drop at b))

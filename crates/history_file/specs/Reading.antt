@@ -1,21 +1,21 @@
 -- What a list of bytes means: whether it ends with a history file, and the history in it.
-use mathlib.Core.Bool.{Bool, true, false, not, cond, _&&_, _||_}
+use mathlib.Core.Bool.{Bool, not, cond, _&&_, _||_}
 use mathlib.Core.List.{List, [], _∷_, map}
-use Prim.Native.Nat.{ℕ, zero, suc, _+_, _*_, _-_}
+use Prim.Native.Nat.{ℕ, zero, suc, _+_, _*_, _-_, _%_}
 use lib.ListN.{length, getD, drop}
 use lib.Dec.{eqb, ltb, leb}
 use mir.Val.{toZ}
 use mir.Syntax.{w32}
 use Rattle.words.specs.Words.{part, chunks}
-use Rattle.lists.specs.Lists.{every, isEmpty}
+use Rattle.lists.specs.Lists.{every, isEmpty, upTo, occurrences}
 use Rattle.timestamp_order.specs.Timestamp.{Pair, room}
-use Rattle.timestamp_order.specs.Order.{byNumber}
+use Rattle.timestamp_order.specs.Order.{rank}
 use Rattle.site_operations.specs.Operations.{Op}
 use Rattle.limits.specs.Limits.{opsMost, sitesMost, itemsMost, recordsMost}
 use Rattle.lists.specs.Numbers.{firstNumber, numberIf, outside}
 use Rattle.records.specs.Records.{Record, recordFits}
-use Rattle.history_file.specs.Bytes.{unitSize, numberAt, padded, allZero}
-use Rattle.history_file.specs.File.{History, mark, trailerSize}
+use Rattle.history_file.specs.Bytes.{unitSize, numberAt, padded, same}
+use Rattle.history_file.specs.File.{History, isNumbers, mark, trailerSize}
 
 -- ---- a record at the front of some bytes
 abbrev pub pairRead : List ℕ → Pair
@@ -63,10 +63,10 @@ countsFit tuples ops = within 1 room tuples && within 1 opsMost ops
 abbrev pub padsZero : List ℕ → Bool
 padsZero b = eqb (getD b 3 0) 0 && (every (padded 1) (tupleUnits b) && every (padded 2) (opUnits b))
 
--- the bytes start with a whole record, every field of it in range
-unfoldable pub recordValid : ℕ → ℕ → List ℕ → Bool
-recordValid sites items b =
-    leb (sizeRead b) (length b) && (countsFit (tupleCount b) (opCount b) && (padsZero b && recordFits byNumber sites items (recordRead b)))
+-- the bytes start with a whole record, every field of it in range, of a group of that many sites and items, each site at its `place`
+unfoldable pub recordValid : (ℕ → ℕ) → ℕ → ℕ → List ℕ → Bool
+recordValid place sites items b =
+    leb (sizeRead b) (length b) && (countsFit (tupleCount b) (opCount b) && (padsZero b && recordFits place sites items (recordRead b)))
 
 -- ---- n records, one after another
 unfoldable pub recordsRead : ℕ → List ℕ → List Record
@@ -74,9 +74,9 @@ recordsRead zero b = []
 recordsRead (suc n) b = recordRead b ∷ recordsRead n (drop (sizeRead b) b)
 
 -- they fill the bytes exactly
-unfoldable pub recordsFill : ℕ → ℕ → ℕ → List ℕ → Bool
-recordsFill sites items zero b = isEmpty b
-recordsFill sites items (suc n) b = recordValid sites items b && recordsFill sites items n (drop (sizeRead b) b)
+unfoldable pub recordsFill : (ℕ → ℕ) → ℕ → ℕ → ℕ → List ℕ → Bool
+recordsFill place sites items zero b = isEmpty b
+recordsFill place sites items (suc n) b = recordValid place sites items b && recordsFill place sites items n (drop (sizeRead b) b)
 
 -- where record k starts
 unfoldable pub startOf : ℕ → List ℕ → ℕ
@@ -86,12 +86,6 @@ startOf (suc k) b = sizeRead b + startOf k (drop (sizeRead b) b)
 -- ---- the trailer, the last 16 bytes
 abbrev pub trailerAt : List ℕ → ℕ
 trailerAt b = length b - trailerSize
-
-abbrev pub same : List ℕ → List ℕ → Bool
-same [] [] = true
-same [] (y ∷ ys) = false
-same (x ∷ xs) [] = false
-same (x ∷ xs) (y ∷ ys) = eqb x y && same xs ys
 
 abbrev pub marked : List ℕ → Bool
 marked b = same (part b (trailerAt b) 4) mark
@@ -108,22 +102,55 @@ sitesRead b = getD b (trailerAt b + 12) 0
 abbrev pub itemsRead : List ℕ → ℕ
 itemsRead b = getD b (trailerAt b + 13) 0
 
+abbrev pub flagRead : List ℕ → ℕ
+flagRead b = getD b (trailerAt b + 14) 0
+
+-- the flag of weight 1: a table of places leads the file
+abbrev pub hasTable : List ℕ → Bool
+hasTable b = eqb (flagRead b % 2) 1
+
 -- ---- the file that ends the bytes
--- the part from the first record to the trailer, found by the distance
+-- where it starts, found by the distance
+abbrev pub startRead : List ℕ → ℕ
+startRead b = length b - distanceRead b
+
+-- how many bytes lead the records
+abbrev pub leadSize : List ℕ → ℕ
+leadSize b = cond (hasTable b) (sitesRead b) 0
+
+-- the place of each site: its number where there is no table
+unfoldable pub placesRead : List ℕ → List ℕ
+placesRead b = cond (hasTable b) (part b (startRead b) (sitesRead b)) (upTo 0 (sitesRead b))
+
+-- the part from the first record to the trailer
 unfoldable pub partRead : List ℕ → List ℕ
-partRead b = part b (length b - distanceRead b) (distanceRead b - trailerSize)
+partRead b = part b (startRead b + leadSize b) (distanceRead b - (leadSize b + trailerSize))
 
--- the bytes from the first record to the end
+-- the bytes from the file's start to the end
 unfoldable pub fileRead : List ℕ → List ℕ
-fileRead b = drop (length b - distanceRead b) b
+fileRead b = drop (startRead b) b
 
--- the trailer's sites and items in range, its 00 bytes zero
+-- the trailer's sites and items in range, no flag but that of weight 1, its last byte zero
 abbrev pub trailerFits : List ℕ → Bool
-trailerFits b = within 1 sitesMost (sitesRead b) && (within 1 itemsMost (itemsRead b) && allZero (part b (trailerAt b + 14) 2))
+trailerFits b =
+    within 1 sitesMost (sitesRead b)
+    && (within 1 itemsMost (itemsRead b) && (leb (flagRead b) 1 && eqb (getD b (trailerAt b + 15) 0) 0))
 
--- and at most 256 records, which fill the part
+-- every place from 0 on stands in it, once
+unfoldable pub holdsEach : List ℕ → Bool
+holdsEach ps = every (λ k. eqb (occurrences k ps) 1) (upTo 0 (length ps))
+
+-- where there is a table, it holds each place once and is not the numbers
+unfoldable pub tableFits : List ℕ → Bool
+tableFits b = not (hasTable b) || (holdsEach (placesRead b) && not (isNumbers (placesRead b)))
+
+-- the trailer and the table fit, and at most 256 records fill the part
 unfoldable pub valid : List ℕ → Bool
-valid b = trailerFits b && (leb (countRead b) recordsMost && recordsFill (sitesRead b) (itemsRead b) (countRead b) (partRead b))
+valid b =
+    trailerFits b
+    && (leb (leadSize b + trailerSize) (distanceRead b)
+    && (tableFits b
+    && (leb (countRead b) recordsMost && recordsFill (rank (placesRead b)) (sitesRead b) (itemsRead b) (countRead b) (partRead b))))
 
 -- the number for which the bytes are refused, or 0
 unfoldable pub fileNumber : List ℕ → ℕ
@@ -135,9 +162,16 @@ fileNumber b =
     ∷ [])
 
 abbrev pub noHistory : History
-noHistory = record { sites = 0; items = 0; records = [] }
+noHistory = record { sites = 0; items = 0; places = []; records = [] }
 
 -- the history in the bytes, and nothing where they are refused
 unfoldable pub historyRead : List ℕ → History
 historyRead b =
-    cond (eqb (fileNumber b) 0) (record { sites = sitesRead b; items = itemsRead b; records = recordsRead (countRead b) (partRead b) }) noHistory
+    cond (eqb (fileNumber b) 0)
+    (record {
+      sites = sitesRead b;
+      items = itemsRead b;
+      places = placesRead b;
+      records = recordsRead (countRead b) (partRead b);
+    })
+    noHistory

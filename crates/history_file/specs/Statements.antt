@@ -1,15 +1,24 @@
--- The two statements on history files: what is written reads back to the same history, and each accepted file is the only one for its history.
+-- The statements on history files: what is written reads back to the same history, each accepted file is the only one for its history, its
+-- tuples name sites of its group, and files without a table of places are what they were before there were places.
 use mathlib.Core.Path.{_≡_}
-use mathlib.Core.Bool.{true}
-use mathlib.Core.List.{List, _++_}
-use Prim.Native.Nat.{ℕ}
-use lib.ListN.{take}
-use lib.Dec.{ltb}
-use Rattle.lists.specs.Lists.{every}
+use mathlib.Core.Bool.{Bool, true, not, _&&_, _||_}
+use mathlib.Core.List.{List, [], _∷_, _++_}
+use Prim.Native.Nat.{ℕ, _+_, _-_, _≤_, _<_}
+use lib.ListN.{length, take}
+use lib.Dec.{ltb, leb}
+use Rattle.words.specs.Words.{part}
+use Rattle.limits.specs.Limits.{sitesMost, itemsMost, recordsMost}
+use Rattle.lists.specs.Lists.{every, upTo}
+use Rattle.lists.specs.Numbers.{firstNumber, numberIf, outside}
+use Rattle.timestamp_order.specs.Timestamp.{Pair}
+use Rattle.timestamp_order.specs.Order.{byNumber}
+use Rattle.placement.specs.Placement.{isLine}
+use Rattle.records.specs.Records.{Record}
+use Rattle.protocol.specs.Network.{Network}
 use Rattle.network_layout.specs.InWords.{networkIn, meaning}
-use Rattle.history_file.specs.Bytes.{isByte}
-use Rattle.history_file.specs.File.{historyOf}
-use Rattle.history_file.specs.Reading.{fileNumber, historyRead, fileRead}
+use Rattle.history_file.specs.Bytes.{isByte, allZero}
+use Rattle.history_file.specs.File.{History, historyOf, isNumbers, trailer, trailerSize, body, fileOf}
+use Rattle.history_file.specs.Reading.{within, recordsRead, recordsFill, trailerAt, marked, countRead, distanceRead, sitesRead, itemsRead, flagRead, startRead, fileNumber, historyRead, fileRead, partRead}
 use Rattle.history_file.specs.Promises.{exportOf}
 
 -- every number is one of 32 bits; of 8
@@ -26,6 +35,57 @@ ReadsBack =
     → (fileNumber (before ++ take (exportOf (meaning w) b .size) (exportOf (meaning w) b .buffer)) ≡ 0)
     × (historyRead (before ++ take (exportOf (meaning w) b .size) (exportOf (meaning w) b .buffer)) ≡ historyOf (networkIn w))
 
--- accepted files with the same history are the same bytes, from the first record to the end
+-- accepted files with the same history are the same bytes, from the file's start to the end
 unfoldable pub OnlyFile : Type 0
 OnlyFile = (a b : List ℕ) → AreBytes a → AreBytes b → fileNumber a ≡ 0 → fileNumber b ≡ 0 → historyRead a ≡ historyRead b → fileRead a ≡ fileRead b
+
+-- every tuple of every record of an accepted file names a site of the file's group
+unfoldable pub TuplesInside : Type 0
+TuplesInside =
+    (b : List ℕ) → fileNumber b ≡ 0
+    → every (λ (r : Record). every (λ (p : Pair). ltb (p .site) (sitesRead b)) (r .stamp .tuples)) (historyRead b .records) ≡ true
+
+-- ---- before there were places: both bytes behind the items were 00, no table led the records, and a site's number was its place
+abbrev pub partBefore : List ℕ → List ℕ
+partBefore b = part b (startRead b) (distanceRead b - trailerSize)
+
+unfoldable pub validBefore : List ℕ → Bool
+validBefore b =
+    (within 1 sitesMost (sitesRead b) && (within 1 itemsMost (itemsRead b) && allZero (part b (trailerAt b + 14) 2)))
+    && (leb (countRead b) recordsMost && recordsFill byNumber (sitesRead b) (itemsRead b) (countRead b) (partBefore b))
+
+unfoldable pub numberBefore : List ℕ → ℕ
+numberBefore b =
+    firstNumber
+    (numberIf (ltb (length b) trailerSize || not (marked b)) 21
+    ∷ numberIf (outside trailerSize (length b) (distanceRead b)) 22
+    ∷ numberIf (not (validBefore b)) 23
+    ∷ [])
+
+-- bytes whose flag byte is 00 are accepted or refused as before, with the same part and the same records; each site's place is its number
+unfoldable pub OldFiles : Type 0
+OldFiles =
+    (b : List ℕ) → flagRead b ≡ 0
+    → (fileNumber b ≡ numberBefore b)
+    × (fileNumber b ≡ 0
+    → historyRead b
+    ≡ record {
+      sites = sitesRead b;
+      items = itemsRead b;
+      places = upTo 0 (sitesRead b);
+      records = recordsRead (countRead b) (partBefore b);
+    })
+    × (fileNumber b ≡ 0 → partRead b ≡ partBefore b)
+
+-- and a history in which each site's place is its number is written as before
+unfoldable pub OldHistories : Type 0
+OldHistories =
+    (h : History) → isNumbers (h .places) ≡ true
+    → fileOf h ≡ body h ++ trailer (length (h .records)) (length (body h) + trailerSize) (h .sites) (h .items) 0
+
+-- and so is the history of a network whose lines all go to a higher number
+unfoldable pub OldNetworks : Type 0
+OldNetworks =
+    (n : Network) → length (n .sites) ≤ sitesMost → ((p c : ℕ) → p < sitesMost → c < sitesMost → isLine (n .items) p c ≡ true → p < c)
+    → fileOf (historyOf n)
+    ≡ body (historyOf n) ++ trailer (length (n .history)) (length (body (historyOf n)) + trailerSize) (length (n .sites)) (length (n .items)) 0

@@ -1,4 +1,4 @@
-// The history file: its definitions, both statements, and what its calls answer. No code.
+// The history file: its definitions, the statements on it, and what its calls answer. No code.
 use timestamp::Timestamp;
 
 // The mark at the start of the trailer: 53 45 41 54.
@@ -13,13 +13,15 @@ pub struct Exported {
     pub length: usize,
 }
 
-// What a file holds: the number for which it is refused, or 0; how many records, sites and items, and how many bytes its records take, 0 where it is refused.
+// What a file holds: the number for which it is refused, or 0; how many records, sites and items, how many bytes its records take, and the
+// places of its sites, with the numbers behind them. Where it is refused, all but the number is 0.
 pub struct Checked {
     pub number: u32,
     pub records: u32,
     pub sites: u32,
     pub items: u32,
     pub length: usize,
+    pub places: [u8; 8],
 }
 
 // A record that was read: the number for which it was refused, or 0; its site, its timestamp, and its operations, which are the first

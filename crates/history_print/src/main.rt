@@ -2,6 +2,7 @@
 use history::Found;
 use libc::STDIN_FILENO;
 use libc::STDOUT_FILENO;
+use limits::SITES_WIDE;
 use script_notation::ANSWER;
 ghost use Prim.Native.Nat.{_≤_};
 ghost use lib.ListN.{length};
@@ -65,7 +66,8 @@ fn print(b: &[u8]) {
         return;
     }
     let part = history::part(b);
-    records(part, file.records, file.sites, file.items);
+    let places = file.places;
+    records(part, file.records, file.sites, file.items, places);
 }
 
 fn refused(number: u32) {
@@ -77,7 +79,7 @@ fn refused(number: u32) {
 }
 
 // From record to record of a part; the lines are collected and written when there are many.
-fn records(part: &[u8], n: u32, sites: u32, items: u32) {
+fn records(part: &[u8], n: u32, sites: u32, items: u32, places: [u8; SITES_WIDE]) {
     let mut lines = io::large_buffer();
     let mut page = Page {
         filled: 0,
@@ -86,7 +88,7 @@ fn records(part: &[u8], n: u32, sites: u32, items: u32) {
     let mut at = 0usize;
     let mut i = 0u32;
     while i < n {
-        let r = history::record_from(part, at, sites, items);
+        let r = history::record_from(part, at, sites, items, places);
         at = r.next;
         page = add(r, &mut lines, page.filled);
         if !page.well {

@@ -1,5 +1,6 @@
 // A record as a value, from its bytes.
 use history_file::Found;
+use limits::SITES_WIDE;
 use timestamp::Count;
 use timestamp::Epoch;
 use timestamp::Timestamp;
@@ -10,6 +11,7 @@ ghost use Prim.Native.Nat.{_+_, _*_, _≤_};
 ghost use lib.ListN.{length, getD};
 ghost use Rattle.words.specs.Words.{part, chunks};
 ghost use Rattle.timestamp.specs.Value.{pairOf, PlainValue};
+ghost use Rattle.timestamp_order.specs.Order.{rank};
 ghost use Rattle.timestamp_order.specs.Timestamp.{noPair, room};
 ghost use Rattle.limits.specs.Limits.{opsMost};
 ghost use Rattle.history_file.specs.Bytes.{unitSize};
@@ -148,15 +150,21 @@ pub fn refused(number: u32) -> Found
     }
 }
 
-// The record that starts at a place of a part, and where the next starts. The part is that of a group of that many sites and items.
-// 24 where the part ends at that place or before, 23 where no valid record starts there.
-pub fn record_from(part: &[u8], at: usize, sites: u32, items: u32) -> Found
-    ensures { λ r. ⌜ Gives (stepOf (now (part .entry)) at sites items) r ⌝ }
+// The record that starts at a place of a part, and where the next starts. The part is that of a group of that many sites and items,
+// its sites at these places. 24 where the part ends at that place or before, 23 where no valid record starts there.
+pub fn record_from(
+    part: &[u8],
+    at: usize,
+    sites: u32,
+    items: u32,
+    places: [u8; SITES_WIDE],
+) -> Found
+    ensures { λ r. ⌜ Gives (stepOf (now (part .entry)) at (rank places) sites items) r ⌝ }
 {
     if part.len() <= at {
         return refused(24);
     }
-    let size = history_validity::step(part, at, sites, items);
+    let size = history_validity::step(part, at, sites, items, places);
     if size == 0 {
         return refused(23);
     }

@@ -9,8 +9,8 @@ use Rattle.history_file.specs.File.{trailer, trailerSize}
 use Rattle.history_units.specs.Asked.{fileMost}
 
 -- the trailer of a network's file
-abbrev pub trailerOf : Network → ℕ → List ℕ
-trailerOf n distance = trailer (length (n .history)) distance (length (n .sites)) (length (n .items))
+abbrev pub trailerOf : Network → ℕ → ℕ → List ℕ
+trailerOf n distance flag = trailer (length (n .history)) distance (length (n .sites)) (length (n .items)) flag
 
 -- the bytes of a trailer
 pub record ForTrailer (b w : List ℕ) (distance : ℕ) : Type 0 where

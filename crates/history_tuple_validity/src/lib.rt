@@ -1,11 +1,12 @@
 // Whether bytes are those of the tuples of a timestamp that a site made.
+use limits::SITES_WIDE;
 ghost use mathlib.Core.Path.{_≡_};
 ghost use mathlib.Core.List.{map};
 ghost use Prim.Native.Nat.{_*_, _≤_};
-ghost use lib.ListN.{length};
+ghost use lib.ListN.{length, getD};
 ghost use Rattle.words.specs.Words.{chunks};
 ghost use Rattle.lists.specs.Lists.{every};
-ghost use Rattle.timestamp_order.specs.Order.{byNumber};
+ghost use Rattle.timestamp_order.specs.Order.{rank};
 ghost use Rattle.timestamp_order.specs.Made.{rising as risingOf, madeBy};
 ghost use Rattle.history_file.specs.Bytes.{unitSize, padded as paddedOf};
 ghost use Rattle.history_file.specs.Reading.{pairRead};
@@ -29,43 +30,52 @@ fn padded(b: &[u8], n: usize, from: usize) -> bool
     true
 }
 
-// Whether the sites of n tuples rise.
-fn rising(b: &[u8], n: usize) -> bool
-    requires { ⌜ n * unitSize ≤ length (now b) ⌝ }
-    ensures { λ r. ⌜ r ≡ risingOf byNumber (map pairRead (chunks unitSize n (now (b .entry)))) ⌝ }
+// The place of the site at a byte, which past the end is site 0.
+fn place_at(b: &[u8], at: usize, places: [u8; SITES_WIDE]) -> u32
+    ensures { λ r. ⌜ r ≡ rank places (getD (now (b .entry)) at 0) ⌝ }
 {
+    place_table::place(places, history_numbers::field(b, at))
+}
+
+// Whether the places of n tuples' sites rise.
+fn rising(b: &[u8], n: usize, places: [u8; SITES_WIDE]) -> bool
+    requires { ⌜ n * unitSize ≤ length (now b) ⌝ }
+    ensures { λ r. ⌜ r ≡ risingOf (rank places) (map pairRead (chunks unitSize n (now (b .entry)))) ⌝ }
+{
+    let mut last = place_at(b, 0, places);
     let mut i = 1usize;
     while i < n {
-        let a = i * 8;
-        if b[a] <= b[a - 8] {
+        let next = place_at(b, i * 8, places);
+        if next <= last {
             return false;
         }
+        last = next;
         i += 1;
     }
     true
 }
 
-// Whether the site made a timestamp of these n tuples: the sites rise, and the last is its own.
-fn made_by(b: &[u8], n: usize, site: u32) -> bool
+// Whether the site made a timestamp of these n tuples: the places of the sites rise, and the last site is its own.
+fn made_by(b: &[u8], n: usize, site: u32, places: [u8; SITES_WIDE]) -> bool
     requires { ⌜ n * unitSize ≤ length (now b) ⌝ }
-    ensures { λ r. ⌜ r ≡ madeBy byNumber site (record { epoch = 0; tuples = map pairRead (chunks unitSize n (now (b .entry))) }) ⌝ }
+    ensures { λ r. ⌜ r ≡ madeBy (rank places) site (record { epoch = 0; tuples = map pairRead (chunks unitSize n (now (b .entry))) }) ⌝ }
 {
     if n == 0 {
         return false;
     }
-    if !rising(b, n) {
+    if !rising(b, n, places) {
         return false;
     }
     history_numbers::wide(b[n * 8 - 8]) == site
 }
 
 // Whether n tuples are those of a timestamp that the site made, their 00 bytes 0.
-pub fn tuples_fit(b: &[u8], n: usize, site: u32) -> bool
+pub fn tuples_fit(b: &[u8], n: usize, site: u32, places: [u8; SITES_WIDE]) -> bool
     requires { ⌜ n * unitSize ≤ length (now b) ⌝ }
-    ensures { λ r. ⌜ r ≡ tuplesFit site n (now (b .entry)) ⌝ }
+    ensures { λ r. ⌜ r ≡ tuplesFit (rank places) site n (now (b .entry)) ⌝ }
 {
     if !padded(b, n, 1) {
         return false;
     }
-    made_by(b, n, site)
+    made_by(b, n, site, places)
 }

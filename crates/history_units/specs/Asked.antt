@@ -1,11 +1,11 @@
 -- What a number asks that is written as one of a file's.
 use Prim.Native.Nat.{ℕ, _+_, _*_, _≤_}
-use Rattle.limits.specs.Limits.{recordsMost}
+use Rattle.limits.specs.Limits.{sitesMost, recordsMost}
 use Rattle.history_file.specs.File.{trailerSize}
 
--- the most bytes that a file has
+-- the most bytes that a file has: a table of places, records, and the trailer
 abbrev pub fileMost : ℕ
-fileMost = 136 * recordsMost + trailerSize
+fileMost = sitesMost + 136 * recordsMost + trailerSize
 
 -- a number of its bytes, or of less
 pub record InFile (n : ℕ) : Type 0 where

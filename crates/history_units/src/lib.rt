@@ -32,9 +32,9 @@ pub fn put_unit(b: &mut [u8], x: u32, y: u32, z: u32, n: u32)
 }
 
 // The trailer of a file.
-pub fn put_trailer(b: &mut [u8], count: u32, distance: u32, sites: u32, items: u32)
+pub fn put_trailer(b: &mut [u8], count: u32, distance: u32, sites: u32, items: u32, flag: u32)
     requires { ⌜ length (now b) ≡ trailerSize ⌝ }
-    ensures { λ r. ⌜ now (b .exit) ≡ trailer count distance sites items ⌝ }
+    ensures { λ r. ⌜ now (b .exit) ≡ trailer count distance sites items flag ⌝ }
 {
     let t = [
         MARK[0],
@@ -51,7 +51,7 @@ pub fn put_trailer(b: &mut [u8], count: u32, distance: u32, sites: u32, items: u
         low(distance / 256 / 256 / 256),
         low(sites),
         low(items),
-        0u8,
+        low(flag),
         0u8,
     ];
     bytes::copy(&t, b);

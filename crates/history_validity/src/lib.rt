@@ -1,8 +1,10 @@
 // Whether bytes start with a record: its size, its counts, its fields.
+use limits::SITES_WIDE;
 ghost use mathlib.Core.Path.{_≡_};
 ghost use mathlib.Core.Bool.{cond};
 ghost use Prim.Native.Nat.{_≤_};
 ghost use lib.ListN.{length, getD, drop};
+ghost use Rattle.timestamp_order.specs.Order.{rank};
 ghost use Rattle.history_file.specs.Reading.{sizeRead, recordValid, countsFit};
 ghost use Rattle.history_validity.specs.Asked.{Whole};
 ghost use Rattle.history_validity.specs.Fits.{fieldsFit};
@@ -44,9 +46,16 @@ fn counts_fit(tuples: usize, ops: usize) -> bool
 }
 
 // Whether every field of a record of t tuples and o operations is in range, and every 00 byte 0.
-fn fields_fit(b: &[u8], t: usize, o: usize, sites: u32, items: u32) -> bool
+fn fields_fit(
+    b: &[u8],
+    t: usize,
+    o: usize,
+    sites: u32,
+    items: u32,
+    places: [u8; SITES_WIDE],
+) -> bool
     requires { ⌜ Whole (now b) t o ⌝ }
-    ensures { λ r. ⌜ r ≡ fieldsFit sites items (now (b .entry)) ⌝ }
+    ensures { λ r. ⌜ r ≡ fieldsFit (rank places) sites items (now (b .entry)) ⌝ }
 {
     let a = 8 + 8 * t;
     let site = history_numbers::wide(b[0]);
@@ -56,15 +65,15 @@ fn fields_fit(b: &[u8], t: usize, o: usize, sites: u32, items: u32) -> bool
     if sites <= site {
         return false;
     }
-    if !history_tuple_validity::tuples_fit(&b[8..], t, site) {
+    if !history_tuple_validity::tuples_fit(&b[8..], t, site, places) {
         return false;
     }
     history_operation_validity::operations_fit(&b[a..], o, items)
 }
 
-// Whether the bytes start with a whole record of a group of that many sites and items.
-pub fn valid(b: &[u8], sites: u32, items: u32) -> bool
-    ensures { λ r. ⌜ r ≡ recordValid sites items (now (b .entry)) ⌝ }
+// Whether the bytes start with a whole record of a group of that many sites and items, its sites at these places.
+pub fn valid(b: &[u8], sites: u32, items: u32, places: [u8; SITES_WIDE]) -> bool
+    ensures { λ r. ⌜ r ≡ recordValid (rank places) sites items (now (b .entry)) ⌝ }
 {
     if b.len() < 8 {
         return false;
@@ -77,15 +86,15 @@ pub fn valid(b: &[u8], sites: u32, items: u32) -> bool
     if !counts_fit(t, o) {
         return false;
     }
-    fields_fit(b, t, o, sites, items)
+    fields_fit(b, t, o, sites, items, places)
 }
 
 // The size of the record that starts at a place, and 0 where there is none.
-pub fn step(b: &[u8], at: usize, sites: u32, items: u32) -> usize
+pub fn step(b: &[u8], at: usize, sites: u32, items: u32, places: [u8; SITES_WIDE]) -> usize
     requires { ⌜ at ≤ length (now b) ⌝ }
-    ensures { λ r. ⌜ r ≡ cond (recordValid sites items (drop at (now (b .entry)))) (sizeRead (drop at (now (b .entry)))) 0 ⌝ }
+    ensures { λ r. ⌜ r ≡ cond (recordValid (rank places) sites items (drop at (now (b .entry)))) (sizeRead (drop at (now (b .entry)))) 0 ⌝ }
 {
-    if valid(&b[at..], sites, items) {
+    if valid(&b[at..], sites, items, places) {
         return size(&b[at..]);
     }
     0

@@ -15,7 +15,7 @@ fn main() {
 
 // The buffer holds a full history: 256 records of 136 bytes and a trailer of 16. A refused export prints its number on standard error.
 fn save(state: &[u32; WORDS]) {
-    let mut file = [0u8; 34832];
+    let mut file = [0u8; 34840];
     let answer = history::export(state, &mut file);
     if answer.number != 0 {
         refused(answer.number);

@@ -1,4 +1,4 @@
-// A network of sites in one lent array of words: set-up, commit, dummy, epoch, deliver, schedule, waiting report, readers, the origin of a read; and what else is read of a state.
+// A network of sites in one lent array of words: set-up, commit, dummy, epoch, deliver, schedule, waiting report, readers, the order of the sites, the origin of a read; and what else is read of a state.
 pub use network_commit::commit;
 pub use network_deliver::deliver;
 pub use network_dummy::dummy;
@@ -8,6 +8,7 @@ pub use network_layout::Dummied;
 pub use network_layout::Entry;
 pub use network_layout::Lined;
 pub use network_layout::Operation;
+pub use network_layout::Ordered;
 pub use network_layout::Origin;
 pub use network_layout::Report;
 pub use network_layout::Scheduled;
@@ -16,6 +17,7 @@ pub use network_layout::Tabled;
 pub use network_layout::Totals;
 pub use network_layout::WORDS;
 pub use network_operations::commit_operations;
+pub use network_order::places;
 pub use network_origin::origin;
 pub use network_readers::line;
 pub use network_readers::stamp;

@@ -11,7 +11,6 @@ use borrow.Author.Tests.{ltb-true, le-leb, lt-leb}
 use Rattle.lists.proofs.Every.{and-true}
 use Rattle.timestamp_order.specs.Timestamp.{Stamp}
 use Rattle.timestamp.specs.declared.Timestamp.{Timestamp}
-use Rattle.timestamp_order.specs.Order.{order, isEarlier}
 use Rattle.limits.specs.Limits.{sitesMost, recordsMost}
 use Rattle.placement.specs.Placement.{isLine}
 use Rattle.messages.specs.Messages.{Message, commit, dummy, nameOf, ownStamp}
@@ -46,12 +45,10 @@ module _ (n : Network) (j p parent : ℕ) (b : Leading n j p parent) where
 
     -- both messages are compared
     module _ (low : parent < sitesMost) where
-      pub better-earlier : isEarlier (order (headStamp n p j) (headStamp n parent j)) ≡ true → Leading n j (p + 1) p
-      unfolding placeOf
+      pub better-earlier : headEarlier n j p parent ≡ true → Leading n j (p + 1) p
       better-earlier e = record { is = step p (sym (compared false true (lt-leb sitesMost parent low) e)); line = λ _. line }
 
-      pub better-not : isEarlier (order (headStamp n p j) (headStamp n parent j)) ≡ false → Leading n j (p + 1) parent
-      unfolding placeOf
+      pub better-not : headEarlier n j p parent ≡ false → Leading n j (p + 1) parent
       better-not e = record { is = step parent (sym (compared false false (lt-leb sitesMost parent low) e)); line = b .line }
 
 pub best-none : (n : Network) (j : ℕ) → Leading n j 0 sitesMost

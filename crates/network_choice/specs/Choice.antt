@@ -10,7 +10,7 @@ use Rattle.placement.specs.Placement.{isLine}
 use Rattle.protocol.specs.Network.{Network}
 use Rattle.protocol.specs.Steps.{scheduleNumber, headStamp, earliest}
 use Rattle.network_layout.specs.InWords.{networkIn}
-use Rattle.network_layout.specs.At.{AtNetwork}
+use Rattle.network_layout.specs.At.{AtNetwork, PlacesAre}
 use Rattle.network_schedule_causes.specs.Parents.{parentsMask}
 
 -- of the parents of j below k the earliest, and the timestamp of its oldest message
@@ -34,9 +34,10 @@ pub record ChoosingFrom (w : List ℕ) (p j : ℕ) : Type 0 where
   pub free : Choosing w j
   pub line : isLine (networkIn w .items) p j ≡ true
 
--- the same, a number p that may be a parent, and the best parent below it
-pub record Comparing (w : List ℕ) (mask p j parent : ℕ) : Type 0 where
+-- the same, a number p that may be a parent, the best parent below it, and the places of the sites
+pub record Comparing (w : List ℕ) (mask p j parent : ℕ) (places : List ℕ) : Type 0 where
   pub free : Choosing w j
   pub few : p < sitesMost
   pub parents : mask ≡ parentsMask (networkIn w .items) j
   pub best : Leading (networkIn w) j p parent
+  pub places-are : PlacesAre w places

@@ -1,4 +1,5 @@
 // Which message a schedule takes: of the parents' oldest messages the earliest.
+use limits::SITES_WIDE;
 use timestamp::Timestamp;
 ghost use mathlib.Core.Path.{_≡_};
 ghost use Prim.Native.Nat.{_+_};
@@ -20,10 +21,11 @@ pub fn chosen(state: &[u32], j: u32) -> Head
     ensures { λ r. ⌜ Best (networkIn (now (state .entry))) j sitesMost (r .parent) (r .stamp) ⌝ }
 {
     let mask = network_placement::parents(state, j);
+    let places = network_placement::places(state);
     let mut best = limits::SITES;
     let mut p = 0;
     while p < limits::SITES {
-        best = better(state, mask, p, j, best);
+        best = better(state, mask, p, j, best, places);
         p += 1;
     }
     Head {
@@ -33,8 +35,8 @@ pub fn chosen(state: &[u32], j: u32) -> Head
 }
 
 // The best of the parents below p, unless p is a parent and its message is earlier.
-fn better(state: &[u32], mask: u32, p: u32, j: u32, best: u32) -> u32
-    requires { ⌜ Comparing (now state) mask p j best ⌝ }
+fn better(state: &[u32], mask: u32, p: u32, j: u32, best: u32, places: [u8; SITES_WIDE]) -> u32
+    requires { ⌜ Comparing (now state) mask p j best places ⌝ }
     ensures { λ r. ⌜ Leading (networkIn (now (state .entry))) j (p + 1) r ⌝ }
 {
     if !placement::bit(mask, p) {
@@ -45,7 +47,7 @@ fn better(state: &[u32], mask: u32, p: u32, j: u32, best: u32) -> u32
     }
     let first = head_words(state, p, j);
     let second = head_words(state, best, j);
-    if timestamp_comparison::compare_words(first, second).is_earlier() {
+    if timestamp_comparison::compare_words(first, second, places).is_earlier() {
         return p;
     }
     best

@@ -14,17 +14,14 @@ use Rattle.lists.specs.Sorting.{sorted}
 use Rattle.lists.proofs.Chains.{Each, each-all, each-keep}
 use Rattle.lists.proofs.Some.{some-kept, none-kept}
 use Rattle.lists.proofs.First.{former, first-sorted}
-use Rattle.timestamp_order.specs.declared.Compared.{Compared}
 use Rattle.timestamp_order.specs.Timestamp.{Stamp}
-use Rattle.timestamp_order.specs.Order.{orderBy}
-use Rattle.timestamp_order.specs.Parting.{Compares}
 use Rattle.site_operations.specs.Operations.{Op, noOp, writes, writesItem, writtenItem, touches}
 use Rattle.messages.specs.Messages.{Message, commit, dummy, nameOf}
 use Rattle.record_codes.specs.Codes.{placesIn}
 use Rattle.records.specs.Records.{Record}
 use Rattle.records.specs.InWords.{recordIn}
 use Rattle.records.proofs.Laws.{op-at}
-use Rattle.protocol.specs.Network.{Network, noRecord, recordAt, noStamp, messageOps, messageStamp, placeOf}
+use Rattle.protocol.specs.Network.{Network, noRecord, recordAt, noStamp, messageOps, messageStamp}
 use Rattle.protocol.specs.Waiting.{into, carries, noLater, earliestWrite}
 use Rattle.protocol.proofs.Places.{timesAt}
 use Rattle.protocol.proofs.Times.{Times}
@@ -37,10 +34,6 @@ use Rattle.network_layout.proofs.Performs.{records-count}
 use Rattle.network_earliest_writes.specs.Noted.{stampAt, isSooner, sooner, noteItem, noteOps, noteMessage, noteMessages, earliestWriters, EarliestAre}
 
 -- ---- what the code has compared and tested
-pub compared : (n : Network) (j k : ℕ) (f : Compared) → Compares (stampAt n j) (stampAt n k) f → f .order ≡ orderBy (placeOf (n .items)) (stampAt n j) (stampAt n k)
-unfolding placeOf
-compared n j k f c = c .order-is
-
 pub few-made : (w : List ℕ) → AtState w → length (networkIn w .history) ≤ recordsMost
 unfolding partsOf
 few-made w at = omega (arith, records-count w, range-parts w (at .ranged) .few-records)

@@ -15,7 +15,7 @@ use Rattle.messages.specs.Messages.{Message, nameOf}
 use Rattle.protocol.specs.Network.{Network, nthRecord, messageOps, placeOf}
 use Rattle.protocol.specs.Waiting.{into, carries, earliestWrite}
 use Rattle.network_layout.specs.InWords.{networkIn}
-use Rattle.network_layout.specs.At.{AtState, HasRecord}
+use Rattle.network_layout.specs.At.{AtState, AtSite, AtLine, HasRecord, PlacesAre}
 
 -- ---- records are noted by their numbers; a number that no record has stands for none
 abbrev pub stampAt : Network → ℕ → Stamp
@@ -57,22 +57,35 @@ pub record EarliestAre (n : Network) (i : ℕ) (vs : List ℕ) : Type 0 where
   pub found : (x : ℕ) → x < itemsMost → any (carries n x) (into n i) ≡ ltb (getD vs x 0) (length (n .history))
   pub earliest : (x : ℕ) → x < itemsMost → getD vs x 0 < length (n .history) → stampAt n (getD vs x 0) ≡ earliestWrite n i x
 
--- ---- what is asked: record r of words in range
-pub record Noting (w : List ℕ) (r : ℕ) : Type 0 where
+-- ---- what is asked
+-- with them, a site of words in range
+pub record Finding (w places : List ℕ) (i : ℕ) : Type 0 where
+  pub at : AtSite w i
+  pub places-are : PlacesAre w places
+
+-- .. a line
+pub record Walking (w places : List ℕ) (k : ℕ) : Type 0 where
+  pub at : AtLine w k
+  pub places-are : PlacesAre w places
+
+-- .. a record
+pub record Noting (w places : List ℕ) (r : ℕ) : Type 0 where
   pub at : AtState w
   pub has : HasRecord w r
+  pub places-are : PlacesAre w places
 
 -- the last comparison of r is known: with which record, and whether r is earlier
 abbrev pub IsMet : List ℕ → ℕ → ℕ → Bool → Type 0
 IsMet w r k earlier = earlier ≡ isSooner (networkIn w) r k
 
 -- .. and another is to be made
-pub record Meeting (w : List ℕ) (r noted k : ℕ) (earlier : Bool) : Type 0 where
+pub record Meeting (w places : List ℕ) (r noted k : ℕ) (earlier : Bool) : Type 0 where
   pub has : HasRecord w r
   pub has-noted : HasRecord w noted
   pub met : IsMet w r k earlier
+  pub places-are : PlacesAre w places
 
 -- .. or an item is written
-pub record Writing (w : List ℕ) (r k : ℕ) (earlier : Bool) : Type 0 where
-  pub note : Noting w r
+pub record Writing (w places : List ℕ) (r k : ℕ) (earlier : Bool) : Type 0 where
+  pub note : Noting w places r
   pub met : IsMet w r k earlier

@@ -2,7 +2,7 @@
 use mathlib.Core.Path.{_≡_, refl, sym, ap, ap₂, subst, _∙_}
 use mathlib.Core.Bool.{Bool, true}
 use mathlib.Core.List.{List, [], _∷_, _++_, map, map-append}
-use Prim.Native.Nat.{ℕ, _+_, _-_, _*_, _≤_, _<_}
+use Prim.Native.Nat.{ℕ, _+_, _*_, _≤_, _<_}
 use native.Mathlib.Omega.{arith}
 use native.Mathlib.Numerals.{add-one}
 use native.Mathlib.Nat.{mul-le-mul-right}
@@ -138,9 +138,6 @@ thing meaning range w first m most n k inside few there =
 module _ (w : List ℕ) (size : length w ≡ stateSize) where
   pub lined-size : length (part w linesAt linesSize) ≡ linesSize
   lined-size = part-length w linesAt linesSize (omega arith)
-
-  pub housed-size : length (part w sitesAt sitesSize) ≡ sitesSize
-  housed-size = part-length w sitesAt sitesSize (omega arith)
 
   pub kept-size : length (part w historyAt historySize) ≡ historySize
   kept-size = part-length w historyAt historySize (omega arith)

@@ -8,12 +8,15 @@ use native.Mathlib.Omega.{arith}
 use lib.IntN.{ℤ}
 use lib.ListN.{length}
 use Rattle.limits.specs.Limits.{sitesMost, itemsMost}
+use Rattle.timestamp_order.specs.declared.Compared.{Compared}
 use Rattle.timestamp_order.specs.Timestamp.{Stamp}
-use Rattle.protocol.specs.Network.{Network, noStamp, lineNumber, wellShaped}
+use Rattle.timestamp_order.specs.Order.{rank, orderBy}
+use Rattle.timestamp_order.specs.Parting.{Compares}
+use Rattle.protocol.specs.Network.{Network, noStamp, lineNumber, placeOf, wellShaped}
 use Rattle.protocol.specs.Calls.{Call, Outcome, refused, judged, perform}
 use Rattle.network_layout.specs.InWords.{networkIn, inRange, shaped, meaning}
 use Rattle.network_layout.specs.Promises.{Performed}
-use Rattle.network_layout.specs.At.{AtState, AtSite, AtLine, HasRecord, AtNetwork}
+use Rattle.network_layout.specs.At.{AtState, AtSite, AtLine, PlacesAre, HasRecord, AtNetwork}
 use Rattle.network_layout.proofs.Assembled.{partsOf, range-parts}
 use Rattle.network_layout.proofs.Performs.{sites-count, items-count, records-count, shaped-range, shaped-well, number-shaped, performs-refused, performs-accepted, meaning-some}
 
@@ -87,3 +90,8 @@ module _ (call : Call) (at-none : perform none call ≡ refused 6 none) where
         (sym (ap (λ (x : Outcome). x .stamp) o))
         (sym (ap (λ (x : Outcome). x .values) o))
         (meaning-some v after ranged is well ∙ sym (ap (λ (x : Outcome). x .after) o))
+
+-- what a comparison by the places of the sites found is the order of the network's timestamps
+pub compared : (w places : List ℕ) → PlacesAre w places → {s t : Stamp} {f : Compared} → Compares (rank places) s t f → f .order ≡ orderBy (placeOf (networkIn w .items)) s t
+unfolding placeOf
+compared w places are {s = s} {t = t} c = c .order-is ∙ ap (λ (ps : List ℕ). orderBy (rank ps) s t) are

@@ -8,9 +8,10 @@ use Rattle.limits.specs.Limits.{sitesMost, itemsMost, opsMost, recordsMost}
 use Rattle.lists.specs.Lists.{every}
 use Rattle.site_operations.specs.Operations.{Op}
 use Rattle.records.specs.Records.{opFits}
+use Rattle.placement.specs.Places.{placesOf}
 use Rattle.protocol.specs.Network.{linesMost}
 use Rattle.network_layout.specs.Layout.{siteCount, itemCount, recordCount, stateSize}
-use Rattle.network_layout.specs.InWords.{inRange, shaped}
+use Rattle.network_layout.specs.InWords.{networkIn, inRange, shaped}
 
 -- ---- where the state is in range
 pub record AtState (w : List ℕ) : Type 0 where
@@ -27,6 +28,10 @@ pub record AtLine (w : List ℕ) (k : ℕ) : Type 0 where
   pub sized : length w ≡ stateSize
   pub ranged : inRange w ≡ true
   pub few : k < linesMost
+
+-- the places of the sites are those that the state's items give
+abbrev pub PlacesAre : List ℕ → List ℕ → Type 0
+PlacesAre w places = places ≡ placesOf (networkIn w .items)
 
 -- a record more, of n operations, which a record has room for
 pub record AtRoom (w : List ℕ) (n : ℕ) (os : List Op) : Type 0 where

@@ -67,6 +67,12 @@ pub enum Origin {
     Commit(u32),
 }
 
+// What the order of a network's sites answers: its number, and the place of each site, of a number that is no site that number; all zero where refused.
+pub struct Ordered {
+    pub number: u32,
+    pub places: [u8; SITES_WIDE],
+}
+
 // How many sites, items and records a state holds.
 pub struct Totals {
     pub sites: u32,

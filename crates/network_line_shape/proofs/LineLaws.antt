@@ -12,9 +12,10 @@ use Rattle.words.specs.Words.{part, chunks}
 use Rattle.lists.specs.Lists.{every, isEmpty}
 use Rattle.words.proofs.Chunks.{chunks-length, chunks-at}
 use Rattle.lists.proofs.Every.{and-true}
-use Rattle.timestamp_order.specs.Order.{byNumber}
+use Rattle.timestamp_order.specs.Order.{rank}
 use Rattle.timestamp_words.specs.InWords.{stampSize, stampShaped}
 use Rattle.placement.specs.Placement.{Item, isLine}
+use Rattle.placement.specs.Places.{placesOf}
 use Rattle.limits.specs.Limits.{sitesMost, heldMost, recordsMost}
 use Rattle.lines.specs.InWords.{boxesAt, boxesSize, boxesIn, lineIn, lineRange, lineCounted}
 use Rattle.messages.specs.InWords.{messageIn, messageRange, messageSize}
@@ -40,12 +41,12 @@ module _ (kept : List ℕ) (made p k : ℕ) where
       = ap (getD (historyIn kept made) k) no-record ∙ List·getD-map recordIn (chunks recordSize made kept) k [] ∙ ap recordIn (chunks-at recordSize made kept k h) in
       ap (λ (x : ℕ). eqb x p) (e ∙ sym (ap (λ (r : Record). r .site) there)) ∙ sym (rw (history-length kept made, lt-ltb k made h))
 
-module _ (w : List ℕ) (p : ℕ) (h : List Record) (name : ℕ) (is : name ≡ getD w 0 0) where
-  pub message-dummy : recordsMost ≤ name → (r : Bool) → r ≡ stampShaped p (part w 1 stampSize) → r ≡ messageTest h p w
+module _ (place : ℕ → ℕ) (w : List ℕ) (p : ℕ) (h : List Record) (name : ℕ) (is : name ≡ getD w 0 0) where
+  pub message-dummy : recordsMost ≤ name → (r : Bool) → r ≡ stampShaped place p (part w 1 stampSize) → r ≡ messageTest place h p w
   unfolding stampShaped
   message-dummy g r e = e ∙ sym (rw (← is, le-ltb name recordsMost g))
 
-  pub message-named : name < recordsMost → (r : Bool) → r ≡ commitTest h p name → r ≡ messageTest h p w
+  pub message-named : name < recordsMost → (r : Bool) → r ≡ commitTest h p name → r ≡ messageTest place h p w
   message-named g r e = e ∙ sym (rw (← is, lt-ltb name recordsMost g))
 
 -- ---- one line
@@ -89,13 +90,13 @@ module _ (xs : List Item) (h : List Record) (k : ℕ) (l : List ℕ) where
     held : length (map messageIn boxes) ≡ n
     held = length-map boxes messageIn ∙ chunks-length messageSize n (part l boxesAt boxesSize)
 
-    line-is : lineTest xs h k l ≡ ((isEmpty (map messageIn boxes) || isLine xs (k / sitesMost) (k % sitesMost)) && every (messageTest h (k / sitesMost)) boxes)
-    unfolding lineRange placeOf lineFits lineIn
+    line-is : lineTest xs h k l ≡ ((isEmpty (map messageIn boxes) || isLine xs (k / sitesMost) (k % sitesMost)) && every (messageTest (placeOf xs) h (k / sitesMost)) boxes)
+    unfolding lineRange lineFits lineIn
     line-is =
         let same : n ≡ getD l 0 0 = counted-held fine n is in
         let few : n ≤ heldMost = omega (arith, held-few fine .0) in
         let arrived : getD l 1 0 ≤ n = omega (arith, held-few fine .1) in
-        let fits = messageFits byNumber h (k / sitesMost) in
+        let fits = messageFits (placeOf xs) h (k / sitesMost) in
         rw (
           ← same,
           le-leb n heldMost few,
@@ -113,14 +114,18 @@ module _ (xs : List Item) (h : List Record) (k : ℕ) (l : List ℕ) where
         sym (line-is ∙ rw none)
 
     module _ (some : n ≡ 0 → ⊥) where
-      line-by : lineTest xs h k l ≡ (isLine xs (k / sitesMost) (k % sitesMost) && every (messageTest h (k / sitesMost)) boxes)
+      line-by : lineTest xs h k l ≡ (isLine xs (k / sitesMost) (k % sitesMost) && every (messageTest (placeOf xs) h (k / sitesMost)) boxes)
       line-by = line-is ∙ rw (some-held (map messageIn boxes) (omega (arith, held, some)))
 
       pub line-unplaced : isLine xs (k / sitesMost) (k % sitesMost) ≡ false → false ≡ lineTest xs h k l
-      line-unplaced f = sym (line-by ∙ ap (λ (b : Bool). b && every (messageTest h (k / sitesMost)) boxes) f)
+      line-unplaced f = sym (line-by ∙ ap (λ (b : Bool). b && every (messageTest (placeOf xs) h (k / sitesMost)) boxes) f)
 
-      pub line-by-messages : isLine xs (k / sitesMost) (k % sitesMost) ≡ true → (t : Bool) → t ≡ every (messageTest h (k / sitesMost)) boxes → t ≡ lineTest xs h k l
-      line-by-messages f t g = sym (line-by ∙ ap (λ (b : Bool). b && every (messageTest h (k / sitesMost)) boxes) f ∙ sym g)
+      pub line-by-messages : isLine xs (k / sitesMost) (k % sitesMost) ≡ true → (places : List ℕ) → places ≡ placesOf xs → (t : Bool) → t ≡ every (messageTest (rank places) h (k / sitesMost)) boxes → t ≡ lineTest xs h k l
+      unfolding placeOf
+      line-by-messages f places e t g =
+          g
+          ∙ ap (λ (ps : List ℕ). every (messageTest (rank ps) h (k / sitesMost)) boxes) e
+          ∙ sym (line-by ∙ ap (λ (b : Bool). b && every (messageTest (placeOf xs) h (k / sitesMost)) boxes) f)
 
   -- one that holds nothing
   none-counted : getD l 0 0 ≡ 0 → getD l 1 0 ≡ 0 → lineCounted l ≡ true

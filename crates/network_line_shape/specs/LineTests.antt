@@ -8,9 +8,9 @@ use lib.Dec.{eqb, ltb}
 use Rattle.words.specs.Words.{chunks}
 use Rattle.limits.specs.Limits.{heldMost, recordsMost}
 use Rattle.placement.specs.Placement.{Item, LineBits}
+use Rattle.placement.specs.Places.{placesOf}
 use Rattle.lines.specs.InWords.{lineIn, lineRange, lineSize}
 use Rattle.messages.specs.InWords.{messageIn, messageRange, messageSize}
-use Rattle.timestamp_order.specs.Order.{byNumber}
 use Rattle.records.specs.Records.{Record}
 use Rattle.records.specs.InWords.{recordIn, recordSize}
 use Rattle.protocol.specs.Network.{linesMost, noRecord, messageFits, lineFits}
@@ -24,15 +24,15 @@ historyIn kept made = map recordIn (chunks recordSize made kept)
 abbrev pub commitTest : List Record → ℕ → ℕ → Bool
 commitTest h p k = ltb k (length h) && eqb (getD h k noRecord .site) p
 
-abbrev pub messageTest : List Record → ℕ → List ℕ → Bool
-messageTest h p x = messageRange x && messageFits byNumber h p (messageIn x)
+abbrev pub messageTest : (ℕ → ℕ) → List Record → ℕ → List ℕ → Bool
+messageTest place h p x = messageRange x && messageFits place h p (messageIn x)
 
 abbrev pub lineTest : List Item → List Record → ℕ → List ℕ → Bool
 lineTest xs h k x = lineRange x && lineFits xs h k (lineIn x)
 
--- the test of a line by the bits of all lines: that of every placement that gives these
-abbrev pub LineTested : ℕ → List Record → ℕ → List ℕ → Bool → Type 0
-LineTested given h k x r = (xs : List Item) → LineBits xs given → r ≡ lineTest xs h k x
+-- the test of a line by the bits of all lines and the places of the sites: that of every placement that gives these
+abbrev pub LineTested : ℕ → List ℕ → List Record → ℕ → List ℕ → Bool → Type 0
+LineTested given places h k x r = (xs : List Item) → LineBits xs given → places ≡ placesOf xs → r ≡ lineTest xs h k x
 
 -- ---- what the functions ask
 -- places of `one` words each, as many as `most`, of which the first n are used

@@ -10,6 +10,7 @@ ghost use Rattle.limits.specs.Limits.{sitesMost};
 ghost use Rattle.words.specs.Words.{part};
 ghost use Rattle.placement.specs.Masks.{maskOf, Names};
 ghost use Rattle.placement.specs.Placement.{noItem, isLine, hasParents, owns, copies};
+ghost use Rattle.placement.specs.Places.{placesOf};
 ghost use Rattle.site_operations.specs.InWords.{opAt, opsIn};
 ghost use Rattle.protocol.specs.Steps.{noSuchSite, wantedAt, due as dueOf};
 ghost use Rattle.network_layout.specs.Layout.{stateSize, siteCount, itemCount, itemsAt, itemsSize};
@@ -74,6 +75,14 @@ pub fn parents(state: &[u32], c: u32) -> u32
     ensures { λ r. ⌜ r ≡ maskOf (λ p. isLine (networkIn (now (state .entry)) .items) p c) sitesMost ⌝ }
 {
     placement_lines::parents(placed(state), words::wide(item_count(state)), c)
+}
+
+// The place of each site in the order that the items give.
+pub fn places(state: &[u32]) -> [u8; limits::SITES_WIDE]
+    requires { ⌜ AtState (now state) ⌝ }
+    ensures { λ r. ⌜ r ≡ placesOf (networkIn (now (state .entry)) .items) ⌝ }
+{
+    placement_order::places(placed(state), words::wide(item_count(state)))
 }
 
 // Whether an item has its primary at site i.

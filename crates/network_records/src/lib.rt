@@ -1,4 +1,5 @@
 // The records of a state by their numbers.
+use limits::SITES_WIDE;
 use network_layout::HISTORY;
 use network_layout::RECORD;
 use network_layout::RECORD_COUNT;
@@ -11,6 +12,7 @@ ghost use mathlib.Core.Path.{_≡_};
 ghost use Prim.Native.Nat.{min, _≤_};
 ghost use lib.ListN.{length, take};
 ghost use Rattle.timestamp.specs.Value.{stampOf, PlainValue};
+ghost use Rattle.timestamp_order.specs.Order.{rank};
 ghost use Rattle.timestamp_order.specs.Parting.{Compares};
 ghost use Rattle.timestamp_words.specs.InWords.{stampIn, stampSize};
 ghost use Rattle.site_operations.specs.Operations.{touches};
@@ -58,12 +60,12 @@ pub fn stamp_at(state: &[u32], k: usize) -> &[u32]
     &w[STAMP..CODES]
 }
 
-// The timestamps of two records, compared where they lie.
-pub fn compare_records(state: &[u32], j: usize, k: usize) -> Compared
+// The timestamps of two records, compared where they lie, by the places of the sites.
+pub fn compare_records(state: &[u32], j: usize, k: usize, places: [u8; SITES_WIDE]) -> Compared
     requires { ⌜ HasRecords (now state) j k ⌝ }
-    ensures { λ r. ⌜ Compares (nthRecord (networkIn (now (state .entry))) j .stamp) (nthRecord (networkIn (now (state .entry))) k .stamp) r ⌝ }
+    ensures { λ r. ⌜ Compares (rank places) (nthRecord (networkIn (now (state .entry))) j .stamp) (nthRecord (networkIn (now (state .entry))) k .stamp) r ⌝ }
 {
-    timestamp_comparison::compare_words(stamp_at(state, j), stamp_at(state, k))
+    timestamp_comparison::compare_words(stamp_at(state, j), stamp_at(state, k), places)
 }
 
 pub fn record_stamp(state: &[u32], k: usize) -> Timestamp

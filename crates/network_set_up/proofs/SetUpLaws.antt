@@ -10,7 +10,7 @@ use borrow.Author.Tests.{ltb-false, eqb-true, not-false, eq-eqb, ne-eqb}
 use Rattle.limits.specs.Limits.{itemsMost, sitesMost}
 use Rattle.lists.specs.Numbers.{numberIf, firstNumber, outside}
 use Rattle.lists.proofs.Numbers.{first-some, first-none, none-holds, or-false}
-use Rattle.placement.specs.Placement.{itemsNumber}
+use Rattle.placement.specs.Places.{placementNumber}
 use Rattle.placement.specs.InWords.{itemsIn}
 use Rattle.protocol.specs.Network.{noStamp}
 use Rattle.protocol.specs.Steps.{wrongItems, itemsOf, setUpNumber, setUpNetwork}
@@ -23,7 +23,7 @@ use Rattle.network_layout.specs.Promises.{Performed}
 use Rattle.network_layout.proofs.Performs.{meaning-some}
 use Rattle.network_new.specs.New.{newNetwork, Begun, LayingOut}
 use Rattle.network_set_up_counts.specs.Counts.{countsNumber}
-use Rattle.network_set_up_counts.proofs.CountLaws.{single}
+use Rattle.causes.proofs.Single.{single}
 use Rattle.network_set_up.specs.SetUp.{Paired}
 
 -- ---- the number
@@ -37,12 +37,12 @@ module _ (sites items : ℕ) (ps ms : List ℕ) where
   abbrev counts : ℕ
   counts = countsNumber sites items (length ps) (length ms)
 
-  number-is : setUpNumber sites items ps ms ≡ firstNumber (counts ∷ (itemsNumber sites (itemsOf ps ms) ∷ []))
+  number-is : setUpNumber sites items ps ms ≡ firstNumber (counts ∷ (placementNumber sites (itemsOf ps ms) ∷ []))
   unfolding setUpNumber
-  number-is = of-three (outside 1 sitesMost sites) (wrongItems items (length ps) (length ms)) (itemsNumber sites (itemsOf ps ms))
+  number-is = of-three (outside 1 sitesMost sites) (wrongItems items (length ps) (length ms)) (placementNumber sites (itemsOf ps ms))
 
   pub counts-refused : (r : ℕ) → r ≡ counts → (r ≡ 0 → ⊥) → r ≡ setUpNumber sites items ps ms
-  counts-refused r e h = e ∙ sym (number-is ∙ first-some counts (itemsNumber sites (itemsOf ps ms) ∷ []) (λ z. h (e ∙ z)))
+  counts-refused r e h = e ∙ sym (number-is ∙ first-some counts (placementNumber sites (itemsOf ps ms) ∷ []) (λ z. h (e ∙ z)))
 
   -- the counts give no cause
   module _ (r : ℕ) (is : r ≡ counts) (none : r ≡ 0) where
@@ -58,13 +58,13 @@ module _ (sites items : ℕ) (ps ms : List ℕ) where
         record { few = omega (arith, most, primaries); same = primaries ∙ sym (eqb-true (length ms) items (not-false (eqb (length ms) items) (l .1))) }
 
     -- the number is that of the placement, as the code asks for it
-    pub placed-number : (w : List ℕ) → itemsIn (length ps) w ≡ itemsOf ps ms → (k : ℕ) → k ≡ itemsNumber sites (itemsIn (min (length ps) itemsMost) w) → k ≡ setUpNumber sites items ps ms
+    pub placed-number : (w : List ℕ) → itemsIn (length ps) w ≡ itemsOf ps ms → (k : ℕ) → k ≡ placementNumber sites (itemsIn (min (length ps) itemsMost) w) → k ≡ setUpNumber sites items ps ms
     placed-number w e k f =
         let all : min (length ps) itemsMost ≡ length ps = omega (arith, paired .few) in
         f
-        ∙ ap (λ (n : ℕ). itemsNumber sites (itemsIn n w)) all
-        ∙ ap (itemsNumber sites) e
-        ∙ sym (number-is ∙ first-none counts (itemsNumber sites (itemsOf ps ms) ∷ []) (sym is ∙ none) ∙ single (itemsNumber sites (itemsOf ps ms)))
+        ∙ ap (λ (n : ℕ). placementNumber sites (itemsIn n w)) all
+        ∙ ap (placementNumber sites) e
+        ∙ sym (number-is ∙ first-none counts (placementNumber sites (itemsOf ps ms) ∷ []) (sym is ∙ none) ∙ single (placementNumber sites (itemsOf ps ms)))
 
 -- ---- the call
 outcome-is : (call : Call) (w v : List ℕ) (o : Outcome) → perform (meaning w) call ≡ o → meaning v ≡ o .after → ((o .number ≡ 0 → ⊥) → v ≡ w)

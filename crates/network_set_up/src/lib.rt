@@ -26,7 +26,7 @@ pub fn set_up(
     set_up_in(state, sites, items, primaries, masks)
 }
 
-// It tests the causes in the order of their numbers: the sites, the lists, then item by item.
+// It tests the causes in the order of their numbers: the sites, the lists, then item by item, then the lines for a cycle.
 fn set_up_in(state: &mut [u32], sites: u32, items: u32, primaries: &[u32], masks: &[u8]) -> u32
     requires { ⌜ length (now state) ≡ stateSize ⌝ }
     ensures { λ r. ⌜ Performed (setUpCall sites items (now (primaries .entry)) (now (masks .entry))) (now (state .entry)) (now (state .exit)) r 0 noStamp [] ⌝ }
@@ -36,7 +36,7 @@ fn set_up_in(state: &mut [u32], sites: u32, items: u32, primaries: &[u32], masks
         return cause;
     }
     let placed = item_words(primaries, masks);
-    let number = placement::number(sites, &placed, primaries.len());
+    let number = placement_order::number(sites, &placed, primaries.len());
     if number != 0 {
         return number;
     }

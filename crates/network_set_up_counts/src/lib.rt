@@ -1,7 +1,8 @@
 // What a set-up's counts give: the number of the first cause that they are refused for.
+use causes::first;
+use causes::number_if;
 ghost use mathlib.Core.Path.{_≡_};
-ghost use mathlib.Core.List.{[], _∷_};
-ghost use Rattle.lists.specs.Numbers.{numberIf, firstNumber, outside as outsideOf};
+ghost use Rattle.lists.specs.Numbers.{outside as outsideOf};
 ghost use Rattle.protocol.specs.Steps.{wrongItems};
 ghost use Rattle.network_set_up_counts.specs.Counts.{countsNumber};
 
@@ -12,26 +13,6 @@ pub fn counts_number(sites: u32, items: u32, primaries: usize, masks: usize) -> 
     let few = number_if(outside(1, limits::SITES, sites), 1);
     let each = number_if(items_wrong(items, primaries, masks), 2);
     first(few, each)
-}
-
-// The number of a cause that holds, and 0 of any other.
-fn number_if(holds: bool, number: u32) -> u32
-    ensures { λ r. ⌜ r ≡ numberIf holds number ⌝ }
-{
-    if holds {
-        return number;
-    }
-    0
-}
-
-// The first of two numbers that is not 0.
-fn first(a: u32, b: u32) -> u32
-    ensures { λ r. ⌜ r ≡ firstNumber (a ∷ (b ∷ [])) ⌝ }
-{
-    if a != 0 {
-        return a;
-    }
-    b
 }
 
 fn outside(low: u32, high: u32, k: u32) -> bool

@@ -1,25 +1,29 @@
 -- The test for shape: what each part of it says of the network.
 use mathlib.Core.Path.{_≡_, refl, sym, ap, ap₂, subst, _∙_}
-use mathlib.Core.Bool.{Bool, true, false, _&&_, and-comm}
-use mathlib.Core.List.{List, map}
+use mathlib.Core.Bool.{Bool, true, false, not, _&&_, and-comm}
+use mathlib.Core.List.{List, [], _∷_, map}
 use Prim.Native.Nat.{ℕ, zero, suc, _+_, _-_, _*_, _≤_, _<_, min}
 use native.Mathlib.Omega.{arith}
 use lib.ListN.{length, length-map}
 use lib.Dec.{leb, eqb, ltb}
 use borrow.Author.Tests.{leb-true, ltb-true, ltb-false, eq-eqb, eqb-true}
 use Rattle.words.specs.Words.{part, chunks}
-use Rattle.lists.specs.Lists.{every, everyFrom}
+use Rattle.lists.specs.Lists.{any, every, everyFrom}
+use Rattle.lists.specs.Numbers.{firstNumber, numberIf}
 use Rattle.words.proofs.Chunks.{chunks-length}
 use Rattle.lists.proofs.Every.{and-true}
 use Rattle.timestamp_order.specs.Timestamp.{Stamp}
-use Rattle.timestamp_order.specs.Order.{byNumber}
+use Rattle.timestamp_order.specs.Order.{rank}
 use Rattle.timestamp_words.specs.InWords.{stampRange, stampShaped}
 use Rattle.timestamp_order.specs.Made.{madeBy}
 use Rattle.site.specs.Site.{Site}
 use Rattle.site.specs.InWords.{siteIn, siteRange, siteSize}
 use Rattle.site.proofs.Laws.{stamp-law}
 use Rattle.placement.specs.Placement.{Item, itemsNumber, LineBits}
+use Rattle.placement.specs.Places.{cyclic, placementNumber}
 use Rattle.placement.specs.InWords.{itemSize, itemIn, itemsIn}
+use Rattle.placement_order.specs.Tables.{placesBy}
+use Rattle.placement_order.proofs.Lines.{places-ordered}
 use Rattle.limits.specs.Limits.{itemsMost, sitesMost, recordsMost}
 use Rattle.lines.specs.InWords.{lineIn, lineSize, lineRange}
 use Rattle.records.specs.Records.{Record, recordFits}
@@ -31,14 +35,11 @@ use Rattle.network_counts.specs.Counts.{countsFit}
 use Rattle.network_line_shape.specs.LineTests.{lineTest, historyIn}
 use Rattle.network_line_shape.proofs.Walk.{Passed, walk-next, and-swap, and-pairs, from-both, every-both}
 use Rattle.network_line_shape.proofs.LineLaws.{line-empty}
-use Rattle.network_shape.specs.Tested.{recordTest, placedIn, groupShaped, historyShaped, linesShaped, Counted, idle, Skipped}
+use Rattle.network_shape.specs.Tested.{recordTest, placedIn, groupShaped, sitesShaped, historyShaped, linesShaped, rankedShaped, Counted, Ranked, idle, Skipped}
 
 -- a record's test asks for its size too, and a chunk has it
-pub record-sized : (sites items : ℕ) (x : List ℕ) → length x ≡ recordSize → (r : Bool) → r ≡ (eqb (length x) recordSize && recordTest sites items x) → r ≡ recordTest sites items x
-record-sized sites items x size r e = e ∙ ap (λ (b : Bool). b && recordTest sites items x) (eq-eqb (length x) recordSize size)
-
-pub placed-lines : (items : ℕ) → items ≤ itemsMost → (placed : List ℕ) (m : ℕ) → LineBits (itemsIn (min items itemsMost) placed) m → LineBits (itemsIn items placed) m
-placed-lines items few placed m bits = let all : min items itemsMost ≡ items = omega arith in subst (λ (n : ℕ). LineBits (itemsIn n placed) m) all bits
+pub record-sized : (place : ℕ → ℕ) (sites items : ℕ) (x : List ℕ) → length x ≡ recordSize → (r : Bool) → r ≡ (eqb (length x) recordSize && recordTest place sites items x) → r ≡ recordTest place sites items x
+record-sized place sites items x size r e = e ∙ ap (λ (b : Bool). b && recordTest place sites items x) (eq-eqb (length x) recordSize size)
 
 -- idle lines are passed over
 pub skip-none : (w : List ℕ) (k : ℕ) → k ≤ linesMost → Skipped w k k
@@ -76,22 +77,36 @@ and-assoc : (a b c : Bool) → (a && (b && c)) ≡ ((a && b) && c)
 and-assoc true b c = refl
 and-assoc false b c = refl
 
-and-whole : (a b c d e s l r p s′ r′ l′ : Bool) → ((a && (b && (c && (d && (e && (s && (l && r))))))) && (p && (s′ && (r′ && l′))))
-    ≡ (((a && (b && (c && (d && e)))) && (p && (s && s′))) && ((r && r′) && (l && l′)))
-and-whole true true true true true s l r p s′ r′ l′ =
-    and-swap (s && (l && r)) p (s′ && (r′ && l′))
+and-whole : (a b c d e s l r p q s′ r′ l′ : Bool) → ((a && (b && (c && (d && (e && (s && (l && r))))))) && ((p && q) && (s′ && (r′ && l′))))
+    ≡ (((a && (b && (c && (d && e)))) && p) && (q && ((s && s′) && ((r && r′) && (l && l′)))))
+and-whole true true true true true s l r p q s′ r′ l′ =
+    let ranges = s && (l && r) in
+    let rest = s′ && (r′ && l′) in
+    ap (λ (x : Bool). ranges && x) (sym (and-assoc p q rest))
+    ∙ and-swap ranges p (q && rest)
     ∙ ap (λ (x : Bool). p && x)
-    (and-pairs s (l && r) s′ (r′ && l′) ∙ ap (λ (x : Bool). (s && s′) && x) (ap (λ (x : Bool). x && (r′ && l′)) (and-comm l r) ∙ and-pairs r l r′ l′))
-    ∙ and-assoc p (s && s′) ((r && r′) && (l && l′))
-and-whole true true true true false s l r p s′ r′ l′ = refl
-and-whole true true true false e s l r p s′ r′ l′ = refl
-and-whole true true false d e s l r p s′ r′ l′ = refl
-and-whole true false c d e s l r p s′ r′ l′ = refl
-and-whole false b c d e s l r p s′ r′ l′ = refl
+    (and-swap ranges q rest
+    ∙ ap (λ (x : Bool). q && x)
+    (and-pairs s (l && r) s′ (r′ && l′) ∙ ap (λ (x : Bool). (s && s′) && x) (ap (λ (x : Bool). x && (r′ && l′)) (and-comm l r) ∙ and-pairs r l r′ l′)))
+and-whole true true true true false s l r p q s′ r′ l′ = refl
+and-whole true true true false e s l r p q s′ r′ l′ = refl
+and-whole true true false d e s l r p q s′ r′ l′ = refl
+and-whole true false c d e s l r p q s′ r′ l′ = refl
+and-whole false b c d e s l r p q s′ r′ l′ = refl
 
-site-test : (i : ℕ) (x : List ℕ) → stampShaped i x ≡ (siteRange x && madeBy byNumber i (siteIn x .stamp))
+site-test : (place : ℕ → ℕ) (i : ℕ) (x : List ℕ) → stampShaped place i x ≡ (siteRange x && madeBy place i (siteIn x .stamp))
 unfolding stampShaped siteRange
-site-test i x = ap (λ (s : Stamp). stampRange x && madeBy byNumber i s) (stamp-law x)
+site-test place i x = ap (λ (s : Stamp). stampRange x && madeBy place i s) (stamp-law x)
+
+-- a placement is refused for an item or for a cycle
+placement-test : (sites : ℕ) (xs : List Item) → eqb (placementNumber sites xs) 0 ≡ (eqb (itemsNumber sites xs) 0 && not (cyclic xs))
+unfolding placementNumber
+placement-test sites xs = go (eqb (itemsNumber sites xs) 0) refl (cyclic xs) refl
+  where
+    go : (b : Bool) → eqb (itemsNumber sites xs) 0 ≡ b → (c : Bool) → cyclic xs ≡ c → eqb (firstNumber (itemsNumber sites xs ∷ numberIf (cyclic xs) 5 ∷ [])) 0 ≡ (eqb (itemsNumber sites xs) 0 && not (cyclic xs))
+    go true e true f = simp (e, f)
+    go true e false f = simp (e, f)
+    go false e c f = simp (e)
 
 module _ (w : List ℕ) where
   abbrev history : List Record
@@ -100,14 +115,18 @@ module _ (w : List ℕ) where
   abbrev counts : Bool
   counts = countsFit (siteCount w) (itemCount w) (recordCount w)
 
-  shape-is : shaped w ≡ (groupShaped w && (historyShaped w && linesShaped w))
-  unfolding shaped inRange placeOf wellShaped networkIn groupShaped historyShaped linesShaped
+  abbrev place : ℕ → ℕ
+  place = placeOf (placedIn w)
+
+  shape-is : shaped w ≡ (groupShaped w && (not (cyclic (placedIn w)) && rankedShaped place w))
+  unfolding shaped inRange wellShaped networkIn groupShaped sitesShaped historyShaped linesShaped
   shape-is =
       rw (
         length-map (siteWords w) siteIn ∙ chunks-length siteSize (siteCount w) (part w sitesAt sitesSize),
         length-map (chunks itemSize (itemCount w) (part w itemsAt itemsSize)) itemIn ∙ chunks-length itemSize (itemCount w) (part w itemsAt itemsSize),
-        from-both siteRange siteIn (λ (i : ℕ) (s : Site). madeBy byNumber i (s .stamp)) stampShaped site-test 0 (siteWords w),
-        every-both recordRange recordIn (recordFits byNumber (siteCount w) (itemCount w)) (recordWords w),
+        placement-test (siteCount w) (placedIn w),
+        from-both siteRange siteIn (λ (i : ℕ) (s : Site). madeBy place i (s .stamp)) (stampShaped place) (site-test place) 0 (siteWords w),
+        every-both recordRange recordIn (recordFits place (siteCount w) (itemCount w)) (recordWords w),
         from-both lineRange lineIn (lineFits (placedIn w) history) (lineTest (placedIn w) history) (λ _ _. refl) 0 (lineWords w),
       )
       (and-whole
@@ -120,8 +139,9 @@ module _ (w : List ℕ) where
       (every lineRange (lineWords w))
       (every recordRange (recordWords w))
       (eqb (itemsNumber (siteCount w) (placedIn w)) 0)
-      (everyFrom (λ (i : ℕ) (s : Site). madeBy byNumber i (s .stamp)) 0 (map siteIn (siteWords w)))
-      (every (recordFits byNumber (siteCount w) (itemCount w)) history)
+      (not (cyclic (placedIn w)))
+      (everyFrom (λ (i : ℕ) (s : Site). madeBy place i (s .stamp)) 0 (map siteIn (siteWords w)))
+      (every (recordFits place (siteCount w) (itemCount w)) history)
       (everyFrom (lineFits (placedIn w) history) 0 (map lineIn (lineWords w))))
 
   all-counted : length w ≡ stateSize → counts ≡ true → Counted w
@@ -138,50 +158,71 @@ module _ (w : List ℕ) where
       }
 
   pub shape-no-group : groupShaped w ≡ false → false ≡ shaped w
-  shape-no-group f = sym (shape-is ∙ ap (λ (b : Bool). b && (historyShaped w && linesShaped w)) f)
+  shape-no-group f = sym (shape-is ∙ ap (λ (b : Bool). b && (not (cyclic (placedIn w)) && rankedShaped place w)) f)
 
-  module _ (group : groupShaped w ≡ true) where
-    by-group : shaped w ≡ (historyShaped w && linesShaped w)
-    by-group = shape-is ∙ ap (λ (b : Bool). b && (historyShaped w && linesShaped w)) group
+  module _ (size : length w ≡ stateSize) (group : groupShaped w ≡ true) where
+    by-group : shaped w ≡ (not (cyclic (placedIn w)) && rankedShaped place w)
+    by-group = shape-is ∙ ap (λ (b : Bool). b && (not (cyclic (placedIn w)) && rankedShaped place w)) group
 
-    pub shape-no-history : historyShaped w ≡ false → false ≡ shaped w
-    shape-no-history f = sym (by-group ∙ ap (λ (b : Bool). b && linesShaped w) f)
-
-    pub shape-by-lines : historyShaped w ≡ true → linesShaped w ≡ shaped w
-    shape-by-lines t = sym (by-group ∙ ap (λ (b : Bool). b && linesShaped w) t)
-
-    pub counted : length w ≡ stateSize → Counted w
+    pub counted : Counted w
     unfolding groupShaped
-    counted size = all-counted size (and-true counts _ group .0)
+    counted = all-counted size (and-true counts _ group .0)
 
-  -- ---- the counts, the placement and the sites
+    -- the lines and the places as the code works them out
+    module _ (items : ℕ) (items-are : items ≡ itemCount w) (placed : List ℕ) (placed-is : placed ≡ part w itemsAt itemsSize) (given : ℕ) (lines-are : LineBits (itemsIn (min items itemsMost) placed) given)
+        (places : List ℕ) (found : places ≡ placesBy given) where
+      pub ranked : Ranked w given places
+      ranked =
+          let all : min items itemsMost ≡ itemCount w = omega (arith, counted .few-items) in
+          let bits : LineBits (placedIn w) given = subst (λ (xs : List Item). LineBits xs given) (ap₂ (λ (k : ℕ) (x : List ℕ). itemsIn k x) all placed-is) lines-are in
+          record { counted = counted; given-are = bits; places-are = found ∙ places-ordered (placedIn w) given bits }
+
+      cyclic-is : any (λ q. eqb q sitesMost) places ≡ cyclic (placedIn w)
+      unfolding cyclic
+      cyclic-is = ap (any (λ q. eqb q sitesMost)) (ranked .places-are)
+
+      pub shape-cyclic : any (λ q. eqb q sitesMost) places ≡ true → false ≡ shaped w
+      shape-cyclic c = sym (by-group ∙ ap (λ (b : Bool). not b && rankedShaped place w) (sym cyclic-is ∙ c))
+
+      pub shape-ranked : any (λ q. eqb q sitesMost) places ≡ false → rankedShaped (rank places) w ≡ shaped w
+      unfolding placeOf
+      shape-ranked c =
+          ap (λ (ps : List ℕ). rankedShaped (rank ps) w) (ranked .places-are)
+          ∙ sym (by-group ∙ ap (λ (b : Bool). not b && rankedShaped place w) (sym cyclic-is ∙ c))
+
+  -- ---- the counts and the placement
   module _ (size : length w ≡ stateSize) (fit : Bool) (fit-is : fit ≡ counts) where
     pub group-uncounted : fit ≡ false → false ≡ groupShaped w
     unfolding groupShaped
     group-uncounted f = sym (rw (sym fit-is ∙ f))
 
-    module _ (all : fit ≡ true) where
-      pub few-counts : Counted w
-      few-counts = all-counted size (sym fit-is ∙ all)
+    pub group-by-items : fit ≡ true → (items : ℕ) → items ≡ itemCount w → (placed : List ℕ) → placed ≡ part w itemsAt itemsSize → (number : ℕ) → number ≡ itemsNumber (siteCount w) (itemsIn (min items itemsMost) placed) → eqb number 0 ≡ groupShaped w
+    unfolding groupShaped
+    group-by-items t items is placed placed-is number e =
+        let few = all-counted size (sym fit-is ∙ t) .few-items in
+        let all : min items itemsMost ≡ itemCount w = omega arith in
+        ap (λ (k : ℕ). eqb k 0) (e ∙ ap₂ (λ (k : ℕ) (x : List ℕ). itemsNumber (siteCount w) (itemsIn k x)) all placed-is) ∙ sym (rw (sym fit-is ∙ t))
 
-      module _ (items : ℕ) (items-are : items ≡ itemCount w) (fits : Bool) (fits-is : fits ≡ eqb (itemsNumber (siteCount w) (itemsIn (min items itemsMost) (part w itemsAt itemsSize))) 0) where
-        by-placement : groupShaped w ≡ (fits && everyFrom stampShaped 0 (siteWords w))
-        unfolding groupShaped
-        by-placement =
-            let m : itemCount w ≡ min items itemsMost = omega (arith, few-counts .few-items) in
-            rw (sym fit-is ∙ all, ap (λ (k : ℕ). eqb (itemsNumber (siteCount w) (itemsIn k (part w itemsAt itemsSize))) 0) m ∙ sym fits-is)
+  -- ---- the sites, the history and the lines, one after another
+  module _ (place : ℕ → ℕ) where
+    pub sites-unfit : sitesShaped place w ≡ false → false ≡ rankedShaped place w
+    sites-unfit f = sym (ap (λ (b : Bool). b && (historyShaped place w && linesShaped w)) f)
 
-        pub group-refused : fits ≡ false → false ≡ groupShaped w
-        group-refused f = sym (by-placement ∙ ap (λ (b : Bool). b && everyFrom stampShaped 0 (siteWords w)) f)
+    module _ (sites : sitesShaped place w ≡ true) where
+      by-sites : rankedShaped place w ≡ (historyShaped place w && linesShaped w)
+      by-sites = ap (λ (b : Bool). b && (historyShaped place w && linesShaped w)) sites
 
-        pub group-by-sites : fits ≡ true → everyFrom stampShaped 0 (siteWords w) ≡ groupShaped w
-        group-by-sites t = sym (by-placement ∙ ap (λ (b : Bool). b && everyFrom stampShaped 0 (siteWords w)) t)
+      pub history-unfit : historyShaped place w ≡ false → false ≡ rankedShaped place w
+      history-unfit f = sym (by-sites ∙ ap (λ (b : Bool). b && linesShaped w) f)
+
+      pub ranked-by-lines : historyShaped place w ≡ true → linesShaped w ≡ rankedShaped place w
+      ranked-by-lines t = sym (by-sites ∙ ap (λ (b : Bool). b && linesShaped w) t)
 
   -- ---- the history and the lines, as they are asked for
-  pub history-asked : (made : ℕ) → made ≡ recordCount w → (kept : List ℕ) → kept ≡ part w historyAt historySize → (r : Bool) → r ≡ every (recordTest (siteCount w) (itemCount w)) (chunks recordSize made kept) → r ≡ historyShaped w
+  pub history-asked : (place : ℕ → ℕ) (made : ℕ) → made ≡ recordCount w → (kept : List ℕ) → kept ≡ part w historyAt historySize → (r : Bool) → r ≡ every (recordTest place (siteCount w) (itemCount w)) (chunks recordSize made kept) → r ≡ historyShaped place w
   unfolding historyShaped
-  history-asked made is kept e r f = f ∙ ap₂ (λ (n : ℕ) (ys : List ℕ). every (recordTest (siteCount w) (itemCount w)) (chunks recordSize n ys)) is e
+  history-asked place made is kept e r f = f ∙ ap₂ (λ (n : ℕ) (ys : List ℕ). every (recordTest place (siteCount w) (itemCount w)) (chunks recordSize n ys)) is e
 
-  pub lines-asked : (items : ℕ) → items ≡ itemCount w → (lined : List ℕ) → lined ≡ part w linesAt linesSize → (placed : List ℕ) → placed ≡ part w itemsAt itemsSize → (kept : List ℕ) → kept ≡ part w historyAt historySize → (r : Bool) → r ≡ everyFrom (lineTest (itemsIn items placed) (historyIn kept (recordCount w))) 0 (chunks lineSize linesMost lined) → r ≡ linesShaped w
+  pub lines-asked : (lined : List ℕ) → lined ≡ part w linesAt linesSize → (kept : List ℕ) → kept ≡ part w historyAt historySize → (r : Bool) → r ≡ everyFrom (lineTest (placedIn w) (historyIn kept (recordCount w))) 0 (chunks lineSize linesMost lined) → r ≡ linesShaped w
   unfolding linesShaped
-  lines-asked items is lined le placed pe kept ke r f = f ∙ rw (is, le, pe, ke)
+  lines-asked lined le kept ke r f = f ∙ rw (le, ke)

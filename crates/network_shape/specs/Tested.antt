@@ -5,15 +5,15 @@ use mathlib.Core.List.{List}
 use Prim.Native.Nat.{ℕ, _*_, _≤_, _<_}
 use lib.ListN.{length}
 use lib.Dec.{eqb}
-use Rattle.words.specs.Words.{part}
+use Rattle.words.specs.Words.{part, chunks}
 use Rattle.lists.specs.Lists.{every, everyFrom}
 use Rattle.limits.specs.Limits.{sitesMost, itemsMost, recordsMost}
 use Rattle.timestamp_words.specs.InWords.{stampShaped}
-use Rattle.placement.specs.Placement.{Item, itemsNumber}
+use Rattle.placement.specs.Placement.{Item, itemsNumber, LineBits}
+use Rattle.placement.specs.Places.{placesOf}
 use Rattle.placement.specs.InWords.{itemsIn}
 use Rattle.lines.specs.InWords.{lineIn, lineSize}
-use Rattle.timestamp_order.specs.Order.{byNumber}
-use Rattle.records.specs.Records.{recordFits}
+use Rattle.records.specs.Records.{Record, recordFits}
 use Rattle.records.specs.InWords.{recordIn, recordRange, recordSize}
 use Rattle.protocol.specs.Network.{linesMost}
 use Rattle.network_layout.specs.Layout.{siteCount, itemCount, recordCount, itemsAt, itemsSize, historyAt, historySize, linesSize, stateSize}
@@ -22,8 +22,8 @@ use Rattle.network_counts.specs.Counts.{countsFit}
 use Rattle.network_line_shape.specs.LineTests.{historyIn, lineTest, Places}
 
 -- ---- one thing
-abbrev pub recordTest : ℕ → ℕ → List ℕ → Bool
-recordTest sites items x = recordRange x && recordFits byNumber sites items (recordIn x)
+abbrev pub recordTest : (ℕ → ℕ) → ℕ → ℕ → List ℕ → Bool
+recordTest place sites items x = recordRange x && recordFits place sites items (recordIn x)
 
 -- a line that holds nothing, and says that nothing has arrived: most lines are idle
 abbrev pub idle : List ℕ → Bool
@@ -35,18 +35,31 @@ pub record Skipped (w : List ℕ) (k r : ℕ) : Type 0 where
   pub few : r ≤ linesMost
   pub between : (i : ℕ) → k ≤ i → i < r → idle (part w (i * lineSize) lineSize) ≡ true
 
+-- the test of all lines by their bits and the places of the sites: that of every placement that gives these
+abbrev pub LinesTested : ℕ → List ℕ → List Record → List ℕ → Bool → Type 0
+LinesTested given places h w r =
+    (xs : List Item) → LineBits xs given → places ≡ placesOf xs → r ≡ everyFrom (lineTest xs h) 0 (chunks lineSize linesMost w)
+
 -- ---- all things of a state
 abbrev pub placedIn : List ℕ → List Item
 placedIn w = itemsIn (itemCount w) (part w itemsAt itemsSize)
 
+-- the counts, and each item by itself
 unfoldable pub groupShaped : List ℕ → Bool
-groupShaped w = countsFit (siteCount w) (itemCount w) (recordCount w) && (eqb (itemsNumber (siteCount w) (placedIn w)) 0 && everyFrom stampShaped 0 (siteWords w))
+groupShaped w = countsFit (siteCount w) (itemCount w) (recordCount w) && eqb (itemsNumber (siteCount w) (placedIn w)) 0
 
-unfoldable pub historyShaped : List ℕ → Bool
-historyShaped w = every (recordTest (siteCount w) (itemCount w)) (recordWords w)
+-- by the places of the sites, which the items give
+unfoldable pub sitesShaped : (ℕ → ℕ) → List ℕ → Bool
+sitesShaped place w = everyFrom (stampShaped place) 0 (siteWords w)
+
+unfoldable pub historyShaped : (ℕ → ℕ) → List ℕ → Bool
+historyShaped place w = every (recordTest place (siteCount w) (itemCount w)) (recordWords w)
 
 unfoldable pub linesShaped : List ℕ → Bool
 linesShaped w = everyFrom (lineTest (placedIn w) (historyIn (part w historyAt historySize) (recordCount w))) 0 (lineWords w)
+
+abbrev pub rankedShaped : (ℕ → ℕ) → List ℕ → Bool
+rankedShaped place w = sitesShaped place w && (historyShaped place w && linesShaped w)
 
 -- ---- what the functions ask
 -- the counts of a state are not too large
@@ -56,8 +69,13 @@ pub record Counted (w : List ℕ) : Type 0 where
   pub few-items : itemCount w ≤ itemsMost
   pub few-records : recordCount w ≤ recordsMost
 
+-- and the placement gives these lines, and the sites these places
+pub record Ranked (w : List ℕ) (given : ℕ) (places : List ℕ) : Type 0 where
+  pub counted : Counted w
+  pub given-are : LineBits (placedIn w) given
+  pub places-are : places ≡ placesOf (placedIn w)
+
 -- all lines, beside the history that they are held against
-pub record LinesAsked (w : List ℕ) (items : ℕ) (kept : List ℕ) (made : ℕ) : Type 0 where
+pub record LinesAsked (w kept : List ℕ) (made : ℕ) : Type 0 where
   pub sized : length w ≡ linesSize
-  pub few-items : items ≤ itemsMost
   pub history : Places kept recordSize recordsMost made

@@ -1,5 +1,6 @@
 // Whether a state's words are those of a network. It looks only at what is held, and passes over empty lines at once.
 use limits::RECORDS_WIDE;
+use limits::SITES_WIDE;
 use network_layout::HISTORY;
 use network_layout::ITEM_COUNT;
 use network_layout::ITEMS;
@@ -20,17 +21,17 @@ ghost use Rattle.words.specs.Words.{part, chunks};
 ghost use Rattle.lists.specs.Lists.{every, everyFrom};
 ghost use Rattle.lists.specs.Numbers.{numberIf};
 ghost use Rattle.limits.specs.Limits.{sitesMost, recordsMost};
+ghost use Rattle.timestamp_order.specs.Order.{rank};
 ghost use Rattle.timestamp_words.specs.InWords.{stampShaped};
 ghost use Rattle.site.specs.InWords.{siteSize};
-ghost use Rattle.placement.specs.InWords.{itemsIn};
 ghost use Rattle.lines.specs.InWords.{lineSize};
 ghost use Rattle.records.specs.InWords.{recordSize};
 ghost use Rattle.protocol.specs.Network.{linesMost};
 ghost use Rattle.protocol.specs.Steps.{noSuchSite};
 ghost use Rattle.network_layout.specs.Layout.{stateSize};
 ghost use Rattle.network_layout.specs.InWords.{shaped as shapedWords, numberIn};
-ghost use Rattle.network_line_shape.specs.LineTests.{historyIn, lineTest, Places};
-ghost use Rattle.network_shape.specs.Tested.{recordTest, groupShaped, historyShaped, linesShaped, Counted, LinesAsked, idle, Skipped};
+ghost use Rattle.network_line_shape.specs.LineTests.{historyIn, Places};
+ghost use Rattle.network_shape.specs.Tested.{recordTest, groupShaped, sitesShaped, historyShaped, linesShaped, rankedShaped, Counted, Ranked, LinesAsked, LinesTested, idle, Skipped};
 
 // How many words the lines and the history take.
 const LINES_WORDS: usize = LINES_MOST * LINE;
@@ -51,6 +52,7 @@ pub fn site_number(state: &[u32], site: u32) -> u32
     7
 }
 
+// The counts and the items first; then what the lines, and the places of the sites that these give, are asked for.
 pub fn shaped(state: &[u32]) -> bool
     requires { ⌜ length (now state) ≡ stateSize ⌝ }
     ensures { λ r. ⌜ r ≡ shapedWords (now (state .entry)) ⌝ }
@@ -58,13 +60,30 @@ pub fn shaped(state: &[u32]) -> bool
     if !group_fits(state) {
         return false;
     }
-    if !history_fits(state) {
+    let items = words::wide(state[ITEM_COUNT]);
+    let given = placement_lines::lines(network_placement::placed(state), items);
+    let places = placement_order::by_lines(given);
+    if placement_order::is_cyclic(places) {
         return false;
     }
-    lines_fit(state)
+    ranked_fits(state, given, places)
 }
 
-// ---- the counts, the placement and the sites
+// Whether the sites, the history and the lines fit, by the bits of all lines and the places of the sites.
+fn ranked_fits(state: &[u32], given: u64, places: [u8; SITES_WIDE]) -> bool
+    requires { ⌜ Ranked (now state) given places ⌝ }
+    ensures { λ r. ⌜ r ≡ rankedShaped (rank places) (now (state .entry)) ⌝ }
+{
+    if !sites_fit(state, places) {
+        return false;
+    }
+    if !history_fits(state, places) {
+        return false;
+    }
+    lines_fit(state, given, places)
+}
+
+// ---- the counts and the placement
 fn group_fits(state: &[u32]) -> bool
     requires { ⌜ length (now state) ≡ stateSize ⌝ }
     ensures { λ r. ⌜ r ≡ groupShaped (now (state .entry)) ⌝ }
@@ -74,20 +93,25 @@ fn group_fits(state: &[u32]) -> bool
     if !network_counts::counts_fit(sites, items, state[RECORD_COUNT]) {
         return false;
     }
-    if !placement::fits(sites, &state[ITEMS..SITES], words::wide(items)) {
-        return false;
-    }
-    sites_shaped(&state[SITES..LINES], sites)
+    placement::number(sites, network_placement::placed(state), words::wide(items)) == 0
+}
+
+// ---- the sites
+fn sites_fit(state: &[u32], places: [u8; SITES_WIDE]) -> bool
+    requires { ⌜ Counted (now state) ⌝ }
+    ensures { λ r. ⌜ r ≡ sitesShaped (rank places) (now (state .entry)) ⌝ }
+{
+    sites_shaped(&state[SITES..LINES], state[SITE_COUNT], places)
 }
 
 // Whether each of the first n sites has a timestamp of its own.
-fn sites_shaped(w: &[u32], n: u32) -> bool
+fn sites_shaped(w: &[u32], n: u32, places: [u8; SITES_WIDE]) -> bool
     requires { ⌜ Places (now w) siteSize sitesMost n ⌝ }
-    ensures { λ r. ⌜ r ≡ everyFrom stampShaped 0 (chunks siteSize n (now (w .entry))) ⌝ }
+    ensures { λ r. ⌜ r ≡ everyFrom (stampShaped (rank places)) 0 (chunks siteSize n (now (w .entry))) ⌝ }
 {
     let mut i = 0;
     while i < n {
-        if !timestamp_words::made_by(chunk(w, words::wide(i), SITE), i) {
+        if !timestamp_words::made_by(chunk(w, words::wide(i), SITE), i, places) {
             return false;
         }
         i += 1;
@@ -96,9 +120,9 @@ fn sites_shaped(w: &[u32], n: u32) -> bool
 }
 
 // ---- the history
-fn history_fits(state: &[u32]) -> bool
+fn history_fits(state: &[u32], places: [u8; SITES_WIDE]) -> bool
     requires { ⌜ Counted (now state) ⌝ }
-    ensures { λ r. ⌜ r ≡ historyShaped (now (state .entry)) ⌝ }
+    ensures { λ r. ⌜ r ≡ historyShaped (rank places) (now (state .entry)) ⌝ }
 {
     let made = words::wide(state[RECORD_COUNT]);
     records_shaped(
@@ -106,17 +130,18 @@ fn history_fits(state: &[u32]) -> bool
         made,
         state[SITE_COUNT],
         state[ITEM_COUNT],
+        places,
     )
 }
 
 // Whether each of the records made is one of a group of that many sites and items.
-fn records_shaped(w: &[u32], made: usize, sites: u32, items: u32) -> bool
+fn records_shaped(w: &[u32], made: usize, sites: u32, items: u32, places: [u8; SITES_WIDE]) -> bool
     requires { ⌜ Places (now w) recordSize recordsMost made ⌝ }
-    ensures { λ r. ⌜ r ≡ every (recordTest sites items) (chunks recordSize made (now (w .entry))) ⌝ }
+    ensures { λ r. ⌜ r ≡ every (recordTest (rank places) sites items) (chunks recordSize made (now (w .entry))) ⌝ }
 {
     let mut k = 0;
     while k < made {
-        if !records::shaped(chunk(w, k, RECORD), sites, items) {
+        if !records::shaped(chunk(w, k, RECORD), sites, items, places) {
             return false;
         }
         k += 1;
@@ -125,29 +150,27 @@ fn records_shaped(w: &[u32], made: usize, sites: u32, items: u32) -> bool
 }
 
 // ---- the lines
-fn lines_fit(state: &[u32]) -> bool
-    requires { ⌜ Counted (now state) ⌝ }
+fn lines_fit(state: &[u32], given: u64, places: [u8; SITES_WIDE]) -> bool
+    requires { ⌜ Ranked (now state) given places ⌝ }
     ensures { λ r. ⌜ r ≡ linesShaped (now (state .entry)) ⌝ }
 {
-    let items = words::wide(state[ITEM_COUNT]);
     lines_shaped(
         words_at(state, LINES, LINES_WORDS),
-        network_placement::placed(state),
-        items,
+        given,
+        places,
         words_at(state, HISTORY, HISTORY_WORDS),
         state[RECORD_COUNT],
     )
 }
 
 // Whether each line fits the placement and the history.
-fn lines_shaped(w: &[u32], placed: &[u32], items: usize, kept: &[u32], made: u32) -> bool
-    requires { ⌜ LinesAsked (now w) items (now kept) made ⌝ }
-    ensures { λ r. ⌜ r ≡ everyFrom (lineTest (itemsIn items (now (placed .entry))) (historyIn (now (kept .entry)) made)) 0 (chunks lineSize linesMost (now (w .entry))) ⌝ }
+fn lines_shaped(w: &[u32], given: u64, places: [u8; SITES_WIDE], kept: &[u32], made: u32) -> bool
+    requires { ⌜ LinesAsked (now w) (now kept) made ⌝ }
+    ensures { λ r. ⌜ LinesTested given places (historyIn (now (kept .entry)) made) (now (w .entry)) r ⌝ }
 {
-    let given = placement_lines::lines(placed, items);
     let mut k = next_used(w, 0);
     while k < LINES_MOST {
-        if !line_shaped(chunk(w, k, LINE), k, given, kept, made) {
+        if !line_shaped(chunk(w, k, LINE), k, given, places, kept, made) {
             return false;
         }
         k = next_used(w, k + 1);

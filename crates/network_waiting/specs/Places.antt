@@ -10,7 +10,7 @@ use Rattle.lists.specs.Sorting.{insert}
 use Rattle.protocol.specs.Network.{Network}
 use Rattle.protocol.specs.Waiting.{isWaiting, noLater, waitingItems}
 use Rattle.network_layout.specs.InWords.{networkIn}
-use Rattle.network_layout.specs.At.{AtSite, HasRecord}
+use Rattle.network_layout.specs.At.{AtSite, HasRecord, PlacesAre}
 use Rattle.network_earliest_writes.specs.Noted.{stampAt, EarliestAre}
 
 -- the record with an item's earliest write, and the order of two items by these
@@ -32,15 +32,21 @@ pub record Written (w writers : List ℕ) (x : ℕ) : Type 0 where
   pub placed : x < length writers
   pub has : HasRecord w (earliestOf writers x)
 
-pub record BothWritten (w writers : List ℕ) (j k : ℕ) : Type 0 where
+-- .. each of two, which are compared by the places of the sites
+pub record BothWritten (w writers places : List ℕ) (j k : ℕ) : Type 0 where
   pub first : Written w writers j
   pub second : Written w writers k
+  pub places-are : PlacesAre w places
 
 -- the place of item k is sought among items that are in order
 pub record Seeking (items w writers : List ℕ) (k : ℕ) : Type 0 where
   pub item : Written w writers k
   pub written : (a : ℕ) → a < length items → Written w writers (getD items a 0)
   pub ordered : (a b : ℕ) → a < b → b < length items → earliestBefore w writers (getD items a 0) (getD items b 0) ≡ true
+
+pub record Placing (items w writers places : List ℕ) (k : ℕ) : Type 0 where
+  pub seeking : Seeking items w writers k
+  pub places-are : PlacesAre w places
 
 -- it is not before the items below `low`, and before those from `high` on
 pub record Between (items w writers : List ℕ) (k low high : ℕ) : Type 0 where
@@ -49,8 +55,8 @@ pub record Between (items w writers : List ℕ) (k low high : ℕ) : Type 0 wher
   pub behind : (a : ℕ) → a < low → earliestBefore w writers k (getD items a 0) ≡ false
   pub before : (a : ℕ) → high ≤ a → a < length items → earliestBefore w writers k (getD items a 0) ≡ true
 
-pub record Narrowing (items w writers : List ℕ) (k low high : ℕ) : Type 0 where
-  pub seeking : Seeking items w writers k
+pub record Narrowing (items w writers places : List ℕ) (k low high : ℕ) : Type 0 where
+  pub placing : Placing items w writers places k
   pub between : Between items w writers k low high
   pub some : low < high
 
@@ -59,8 +65,9 @@ pub record Narrowed (items w writers : List ℕ) (k size low high : ℕ) : Type 
   pub fewer : high - low < size
 
 -- ---- item k is put among the `count` items above it
-pub record Putting (items w writers : List ℕ) (count site k : ℕ) : Type 0 where
+pub record Putting (items w writers places : List ℕ) (count site k : ℕ) : Type 0 where
   pub asking : Asking w writers site k
+  pub places-are : PlacesAre w places
   pub room : count < length items
   pub seeking : Written w writers k → Seeking (take count items) w writers k
 

@@ -1,5 +1,6 @@
 // Waiting report: the items that messages on the lines into a site write and that it has a copy of, the one with the earliest write first.
 use limits::ITEMS_WIDE;
+use limits::SITES_WIDE;
 use network_layout::Report;
 use network_layout::WORDS;
 ghost use mathlib.Core.Path.{_≡_};
@@ -11,7 +12,7 @@ ghost use Rattle.network_layout.specs.Layout.{stateSize};
 ghost use Rattle.network_layout.specs.InWords.{networkIn};
 ghost use Rattle.network_layout.specs.At.{AtSite};
 ghost use Rattle.network_waiting.specs.Report.{Reported};
-ghost use Rattle.network_waiting.specs.Places.{earliestOf, earliestBefore, BothWritten, Seeking, Narrowing, Narrowed, Asking, Putting, PutIn, AllPut};
+ghost use Rattle.network_waiting.specs.Places.{earliestOf, earliestBefore, BothWritten, Placing, Narrowing, Narrowed, Asking, Putting, PutIn, AllPut};
 
 // The waiting report of a site. It answers its number and the items, by the timestamp of the earliest waiting write, then by number.
 pub fn waiting(state: &[u32; WORDS], site: u32) -> Report
@@ -35,18 +36,20 @@ fn waiting_in(state: &[u32], site: u32) -> Report
     report(state, site)
 }
 
-// The items from the last down, so that of those with one timestamp each comes before the ones above it.
+// The items from the last down, so that of those with one timestamp each comes before the ones above it. The places of the sites, by which timestamps
+// are compared, are worked out once.
 fn report(state: &[u32], site: u32) -> Report
     requires { ⌜ AtSite (now state) site ⌝ }
     ensures { λ r. ⌜ AllPut (networkIn (now (state .entry))) site (r .number) (r .count) (r .items) ⌝ }
 {
-    let writers = network_earliest_writes::earliest_writes(state, site);
+    let places = network_placement::places(state);
+    let writers = network_earliest_writes::earliest_writes(state, site, places);
     let mut items = [0u32; ITEMS_WIDE];
     let mut count = 0usize;
     let mut k = network_placement::item_count(state);
     while 0 < k {
         k -= 1;
-        count = put_item(&mut items, count, &writers, state, site, k);
+        count = put_item(&mut items, count, &writers, state, site, k, places);
     }
     Report {
         number: 0,
@@ -63,14 +66,15 @@ fn put_item(
     state: &[u32],
     site: u32,
     k: u32,
+    places: [u8; SITES_WIDE],
 ) -> usize
-    requires { ⌜ Putting (now items) (now state) (now writers) count site k ⌝ }
+    requires { ⌜ Putting (now items) (now state) (now writers) places count site k ⌝ }
     ensures { λ r. ⌜ PutIn (now (state .entry)) (now (writers .entry)) site k count r (now (items .entry)) (now (items .exit)) ⌝ }
 {
     if !is_waiting(writers, state, site, k) {
         return count;
     }
-    let at = place_in(&items[0..count], writers, state, k);
+    let at = place_in(&items[0..count], writers, state, k, places);
     let end = count + 1;
     word_insertion::insert(&mut items[0..end], at, k);
     end
@@ -87,15 +91,21 @@ fn is_waiting(writers: &[u32], state: &[u32], site: u32, item: u32) -> bool
     network_placement::is_copied(state, item, site)
 }
 
-// Places of which one is sought.
+// Places in a list, of which one is sought.
 struct Range {
     low: usize,
     high: usize,
 }
 
 // The place of item k among items that are in order: before the first that it is not behind.
-fn place_in(items: &[u32], writers: &[u32], state: &[u32], k: u32) -> usize
-    requires { ⌜ Seeking (now items) (now state) (now writers) k ⌝ }
+fn place_in(
+    items: &[u32],
+    writers: &[u32],
+    state: &[u32],
+    k: u32,
+    places: [u8; SITES_WIDE],
+) -> usize
+    requires { ⌜ Placing (now items) (now state) (now writers) places k ⌝ }
     ensures { λ r. ⌜ r ≡ placeIn (earliestBefore (now (state .entry)) (now (writers .entry))) k (now (items .entry)) ⌝ }
 {
     let mut range = Range {
@@ -103,36 +113,41 @@ fn place_in(items: &[u32], writers: &[u32], state: &[u32], k: u32) -> usize
         high: items.len(),
     };
     while range.low < range.high {
-        range = narrow(items, writers, state, k, range);
+        range = narrow(items, writers, state, k, range, places);
     }
     range.low
 }
 
-// The half of the places that has the one sought.
-fn narrow(items: &[u32], writers: &[u32], state: &[u32], k: u32, range: Range) -> Range
-    requires { ⌜ Narrowing (now items) (now state) (now writers) k (range .low) (range .high) ⌝ }
+// The half of the range that has the place sought.
+fn narrow(
+    items: &[u32],
+    writers: &[u32],
+    state: &[u32],
+    k: u32,
+    range: Range,
+    places: [u8; SITES_WIDE],
+) -> Range
+    requires { ⌜ Narrowing (now items) (now state) (now writers) places k (range .low) (range .high) ⌝ }
     ensures { λ r. ⌜ Narrowed (now (items .entry)) (now (state .entry)) (now (writers .entry)) k (range .high - range .low) (r .low) (r .high) ⌝ }
 {
     let low = range.low;
     let high = range.high;
     let middle = low + (high - low) / 2;
-    if earliest_before(writers, state, k, items[middle]) {
+    if earliest_before(writers, state, k, items[middle], places) {
         return Range { low, high: middle };
     }
-    Range {
-        low: middle + 1,
-        high,
-    }
+    let behind = middle + 1;
+    Range { low: behind, high }
 }
 
 // Whether the earliest write of item j is not later than that of item k.
-fn earliest_before(writers: &[u32], state: &[u32], j: u32, k: u32) -> bool
-    requires { ⌜ BothWritten (now state) (now writers) j k ⌝ }
+fn earliest_before(writers: &[u32], state: &[u32], j: u32, k: u32, places: [u8; SITES_WIDE]) -> bool
+    requires { ⌜ BothWritten (now state) (now writers) places j k ⌝ }
     ensures { λ r. ⌜ r ≡ earliestBefore (now (state .entry)) (now (writers .entry)) j k ⌝ }
 {
     let first = record_of(writers, j);
     let second = record_of(writers, k);
-    network_records::compare_records(state, first, second).not_later()
+    network_records::compare_records(state, first, second, places).not_later()
 }
 
 // The record with an item's earliest write.

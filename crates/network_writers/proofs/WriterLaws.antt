@@ -14,7 +14,6 @@ use Rattle.site_operations.specs.InWords.{opAt as opIn, OpsLaid}
 use Rattle.site_operations.proofs.Laws.{ops-at}
 use Rattle.protocol.specs.Network.{Network, nthRecord, placeOf}
 use Rattle.protocol.specs.Questions.{nthOp, askedRead}
-use Rattle.protocol.proofs.Places.{places-apart}
 use Rattle.origins.specs.Statements.{writesBefore, LastBelow, FoundBelow}
 use Rattle.origins.proofs.Found.{none-yet, found-first, found-later, found-kept, found-skip}
 use Rattle.network_writers.specs.Writers.{SoughtIs, comesBefore, writerOf, LastSoFar}
@@ -51,7 +50,7 @@ module _ (n : Network) (k x : ℕ) where
   writes i = touches x (nthRecord n i .ops)
 
   pub none-looked-at : LastSoFar n k x 0 recordsMost
-  none-looked-at = record { found = none-yet place (places-apart (n .items)) (n .history) k x; few = omega arith }
+  none-looked-at = record { found = none-yet place (n .history) k x; few = omega arith }
 
   named : (b : ℕ) → b < recordsMost → writerOf b ≡ some b
   named b low = rw (lt-ltb b recordsMost low)
@@ -62,7 +61,7 @@ module _ (n : Network) (k x : ℕ) where
 
     module _ (b : ℕ) (so-far : LastSoFar n k x j b) where
       skipped : writesBefore place (n .history) k x j ≡ false → LastSoFar n k x (j + 1) b
-      skipped e = next b (writerOf b) (so-far .few) refl (found-skip place (places-apart (n .items)) (n .history) k x j (λ w. true≢false (sym w ∙ e)) (writerOf b) (so-far .found))
+      skipped e = next b (writerOf b) (so-far .few) refl (found-skip place (n .history) k x j (λ w. true≢false (sym w ∙ e)) (writerOf b) (so-far .found))
 
       pub not-written : writes j ≡ false → LastSoFar n k x (j + 1) b
       not-written e = skipped (rw e)
@@ -83,9 +82,9 @@ module _ (n : Network) (k x : ℕ) where
           pub taken-first : j < recordsMost → recordsMost ≤ b → LastSoFar n k x (j + 1) j
           taken-first few high =
               let unnamed : writerOf b ≡ none = rw (le-ltb b recordsMost high) in
-              next j (some j) (omega arith) (named j few) (found-first place (places-apart (n .items)) (n .history) k x j writer (subst (Found j) unnamed (so-far .found)))
+              next j (some j) (omega arith) (named j few) (found-first place (n .history) k x j writer (subst (Found j) unnamed (so-far .found)))
 
           -- the one that comes last of the two
           pub taken-last : b < recordsMost → j < recordsMost → (c : Bool) → comesBefore n b j ≡ c → LastSoFar n k x (j + 1) (cond c j b)
-          taken-last low few true e = next j (some j) (omega arith) (named j few) (found-later place (places-apart (n .items)) (n .history) k x j b writer (last-below low) e)
-          taken-last low few false e = next b (some b) (so-far .few) (named b low) (found-kept place (places-apart (n .items)) (n .history) k x j b writer (last-below low) e)
+          taken-last low few true e = next j (some j) (omega arith) (named j few) (found-later place (n .history) k x j b writer (last-below low) e)
+          taken-last low few false e = next b (some b) (so-far .few) (named b low) (found-kept place (n .history) k x j b writer (last-below low) e)

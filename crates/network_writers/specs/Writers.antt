@@ -11,7 +11,8 @@ use Rattle.protocol.specs.Network.{Network, placeOf}
 use Rattle.protocol.specs.Questions.{nthOp, askedRead}
 use Rattle.origins.specs.Statements.{turnAt, precedes, FoundBelow}
 use Rattle.network_layout.specs.InWords.{networkIn}
-use Rattle.network_layout.specs.At.{AtNetwork, HasRecord}
+use Rattle.network_layout.specs.At.{AtNetwork, HasRecord, PlacesAre}
+use Rattle.network_records.specs.Asked.{HasRecords}
 
 -- a read that was looked for: 0 and its item, or the number for which it is refused and 0
 pub record SoughtIs (n : Network) (k a number item : ℕ) : Type 0 where
@@ -36,8 +37,15 @@ pub record LastSoFar (n : Network) (k x j b : ℕ) : Type 0 where
   pub found : FoundBelow (placeOf (n .items)) (n .history) k x j (writerOf b)
   pub few : b ≤ recordsMost
 
--- one more is looked at, record j
-pub record LookingAt (w : List ℕ) (k x j b : ℕ) : Type 0 where
+-- ---- what is asked: the words of a network and the places of its sites, with
+-- two records
+pub record Ordering (w : List ℕ) (first second : ℕ) (places : List ℕ) : Type 0 where
+  pub records : HasRecords w first second
+  pub places-are : PlacesAre w places
+
+-- one more to look at, record j
+pub record LookingAt (w : List ℕ) (k x j b : ℕ) (places : List ℕ) : Type 0 where
   pub reader : HasRecord w k
   pub next : HasRecord w j
   pub so-far : LastSoFar (networkIn w) k x j b
+  pub places-are : PlacesAre w places

@@ -1,5 +1,6 @@
 // A read found in the history; whether its own commit writes the item before it; and the last commit before its own that does.
 use limits::RECORDS_WIDE;
+use limits::SITES_WIDE;
 use site_operations::READ;
 ghost use mathlib.Core.Path.{_≡_};
 ghost use Prim.Native.Nat.{_+_};
@@ -8,8 +9,7 @@ ghost use Rattle.site_operations.specs.Operations.{touches};
 ghost use Rattle.origins.specs.Origin.{opsBefore};
 ghost use Rattle.network_layout.specs.InWords.{networkIn};
 ghost use Rattle.network_layout.specs.At.{AtNetwork, HasRecord};
-ghost use Rattle.network_records.specs.Asked.{HasRecords};
-ghost use Rattle.network_writers.specs.Writers.{SoughtIs, OnRecord, comesBefore, LastSoFar, LookingAt};
+ghost use Rattle.network_writers.specs.Writers.{SoughtIs, OnRecord, comesBefore, LastSoFar, Ordering, LookingAt};
 
 // A read that was looked for: 0 and its item, or the number for which it is refused and 0.
 pub struct Sought {
@@ -69,41 +69,49 @@ pub fn last_writer(state: &[u32], k: u32, item: u32) -> u32
 {
     let made = words::wide(network_records::record_count(state));
     let reader = words::wide(k);
+    let places = network_placement::places(state);
     let mut best = RECORDS_WIDE;
     let mut j = 0;
     while j < made {
-        best = later_writer(state, reader, item, j, best);
+        best = later_writer(state, reader, item, j, best, places);
         j += 1;
     }
     best as u32
 }
 
 // Record j, where it writes the item before the reader and not before the best so far; else that one.
-fn later_writer(state: &[u32], reader: usize, item: u32, j: usize, best: usize) -> usize
-    requires { ⌜ LookingAt (now state) reader item j best ⌝ }
+fn later_writer(
+    state: &[u32],
+    reader: usize,
+    item: u32,
+    j: usize,
+    best: usize,
+    places: [u8; SITES_WIDE],
+) -> usize
+    requires { ⌜ LookingAt (now state) reader item j best places ⌝ }
     ensures { λ r. ⌜ LastSoFar (networkIn (now (state .entry))) reader item (j + 1) r ⌝ }
 {
     if !network_records::record_touches(state, j, item) {
         return best;
     }
-    if !precedes(state, j, reader) {
+    if !precedes(state, j, reader, places) {
         return best;
     }
     if RECORDS_WIDE <= best {
         return j;
     }
-    if precedes(state, best, j) {
+    if precedes(state, best, j, places) {
         return j;
     }
     best
 }
 
 // Whether the first of two records comes before the second: by timestamp, equal ones in the order made.
-fn precedes(state: &[u32], first: usize, second: usize) -> bool
-    requires { ⌜ HasRecords (now state) first second ⌝ }
+fn precedes(state: &[u32], first: usize, second: usize, places: [u8; SITES_WIDE]) -> bool
+    requires { ⌜ Ordering (now state) first second places ⌝ }
     ensures { λ r. ⌜ r ≡ comesBefore (networkIn (now (state .entry))) first second ⌝ }
 {
-    let found = network_records::compare_records(state, first, second);
+    let found = network_records::compare_records(state, first, second, places);
     if first < second {
         return found.not_later();
     }

@@ -12,7 +12,7 @@ use Rattle.records.specs.Records.{Record}
 use Rattle.origins.specs.Statements.{turnAt, precedes, writesBefore, LastBelow, NoneBelow, FoundBelow}
 use Rattle.protocol.proofs.Precedes.{numberOf, stampOf, precedes-trans, precedes-one-way, precedes-turned}
 
-module _ (place : ℕ → ℕ) (apart : (a b : ℕ) → place a ≡ place b → a ≡ b) (h : List Record) (k x : ℕ) where
+module _ (place : ℕ → ℕ) (h : List Record) (k x : ℕ) where
   abbrev Writes : ℕ → Type 0
   Writes i = writesBefore place h k x i ≡ true
 
@@ -43,7 +43,7 @@ module _ (place : ℕ → ℕ) (apart : (a b : ℕ) → place a ≡ place b → 
       where
         next : (i : ℕ) → (i ≡ m) ⊎ Precedes i m → Precedes i j
         next i (inl s) = subst (λ (n : ℕ). Precedes n j) (sym s) p
-        next i (inr q) = precedes-trans place apart numberOf stampOf (turnAt h i) (turnAt h m) (turnAt h j) q p
+        next i (inr q) = precedes-trans place numberOf stampOf (turnAt h i) (turnAt h m) (turnAt h j) q p
 
         go : (i : ℕ) → Writes i → (i ≡ j) ⊎ (i < j) → (i ≡ j) ⊎ Precedes i j
         go i u (inl s) = inl s
@@ -53,7 +53,7 @@ module _ (place : ℕ → ℕ) (apart : (a b : ℕ) → place a ≡ place b → 
     found-kept m w f p = let low : m < j = f .low in record { low = omega arith; is-one = f .is-one; last = λ i l u. go i u (below-next i j l) }
       where
         go : (i : ℕ) → Writes i → (i ≡ j) ⊎ (i < j) → (i ≡ m) ⊎ Precedes i m
-        go i u (inl s) = inr (subst (λ (n : ℕ). Precedes n m) (sym s) (precedes-turned place apart numberOf stampOf (turnAt h m) (turnAt h j) (f .low) p))
+        go i u (inl s) = inr (subst (λ (n : ℕ). Precedes n m) (sym s) (precedes-turned place numberOf stampOf (turnAt h m) (turnAt h j) (f .low) p))
         go i u (inr l) = f .last i l u
 
     module _ (no : Writes j → ⊥) where
@@ -75,7 +75,7 @@ module _ (place : ℕ → ℕ) (apart : (a b : ℕ) → place a ≡ place b → 
         go : (n ≡ m) ⊎ Precedes n m → (m ≡ n) ⊎ Precedes m n → m ≡ n
         go (inl s) r = sym s
         go (inr p) (inl s) = s
-        go (inr p) (inr q) = absurd (precedes-one-way place apart numberOf stampOf (turnAt h n) (turnAt h m) p q)
+        go (inr p) (inr q) = absurd (precedes-one-way place numberOf stampOf (turnAt h n) (turnAt h m) p q)
 
     pub found-alone : (o p : Option ℕ) → FoundBelow place h k x j o → FoundBelow place h k x j p → o ≡ p
     found-alone none none f g = refl

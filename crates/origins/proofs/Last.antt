@@ -17,14 +17,13 @@ use Rattle.records.specs.Records.{Record}
 use Rattle.protocol.specs.Network.{Network, nthRecord, placeOf}
 use Rattle.protocol.specs.Run.{Turn, inTurn}
 use Rattle.protocol.specs.Questions.{origin, nthOp, noSuchRead, questionNumber}
-use Rattle.protocol.proofs.Places.{places-apart}
 use Rattle.origins.specs.Origin.{turnsBefore, lastWriter, ownWrite, originOf}
 use Rattle.origins.specs.Statements.{turnAt, precedes, writesBefore, FoundBelow, FoundFor, OriginLast}
 use Rattle.origins.proofs.Found.{found-alone}
 use Rattle.origins.proofs.Turns.{Of, each-at, turns-of, turns-chain, before-precedes-it, all-before}
 
 -- ---- the last of the turns before commit k that write item x
-module _ (place : ℕ → ℕ) (apart : (a b : ℕ) → place a ≡ place b → a ≡ b) (h : List Record) (k x : ℕ) (there : k < length h) where
+module _ (place : ℕ → ℕ) (h : List Record) (k x : ℕ) (there : k < length h) where
   abbrev writes : Turn → Bool
   writes c = touches x (c .commit .ops)
 
@@ -35,10 +34,10 @@ module _ (place : ℕ → ℕ) (apart : (a b : ℕ) → place a ≡ place b → 
   Precedes c d = precedes place c d ≡ true
 
   before-of : Each (Of h) (turnsBefore place h k)
-  before-of = each-before isIt (Of h) (inTurn place h) (turns-of place apart h)
+  before-of = each-before isIt (Of h) (inTurn place h) (turns-of place h)
 
   before-chain : Chain Precedes (turnsBefore place h k)
-  before-chain = chain-before isIt Precedes (inTurn place h) (turns-chain place apart h)
+  before-chain = chain-before isIt Precedes (inTurn place h) (turns-chain place h)
 
   parts : (i : ℕ) → writesBefore place h k x i ≡ true → (writes (turnAt h i) ≡ true) × Precedes (turnAt h i) (turnAt h k)
   parts i w = and-true (writes (turnAt h i)) (precedes place (turnAt h i) (turnAt h k)) w
@@ -46,14 +45,14 @@ module _ (place : ℕ → ℕ) (apart : (a b : ℕ) → place a ≡ place b → 
   found-of : (o : Option Turn) → Last writes Precedes (turnsBefore place h k) o → OfSome (Of h) o → OfSome (λ c. Precedes c (turnAt h k)) o
       → FoundBelow place h k x (length h) (Option·map (λ (c : Turn). c .number) o)
   found-of none last of first =
-      λ i low w. let both = parts i w in true≢false (sym (both .0) ∙ each-at h (λ c. writes c ≡ false) i (turnsBefore place h k) before-of last (all-before place apart h k i low (both .1)))
+      λ i low w. let both = parts i w in true≢false (sym (both .0) ∙ each-at h (λ c. writes c ≡ false) i (turnsBefore place h k) before-of last (all-before place h k i low (both .1)))
   found-of (some c) last of first =
       record {
         low = of .low;
         is-one = rw (sym (ap writes (of .is)) ∙ last .0, subst (λ (d : Turn). Precedes d (turnAt h k)) (of .is) first);
         last = λ i low w.
             let both = parts i w in
-            by-number i (each-at h (λ d. writes d ≡ true → (d ≡ c) ⊎ Precedes d c) i (turnsBefore place h k) before-of (last .1) (all-before place apart h k i low (both .1)) (both .0));
+            by-number i (each-at h (λ d. writes d ≡ true → (d ≡ c) ⊎ Precedes d c) i (turnsBefore place h k) before-of (last .1) (all-before place h k i low (both .1)) (both .0));
       }
     where
       by-number : (i : ℕ) → (turnAt h i ≡ c) ⊎ Precedes (turnAt h i) c → (i ≡ c .number) ⊎ Precedes (turnAt h i) (turnAt h (c .number))
@@ -65,7 +64,7 @@ module _ (place : ℕ → ℕ) (apart : (a b : ℕ) → place a ≡ place b → 
       found-of (lastWriter place h k x)
       (last-is writes Precedes (turnsBefore place h k) before-chain)
       (last-each writes (Of h) (turnsBefore place h k) before-of)
-      (last-each writes (λ c. Precedes c (turnAt h k)) (turnsBefore place h k) (before-precedes-it place apart h k there))
+      (last-each writes (λ c. Precedes c (turnAt h k)) (turnsBefore place h k) (before-precedes-it place h k there))
 
 -- ---- a question that is not refused asks of a read
 pub record IsRead (n : Network) (k a : ℕ) : Type 0 where
@@ -92,7 +91,7 @@ module _ (n : Network) (k a : ℕ) (there : k < length (n .history)) where
   writer = Option·map (λ (c : Turn). c .number) (lastWriter (placeOf (n .items)) (n .history) k x)
 
   last-found : FoundBelow (placeOf (n .items)) (n .history) k x (length (n .history)) writer
-  last-found = writer-found (placeOf (n .items)) (places-apart (n .items)) (n .history) k x there
+  last-found = writer-found (placeOf (n .items)) (n .history) k x there
 
   origin-by : (b : Bool) → ownWrite n k a ≡ b → originOf n k a ≡ cond b (some k) writer
   unfolding originOf
@@ -106,7 +105,7 @@ module _ (n : Network) (k a : ℕ) (there : k < length (n .history)) where
     where
       go : (b : Bool) → ownWrite n k a ≡ b → o ≡ originOf n k a
       go true e = f .own e ∙ sym (origin-by true e)
-      go false e = found-alone (placeOf (n .items)) (places-apart (n .items)) (n .history) k x (length (n .history)) o writer (f .other e) last-found ∙ sym (origin-by false e)
+      go false e = found-alone (placeOf (n .items)) (n .history) k x (length (n .history)) o writer (f .other e) last-found ∙ sym (origin-by false e)
 
 pub origin-last : OriginLast
 unfolding OriginLast

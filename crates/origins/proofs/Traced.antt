@@ -21,7 +21,7 @@ use Rattle.protocol.specs.Agreement.{Known}
 use Rattle.site_operations.proofs.Works.{wrote, untouched, wrote-last}
 use Rattle.protocol.proofs.Values.{lastValue, none-kept, joined-commit}
 use Rattle.protocol.proofs.Times.{Times}
-use Rattle.protocol.proofs.Places.{places-apart, placeAt, orderAt, Before, timesAt}
+use Rattle.protocol.proofs.Places.{placeAt, orderAt, Before, timesAt}
 use Rattle.protocol.proofs.Invariant.{Invariant, stamps-apart, writers-rise}
 use Rattle.protocol.proofs.Follows.{Follows, always}
 use Rattle.origins.specs.Origin.{opsBefore, ownWrite, originOf}
@@ -66,7 +66,7 @@ module _ (n : Network) (inv : Invariant n) (k a : ℕ) (read : IsRead n k a) whe
   before-read e = value-read ∙ untouched x (lastValue x (keep (earlierThan k) h)) (opsBefore n k a) e
 
   earlier-precedes : (i : ℕ) → earlierThan k (nthRecord n i) ≡ true → Precedes i k
-  earlier-precedes i e = before-precedes (placeAt n) (places-apart (n .items)) numberOf stampOf (turnAt h i) (turnAt h k) (test-before (nthRecord n i .stamp) (nthRecord n k .stamp) e)
+  earlier-precedes i e = before-precedes (placeAt n) numberOf stampOf (turnAt h i) (turnAt h k) (test-before (nthRecord n i .stamp) (nthRecord n k .stamp) e)
 
   -- no writer before it: 0
   start-read : ownWrite n k a ≡ false → NoneBelow (placeAt n) h k x (length h) → nthOp n k a .value ≡ pos 0
@@ -94,11 +94,11 @@ module _ (n : Network) (inv : Invariant n) (k a : ℕ) (read : IsRead n k a) whe
         go false s false t =
             let same : m ≡ k = omega (arith, ltb-false m k s, ltb-false k m t) in
             let self : Precedes k k = subst (λ (i : ℕ). Precedes i k) same (writer-is .1) in
-            precedes-one-way (placeAt n) (places-apart (n .items)) numberOf stampOf (turnAt h k) (turnAt h k) self self
+            precedes-one-way (placeAt n) numberOf stampOf (turnAt h k) (turnAt h k) self self
 
     writer-earlier : Earlier m k
     writer-earlier =
-        upto-other (nthRecord n m .stamp) (nthRecord n k .stamp) (precedes-upto (placeAt n) (places-apart (n .items)) numberOf stampOf (turnAt h m) (turnAt h k) (writer-is .1)) differ
+        upto-other (nthRecord n m .stamp) (nthRecord n k .stamp) (precedes-upto (placeAt n) numberOf stampOf (turnAt h m) (turnAt h k) (writer-is .1)) differ
 
     -- the writers of the item made after it come later than the reader
     late : (i : ℕ) → m < i → i < length h → touches x (nthRecord n i .ops) ≡ true → earlierThan k (nthRecord n i) ≡ false
@@ -111,7 +111,7 @@ module _ (n : Network) (inv : Invariant n) (k a : ℕ) (read : IsRead n k a) whe
         clash (inl s) = omega arith
         clash (inr p) =
             never-before (nthRecord n m .stamp)
-            (before-upto (nthRecord n m .stamp) (nthRecord n i .stamp) (nthRecord n m .stamp) rise (precedes-upto (placeAt n) (places-apart (n .items)) numberOf stampOf (turnAt h i) (turnAt h m) p))
+            (before-upto (nthRecord n m .stamp) (nthRecord n i .stamp) (nthRecord n m .stamp) rise (precedes-upto (placeAt n) numberOf stampOf (turnAt h i) (turnAt h m) p))
 
         go : (b : Bool) → earlierThan k (nthRecord n i) ≡ b → earlierThan k (nthRecord n i) ≡ false
         go false e = e

@@ -42,7 +42,7 @@ each-at h P i (c ∷ cs) q f e = go (eqb (c .number) i) refl e (each-at h P i cs
     go true s e rest = subst (λ (m : ℕ). P (turnAt h m)) (eqb-true (c .number) i s) (subst P (q .0 .is) (f .0))
     go false s e rest = rest e
 
-module _ (place : ℕ → ℕ) (apart : (a b : ℕ) → place a ≡ place b → a ≡ b) (h : List Record) where
+module _ (place : ℕ → ℕ) (h : List Record) where
   abbrev Precedes : Turn → Turn → Type 0
   Precedes c d = precedes place c d ≡ true
 
@@ -53,7 +53,7 @@ module _ (place : ℕ → ℕ) (apart : (a b : ℕ) → place a ≡ place b → 
       same i = omega arith
 
   pub turns-chain : Chain Precedes (inTurn place h)
-  turns-chain = sorted-precede place apart numberOf stampOf (numbered 0 h) (chain-numbered 0 h)
+  turns-chain = sorted-precede place numberOf stampOf (numbered 0 h) (chain-numbered 0 h)
 
   -- ---- those before commit k
   module _ (k : ℕ) where
@@ -77,10 +77,10 @@ module _ (place : ℕ → ℕ) (apart : (a b : ℕ) → place a ≡ place b → 
         at-reader s true t e =
             let same : i ≡ k = sym (eqb-true (c .number) i t) ∙ s in
             let self : Precedes (turnAt h k) (turnAt h k) = subst (λ (m : ℕ). Precedes (turnAt h m) (turnAt h k)) same p in
-            precedes-one-way place apart numberOf stampOf (turnAt h k) (turnAt h k) self self
+            precedes-one-way place numberOf stampOf (turnAt h k) (turnAt h k) self self
         at-reader s false t e =
             let is : c ≡ turnAt h k = q .0 .is ∙ ap (turnAt h) s in
-            precedes-one-way place apart numberOf stampOf (turnAt h i) (turnAt h k) p (each-at h (Precedes (turnAt h k)) i cs (q .1) (subst (λ (d : Turn). Each (Precedes d) cs) is (f .0)) e)
+            precedes-one-way place numberOf stampOf (turnAt h i) (turnAt h k) p (each-at h (Precedes (turnAt h k)) i cs (q .1) (subst (λ (d : Turn). Each (Precedes d) cs) is (f .0)) e)
 
         keeps : (b : Bool) → (b || has i cs) ≡ true → (has i cs ≡ true → has i (beforeFirst isIt cs) ≡ true) → (b || has i (beforeFirst isIt cs)) ≡ true
         keeps true e rest = refl

@@ -1,19 +1,16 @@
 -- Items in words: each one's two words, the number of one item, and loops over the items.
-use mathlib.Core.Path.{_≡_, refl, sym, ap, _∙_}
+use mathlib.Core.Path.{_≡_, sym, ap, _∙_}
 use mathlib.Core.Bool.{Bool, true, false, cond, _&&_, _||_}
 use mathlib.Core.List.{List, []}
-use Prim.Native.Nat.{ℕ, _+_, _*_, _/_, _%_, _^_, _≤_, _<_}
+use Prim.Native.Nat.{ℕ, _+_, _*_, _/_, _^_, _≤_, _<_}
 use native.Mathlib.Omega.{arith}
 use lib.ListN.{length, getD, drop, length-map, List·getD-map, List·getD-eq-default}
-use lib.Dec.{eqb}
-use native.Mathlib.Nat.{mod-lt}
-use lib.Pow.{pow-pos, mod-pow-add}
-use borrow.Author.Tests.{le-leb, lt-leb, lt-ltb, le-ltb, eq-eqb, ne-eqb, eqb-true, eqb-false}
+use borrow.Author.Tests.{le-leb, lt-leb, lt-ltb, le-ltb, eq-eqb, ne-eqb}
 use Rattle.words.specs.Words.{chunks}
 use Rattle.words.proofs.Parts.{part-getD}
 use Rattle.words.proofs.Chunks.{chunks-length, chunks-at}
 use Rattle.placement.specs.Masks.{bit}
-use Rattle.placement.specs.Placement.{Item, namesMissing, namesBelow, itemNumber, itemsNumber, noItem, givesLine}
+use Rattle.placement.specs.Placement.{Item, namesMissing, itemNumber, itemsNumber, noItem, givesLine}
 use Rattle.lists.specs.Lists.{any}
 use Rattle.placement.specs.InWords.{itemSize, itemIn, itemWords, itemAt, itemsIn}
 use Rattle.lists.proofs.Some.{some-true, some-next, some-done}
@@ -46,7 +43,7 @@ module _ (sites : ℕ) (x : Item) where
 
   -- its primary is a site
   module _ (site : x .primary < sites) where
-    of-mask : itemNumber sites x ≡ cond (namesMissing sites (x .mask) || bit (x .mask) (x .primary)) 4 (cond (namesBelow (x .primary) (x .mask)) 5 0)
+    of-mask : itemNumber sites x ≡ cond (namesMissing sites (x .mask) || bit (x .mask) (x .primary)) 4 0
     unfolding itemNumber
     of-mask = simp (lt-leb sites (x .primary) site)
 
@@ -55,46 +52,14 @@ module _ (sites : ℕ) (x : Item) where
 
     -- so are its copies
     module _ (none : x .mask / 2 ^ sites ≡ 0) where
-      of-bit : itemNumber sites x ≡ cond (bit (x .mask) (x .primary)) 4 (cond (namesBelow (x .primary) (x .mask)) 5 0)
+      of-bit : itemNumber sites x ≡ cond (bit (x .mask) (x .primary)) 4 0
       of-bit = of-mask ∙ simp (le-ltb 0 (x .mask / 2 ^ sites) (omega arith))
 
       pub copy-own : bit (x .mask) (x .primary) ≡ true → 4 ≡ itemNumber sites x
       copy-own h = sym (of-bit ∙ simp h)
 
-      -- none is at its primary
-      module _ (other : bit (x .mask) (x .primary) ≡ false) where
-        of-below : itemNumber sites x ≡ cond (namesBelow (x .primary) (x .mask)) 5 0
-        of-below = of-bit ∙ simp other
-
-        pub copy-below : (x .mask % 2 ^ x .primary ≡ 0 → ⊥) → 5 ≡ itemNumber sites x
-        copy-below h = sym (of-below ∙ simp (lt-ltb 0 (x .mask % 2 ^ x .primary) (omega arith)))
-
-        pub none-faulty : x .mask % 2 ^ x .primary ≡ 0 → 0 ≡ itemNumber sites x
-        none-faulty h = sym (of-below ∙ simp (le-ltb 0 (x .mask % 2 ^ x .primary) (omega arith)))
-
-      -- all at once: none at its primary or below
-      pub copies-above : (r : ℕ) → r ≡ x .mask % 2 ^ (x .primary + 1) → eqb r 0 ≡ eqb (itemNumber sites x) 0
-      copies-above r is = go (bit (x .mask) (x .primary)) refl (eqb below 0) refl
-        where
-          below : ℕ
-          below = x .mask % 2 ^ x .primary
-
-          own : ℕ
-          own = x .mask / 2 ^ x .primary % 2
-
-          sum : r ≡ own * 2 ^ x .primary + below
-          sum = let e : x .primary + 1 ≡ 1 + x .primary = omega arith in is ∙ ap (λ (k : ℕ). x .mask % 2 ^ k) e ∙ mod-pow-add (x .mask) 1 (x .primary)
-
-          with-own : (q : ℕ) → own ≡ q → r ≡ q * 2 ^ x .primary + below
-          with-own q e = sum ∙ ap (λ (k : ℕ). k * 2 ^ x .primary + below) e
-
-          go : (b : Bool) → bit (x .mask) (x .primary) ≡ b → (d : Bool) → eqb below 0 ≡ d → eqb r 0 ≡ eqb (itemNumber sites x) 0
-          go true t d z = ne-eqb r 0 (λ y. omega (arith, with-own 1 (eqb-true own 1 t), pow-pos (x .primary))) ∙ ap (λ (k : ℕ). eqb k 0) (copy-own t)
-          go false f d z = rest (omega (arith, mod-lt (x .mask / 2 ^ x .primary) {m = 2} (omega arith), eqb-false own 1 f)) d z
-            where
-              rest : own ≡ 0 → (d : Bool) → eqb below 0 ≡ d → eqb r 0 ≡ eqb (itemNumber sites x) 0
-              rest o true z = eq-eqb r 0 (omega (arith, with-own 0 o, eqb-true below 0 z)) ∙ ap (λ (k : ℕ). eqb k 0) (none-faulty f (eqb-true below 0 z))
-              rest o false z = ne-eqb r 0 (λ y. eqb-false below 0 z (omega (arith, with-own 0 o))) ∙ ap (λ (k : ℕ). eqb k 0) (copy-below f (eqb-false below 0 z))
+      pub none-faulty : bit (x .mask) (x .primary) ≡ false → 0 ≡ itemNumber sites x
+      none-faulty h = sym (of-bit ∙ simp h)
 
 -- ---- the first n items
 module _ (n : ℕ) (w : List ℕ) where

@@ -1,6 +1,6 @@
 -- Laws of placement: the bits of a mask, an item that set-up does not refuse, and where the lines go.
 use mathlib.Core.Path.{_≡_, refl, sym, ap, _∙_}
-use mathlib.Core.Bool.{Bool, true, false, cond, _||_, false≢true}
+use mathlib.Core.Bool.{Bool, true, false, cond, _||_}
 use mathlib.Core.List.{List, [], _∷_}
 use Prim.Native.Nat.{ℕ, zero, suc, _+_, _-_, _*_, _/_, _%_, _^_, _≤_, _<_}
 use native.Mathlib.Omega.{arith}
@@ -8,11 +8,11 @@ use native.Mathlib.Nat.{not-suc-le-zero, div-eq-of-lt, div-lt-iff-lt-mul, le-div
 use lib.ListN.{length, getD}
 use lib.Pow.{pow-pos, pow-mono, pow-add, field, mod-mod-pow, high}
 use lib.Dec.{eqb, ltb, leb}
-use borrow.Author.Tests.{eqb-true, eqb-false, ltb-true, ltb-false}
+use borrow.Author.Tests.{eqb-true, eqb-false, ltb-true, ltb-false, leb-false}
 use Rattle.lists.proofs.Some.{some-index}
 use Rattle.lists.proofs.Every.{and-true}
 use Rattle.placement.specs.Masks.{bit, maskOf}
-use Rattle.placement.specs.Placement.{Item, namesMissing, namesBelow, itemNumber, itemsNumber, noItem, givesLine, isLine}
+use Rattle.placement.specs.Placement.{Item, namesMissing, itemNumber, itemsNumber, noItem, givesLine, isLine}
 use Rattle.placement.proofs.Items.{copied}
 
 -- ---- the bits of a mask
@@ -70,33 +70,27 @@ module _ (f : ℕ → Bool) where
           ap (bit (maskOf f (suc n))) q ∙ bit-added (maskOf f n) n (mask-of-below n) (f n) ∙ ap f (sym q)
 
 -- ---- an item that set-up does not refuse
-no-test : (a b c d : Bool) → _≡_ {A = ℕ} (cond a 3 (cond (b || c) 4 (cond d 5 0))) 0 → (a ≡ false) × (b ≡ false) × (c ≡ false) × (d ≡ false)
-no-test true b c d e = absurd (omega arith)
-no-test false true c d e = absurd (omega arith)
-no-test false false true d e = absurd (omega arith)
-no-test false false false true e = absurd (omega arith)
-no-test false false false false e = (refl, refl, refl, refl)
+no-test : (a b c : Bool) → _≡_ {A = ℕ} (cond a 3 (cond (b || c) 4 0)) 0 → (a ≡ false) × (b ≡ false) × (c ≡ false)
+no-test true b c e = absurd (omega arith)
+no-test false true c e = absurd (omega arith)
+no-test false false true e = absurd (omega arith)
+no-test false false false e = (refl, refl, refl)
 
 module _ (sites : ℕ) (x : Item) (z : itemNumber sites x ≡ 0) where
-  tests : (leb sites (x .primary) ≡ false) × (namesMissing sites (x .mask) ≡ false) × (bit (x .mask) (x .primary) ≡ false) × (namesBelow (x .primary) (x .mask) ≡ false)
+  tests : (leb sites (x .primary) ≡ false) × (namesMissing sites (x .mask) ≡ false) × (bit (x .mask) (x .primary) ≡ false)
   unfolding itemNumber
-  tests = no-test (leb sites (x .primary)) (namesMissing sites (x .mask)) (bit (x .mask) (x .primary)) (namesBelow (x .primary) (x .mask)) z
+  tests = no-test (leb sites (x .primary)) (namesMissing sites (x .mask)) (bit (x .mask) (x .primary)) z
 
--- its copies are at sites above its primary
-module _ (sites : ℕ) (x : Item) (k : ℕ) (z : itemNumber sites x ≡ 0) (b : bit (x .mask) k ≡ true) where
-  pub item-copy-site : k < sites
-  item-copy-site =
-      let none : x .mask / 2 ^ sites < 1 = omega (arith, ltb-false 0 (x .mask / 2 ^ sites) (tests sites x z .1)) in
+  -- its primary is a site
+  pub item-primary-site : x .primary < sites
+  item-primary-site = omega (arith, leb-false sites (x .primary) (tests .0))
+
+  -- so is each site of its copies
+  pub item-copy-site : (k : ℕ) → bit (x .mask) k ≡ true → k < sites
+  item-copy-site k b =
+      let none : x .mask / 2 ^ sites < 1 = omega (arith, ltb-false 0 (x .mask / 2 ^ sites) (tests .1)) in
       let small : x .mask < 1 * 2 ^ sites = div-lt-iff-lt-mul {k = 2 ^ sites} {x = x .mask} {y = 1} (pow-pos sites) .0 none in
       let far : sites ≤ k → ⊥ = λ h. omega (arith, bit-weight (x .mask) k b, pow-mono {i = sites} {j = k} h) in
-      omega arith
-
-  pub item-copy-above : x .primary < k
-  item-copy-above =
-      let p = x .primary in
-      let none : x .mask % 2 ^ p ≡ 0 = omega (arith, ltb-false 0 (x .mask % 2 ^ p) (tests sites x z .3)) in
-      let own : k ≡ p → ⊥ = λ e. false≢true (sym (tests sites x z .2) ∙ ap (bit (x .mask)) (sym e) ∙ b) in
-      let below : k < p → ⊥ = λ h. omega (arith, bit-below (x .mask) p k none h, eqb-true (x .mask / 2 ^ k % 2) 1 b) in
       omega arith
 
 -- ---- a placement that set-up does not refuse
@@ -112,13 +106,13 @@ items-number-zero sites [] i e h = absurd (not-suc-le-zero h)
 items-number-zero sites (x ∷ xs) zero e h = no-number (itemNumber sites x) (itemsNumber sites xs) e .0
 items-number-zero sites (x ∷ xs) (suc i) e h = items-number-zero sites xs i (no-number (itemNumber sites x) (itemsNumber sites xs) e .1) (omega arith)
 
--- a line goes from a site to one above it
-pub line-upward : (sites : ℕ) (xs : List Item) (p c : ℕ) → itemsNumber sites xs ≡ 0 → isLine xs p c ≡ true → (p < c) × (c < sites)
+-- both ends of a line are sites
+pub line-sites : (sites : ℕ) (xs : List Item) (p c : ℕ) → itemsNumber sites xs ≡ 0 → isLine xs p c ≡ true → (p < sites) × (c < sites)
 unfolding isLine
-line-upward sites xs p c z e =
+line-sites sites xs p c z e =
     let s = some-index (givesLine p c) xs noItem e in
     let x = getD xs (s .0) noItem in
     let t = and-true (eqb (x .primary) p) (copied c x) (s .2) in
     let sound = items-number-zero sites xs (s .0) z (s .1) in
     let own : x .primary ≡ p = eqb-true (x .primary) p (t .0) in
-    (omega (arith, item-copy-above sites x c sound (t .1)), item-copy-site sites x c sound (t .1))
+    (omega (arith, item-primary-site sites x sound), item-copy-site sites x sound c (t .1))

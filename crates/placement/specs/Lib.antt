@@ -1,3 +1,4 @@
 pub mod Masks
 pub mod Placement
 pub mod InWords
+pub mod Places

@@ -18,16 +18,11 @@ pub record Item : Type 0 where
 abbrev pub namesMissing : ℕ → ℕ → Bool
 namesMissing sites mask = ltb 0 (mask / 2 ^ sites)
 
--- the mask has a bit of a weight below that of the primary's
-abbrev pub namesBelow : ℕ → ℕ → Bool
-namesBelow primary mask = ltb 0 (mask % 2 ^ primary)
-
 -- the number for which set-up refuses an item, or 0
 unfoldable pub itemNumber : ℕ → Item → ℕ
 itemNumber sites x =
     cond (leb sites (x .primary)) 3
-    (cond (namesMissing sites (x .mask) || bit (x .mask) (x .primary)) 4
-    (cond (namesBelow (x .primary) (x .mask)) 5 0))
+    (cond (namesMissing sites (x .mask) || bit (x .mask) (x .primary)) 4 0)
 
 -- the number of the first faulty item, from item 0 on
 abbrev pub itemsNumber : ℕ → List Item → ℕ

@@ -7,7 +7,6 @@ pub use masks::bit;
 ghost use mathlib.Core.Path.{_≡_};
 ghost use Prim.Native.Nat.{min, _<_};
 ghost use lib.ListN.{getD};
-ghost use lib.Dec.{eqb};
 ghost use Rattle.placement.specs.Placement.{itemNumber, itemsNumber};
 ghost use Rattle.placement.specs.InWords.{itemSize, itemWords, itemAt, itemsIn};
 ghost use Rattle.limits.specs.Limits.{itemsMost};
@@ -19,7 +18,7 @@ const MASK: usize = PRIMARY + 1;
 
 pub const ITEM: usize = MASK + 1;
 
-// The number for which set-up refuses the first faulty of the items, or 0. More than 64 items count as 64.
+// The number for which set-up refuses the first faulty of the items, 3 or 4, or 0. More than 64 items count as 64.
 pub fn number(sites: u32, w: &[u32], items: usize) -> u32
     ensures { λ r. ⌜ r ≡ itemsNumber sites (itemsIn (min items itemsMost) (now (w .entry))) ⌝ }
 {
@@ -48,38 +47,7 @@ fn item_number(sites: u32, primary: u32, mask: u32) -> u32
     if bit(mask, primary) {
         return 4;
     }
-    if masks::below(mask, primary) != 0 {
-        return 5;
-    }
     0
-}
-
-// Whether set-up refuses none of the items. More than 64 items count as 64.
-pub fn fits(sites: u32, w: &[u32], items: usize) -> bool
-    ensures { λ r. ⌜ r ≡ eqb (itemsNumber sites (itemsIn (min items itemsMost) (now (w .entry)))) 0 ⌝ }
-{
-    let n = few(items);
-    let mut k = 0;
-    while k < n {
-        if !item_fits(sites, primary(w, k), mask(w, k)) {
-            return false;
-        }
-        k += 1;
-    }
-    true
-}
-
-// Whether set-up takes an item: its primary is a site, and its copies are at sites above that.
-fn item_fits(sites: u32, primary: u32, mask: u32) -> bool
-    ensures { λ r. ⌜ r ≡ eqb (itemNumber sites (record { primary = primary; mask = mask })) 0 ⌝ }
-{
-    if primary >= sites {
-        return false;
-    }
-    if masks::above(mask, sites) != 0 {
-        return false;
-    }
-    masks::below(mask, primary + 1) == 0
 }
 
 // The primary site of item k.

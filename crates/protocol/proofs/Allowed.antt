@@ -13,13 +13,14 @@ use Rattle.lists.specs.Lists.{someBelow}
 use Rattle.lists.specs.Numbers.{firstNumber, numberIf, outside}
 use Rattle.lists.proofs.Numbers.{none-holds, none-first, or-false}
 use Rattle.site_operations.specs.Operations.{Op, noOp, reads, writes}
-use Rattle.placement.specs.Placement.{Item, itemsNumber, owns, copies, isLine, hasParents}
+use Rattle.placement.specs.Placement.{Item, owns, copies, isLine, hasParents}
+use Rattle.placement.specs.Places.{placementNumber}
 use Rattle.protocol.specs.Network.{Network, siteAt, lineAt}
 use Rattle.protocol.specs.Steps.{wrongItems, itemsOf, setUpNumber, noSuchSite, countAtMost, someLineFull, opsOf, opNumber, due, commitCauses, wrongLists, commitNumber, dummyNumber, epochNumber, deliverNumber, lacksArrived, scheduleNumber}
 use Rattle.protocol.specs.Allowed.{SetUpAllowed, ListsAllowed, CommitAllowed, DummyAllowed, EpochAllowed, DeliverAllowed, ScheduleAllowed}
 
 -- low to high
-within : (low high k : ℕ) → outside low high k ≡ false → (low ≤ k) × (k ≤ high)
+pub within : (low high k : ℕ) → outside low high k ≡ false → (low ≤ k) × (k ≤ high)
 within low high k e = let x = or-false (ltb k low) (ltb high k) e in (ltb-false k low (x .0), ltb-false high k (x .1))
 
 same : (k m : ℕ) → not (eqb k m) ≡ false → k ≡ m
@@ -30,7 +31,7 @@ pub set-up-allowed : (sites items : ℕ) (ps ms : List ℕ) → setUpNumber site
 unfolding setUpNumber
 set-up-allowed sites items ps ms z =
     let wrong = wrongItems items (length ps) (length ms) in
-    let faulty : List ℕ = itemsNumber sites (itemsOf ps ms) ∷ [] in
+    let faulty : List ℕ = placementNumber sites (itemsOf ps ms) ∷ [] in
     let a = none-holds (outside 1 sitesMost sites) 0 (numberIf wrong 2 ∷ faulty) z in
     let b = none-holds wrong 1 faulty (a .1) in
     let lists = or-false (outside 1 itemsMost items) (not (eqb (length ps) items) || not (eqb (length ms) items)) (b .0) in
@@ -44,7 +45,7 @@ set-up-allowed sites items ps ms z =
       few-items = x .1;
       each-primary = same (length ps) items (each .0);
       each-mask = same (length ms) items (each .1);
-      placed = none-first (itemsNumber sites (itemsOf ps ms)) [] (b .1) .0;
+      placed = none-first (placementNumber sites (itemsOf ps ms)) [] (b .1) .0;
     }
 
 -- ---- commit

@@ -1,7 +1,7 @@
 -- Beside one-copy agreement: what holds from no network on, no two commits have one timestamp, and no call is refused with 6.
 use mathlib.Core.Path.{_≡_, refl, ap, sym, subst, _∙_}
 use mathlib.Core.Bool.{Bool, true, false, cond, not, _&&_, _||_}
-use mathlib.Core.List.{List, [], _∷_, map}
+use mathlib.Core.List.{List, [], _∷_}
 use mathlib.Core.Logic.{inl, inr}
 use mathlib.Core.Option.{Option, none, some}
 use Prim.Native.Nat.{ℕ, _<_}
@@ -11,17 +11,18 @@ use lib.ListN.{length, getD}
 use lib.Dec.{eqb, ltb, leb}
 use borrow.Author.Tests.{eqb-false}
 use Rattle.site_operations.specs.Operations.{Op, reads, writes}
-use Rattle.placement.specs.Masks.{bit}
-use Rattle.placement.specs.Placement.{Item, namesMissing, namesBelow, itemNumber, owns, copies, isLine, hasParents}
-use Rattle.lists.specs.Numbers.{firstNumber, numberIf, outside}
+use Rattle.placement.specs.Placement.{Item, owns, copies, isLine, hasParents}
+use Rattle.placement.specs.Places.{cyclic, placementNumber}
+use Rattle.lists.specs.Numbers.{numberIf, outside}
 use Rattle.limits.specs.Limits.{sitesMost, itemsMost, recordsMost}
 use Rattle.protocol.specs.Network.{Network, noRecord, siteAt, lineAt}
 use Rattle.protocol.specs.Steps.{itemsOf, noSuchSite, countAtMost, someLineFull, opsOf, opNumber, due, wrongLists, setUpNumber, commitNumber, dummyNumber, epochNumber, deliverNumber, scheduleNumber}
 use Rattle.lists.specs.Lists.{someBelow}
-use Rattle.protocol.specs.Questions.{Question, waiting, table, stamp, line, origin, noSuchRead, askedSite, questionNumber}
+use Rattle.protocol.specs.Questions.{Question, waiting, table, stamp, line, origin, places, noSuchRead, askedSite, questionNumber}
 use Rattle.protocol.specs.Calls.{Call, setUp, commit, dummy, epoch, deliver, schedule, ask, refused, perform}
 use Rattle.protocol.specs.Agreement.{Known, nothingKnown, witnessed, learned, learnedAll, OneCopyAgreement, AgreedOrUnset, FromNothing, StampsDiffer, Never6}
 use Rattle.lists.proofs.Matched.{matched-length, matched-at}
+use Rattle.protocol.proofs.Causes.{Not, either-not, first-not, when-not, all-not, items-not}
 use Rattle.protocol.proofs.Alike.{Alike}
 use Rattle.protocol.proofs.Invariant.{stamps-apart}
 use Rattle.protocol.proofs.Follows.{Follows, always}
@@ -37,43 +38,25 @@ differ k f a b l m e =
     stamps-apart (f .network) (f .inv) a b l (omega arith) (same a (omega arith) ∙ e ∙ sym (same b (omega arith)))
 
 -- ---- numbers: no cause of a call has 6
-record Not6 (m : ℕ) : Type 0 where
-  differs : eqb m 6 ≡ false
+abbrev Not6 : ℕ → Type 0
+Not6 m = Not 6 m
 
 zero-not6 : Not6 0
 zero-not6 = record { differs = refl }
 
-either-not6 : {m k : ℕ} (b : Bool) → Not6 m → Not6 k → Not6 (cond b m k)
-either-not6 true f g = f
-either-not6 false f g = g
-
--- the first of a number and the rest
-first-not6 : {m rest : ℕ} → Not6 m → Not6 rest → Not6 (cond (eqb m 0) rest m)
-first-not6 {m = m} f g = either-not6 (eqb m 0) g f
-
--- the first of a cause and the rest
 when-not6 : {rest : ℕ} (b : Bool) (m : ℕ) → eqb m 6 ≡ false → Not6 rest → Not6 (cond (eqb (numberIf b m) 0) rest (numberIf b m))
-when-not6 b m e g = first-not6 (either-not6 b (record { differs = e }) zero-not6) g
+when-not6 = when-not zero-not6
 
-all-not6 : {A : Type 0} (f : A → ℕ) → ((x : A) → Not6 (f x)) → (xs : List A) → Not6 (firstNumber (map f xs))
-all-not6 f g [] = zero-not6
-all-not6 f g (x ∷ xs) = first-not6 (g x) (all-not6 f g xs)
-
-item-not6 : (sites : ℕ) (x : Item) → Not6 (itemNumber sites x)
-unfolding itemNumber
-item-not6 sites x =
-    let three : Not6 3 = record { differs = refl } in
-    let four : Not6 4 = record { differs = refl } in
-    let five : Not6 5 = record { differs = refl } in
-    either-not6 (leb sites (x .primary)) three
-    (either-not6 (namesMissing sites (x .mask) || bit (x .mask) (x .primary)) four (either-not6 (namesBelow (x .primary) (x .mask)) five zero-not6))
+placement-not6 : (sites : ℕ) (xs : List Item) → Not6 (placementNumber sites xs)
+unfolding placementNumber
+placement-not6 sites xs = first-not (items-not zero-not6 (record { differs = refl }) (record { differs = refl }) sites xs) (when-not6 (cyclic xs) 5 refl zero-not6)
 
 set-up-not6 : (sites items : ℕ) (ps ms : List ℕ) → Not6 (setUpNumber sites items ps ms)
 unfolding setUpNumber
 set-up-not6 sites items ps ms =
     when-not6 (outside 1 sitesMost sites) 1 refl
     (when-not6 (outside 1 itemsMost items || (not (eqb (length ps) items) || not (eqb (length ms) items))) 2 refl
-    (first-not6 (all-not6 (itemNumber sites) (item-not6 sites) (itemsOf ps ms)) zero-not6))
+    (first-not (placement-not6 sites (itemsOf ps ms)) zero-not6))
 
 -- a call answers its number, accepted or not
 by-number : {A : Type 0} (m : ℕ) → (eqb m 0 ≡ true → A) → (eqb m 0 ≡ false → A) → A
@@ -96,7 +79,7 @@ module _ (n : Network) where
       let os = opsOf ks is vs in
       when-not6 (noSuchSite n i) 7 refl
       (when-not6 (wrongLists (length ks) (length is) (length vs)) 8 refl
-      (first-not6 (all-not6 (opNumber (n .items) i) (op-not6 i) os)
+      (first-not (all-not zero-not6 (opNumber (n .items) i) (op-not6 i) os)
       (when-not6 (leb recordsMost (length (n .history))) 12 refl (when-not6 (someLineFull n i (due (n .items) os)) 13 refl (when-not6 (countAtMost n i) 14 refl zero-not6)))))
 
   dummy-not6 : (i : ℕ) → Not6 (dummyNumber n i)
@@ -120,7 +103,7 @@ module _ (n : Network) where
       (when-not6 (not (hasParents (n .items) j)) 19 refl (when-not6 (someBelow (λ p. isLine (n .items) p j && eqb (lineAt n p j .arrived) 0) sitesMost) 20 refl zero-not6))
 
   site-not6 : (i : ℕ) → Not6 (askedSite n i)
-  site-not6 i = either-not6 (noSuchSite n i) (record { differs = refl }) zero-not6
+  site-not6 i = either-not (noSuchSite n i) (record { differs = refl }) zero-not6
 
   question-not6 : (q : Question) → Not6 (questionNumber n q)
   unfolding questionNumber
@@ -128,7 +111,8 @@ module _ (n : Network) where
   question-not6 (table i) = site-not6 i
   question-not6 (stamp i) = site-not6 i
   question-not6 (line p c) = when-not6 (noSuchSite n p || noSuchSite n c) 7 refl (when-not6 (not (isLine (n .items) p c)) 17 refl zero-not6)
-  question-not6 (origin k a) = either-not6 (noSuchRead n k a) (record { differs = refl }) zero-not6
+  question-not6 (origin k a) = either-not (noSuchRead n k a) (record { differs = refl }) zero-not6
+  question-not6 places = zero-not6
 
   call-not6 : (c : Call) → Not6 (perform (some n) c .number)
   unfolding perform

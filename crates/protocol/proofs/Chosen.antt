@@ -14,7 +14,8 @@ use Rattle.timestamp_order.proofs.Made.{made-parts, made-length, made-appended}
 use Rattle.timestamp_order.proofs.Timestamp.{append-room}
 use Rattle.site.specs.Site.{received}
 use Rattle.placement.specs.Masks.{bit}
-use Rattle.placement.specs.Placement.{Item, itemsNumber, noItem, isLine, hasParents}
+use Rattle.placement.specs.Placement.{Item, noItem, isLine, hasParents}
+use Rattle.placement.specs.Places.{placementNumber}
 use Rattle.limits.specs.Limits.{sitesMost}
 use Rattle.lists.proofs.Some.{some-at, some-index, none-below}
 use Rattle.lines.specs.Lines.{Line, noLine, taken}
@@ -63,7 +64,7 @@ module _ (n : Network) (j : ℕ) where
           let other : p ≡ q → ⊥ = λ same. true≢false (sym e ∙ ap (λ (r : ℕ). isLine (n .items) r j) same ∙ t) in
           rest (omega arith) (omega arith) e
 
-  pub chosen-parent : itemsNumber (length (n .sites)) (n .items) ≡ 0 → length (n .sites) ≤ sitesMost → hasParents (n .items) j ≡ true → (isLine (n .items) (chosen n j) j ≡ true) × (chosen n j < sitesMost)
+  pub chosen-parent : placementNumber (length (n .sites)) (n .items) ≡ 0 → length (n .sites) ≤ sitesMost → hasParents (n .items) j ≡ true → (isLine (n .items) (chosen n j) j ≡ true) × (chosen n j < sitesMost)
   unfolding hasParents isLine
   chosen-parent z few e =
       let f = some-index (λ (x : Item). bit (x .mask) j) (n .items) noItem e in
@@ -130,7 +131,7 @@ module _ (n : Network) (j : ℕ) (few : length (n .sites) ≤ sitesMost) (s : Sh
   chosen-line = chosen-parent n j (s .placed) few (allowed .parents) .0
 
   pub chosen-rises : placeAt n (chosen n j) < placeAt n j
-  chosen-rises = line-rises (length (n .sites)) (n .items) (chosen n j) j (s .placed) chosen-line
+  chosen-rises = line-rises (length (n .sites)) (n .items) (chosen n j) j (s .placed) chosen-line few
 
   pub chosen-held : 0 < length (lineAt n (chosen n j) j .messages)
   chosen-held = parent-held (chosen n j) chosen-line

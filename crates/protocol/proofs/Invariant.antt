@@ -159,7 +159,7 @@ module _ (n : Network) (inv : Invariant n) where
   line-sites p j e = line-ends (length (n .sites)) (n .items) p j (shaped .placed) e
 
   pub line-up : (p j : ℕ) → isLine (n .items) p j ≡ true → placeAt n p < placeAt n j
-  line-up p j e = line-rises (length (n .sites)) (n .items) p j (shaped .placed) e
+  line-up p j e = line-rises (length (n .sites)) (n .items) p j (shaped .placed) e (inv .sizes .sites)
 
   pub stamp-made : (j : ℕ) → j < length (n .sites) → madeBy (placeAt n) j (stampAt n j) ≡ true
   stamp-made = shaped .stamps

@@ -20,7 +20,8 @@ use Rattle.site.specs.Site.{Site, committed, dummied, atEpoch}
 use Rattle.limits.specs.Limits.{sitesMost}
 use Rattle.site_operations.proofs.Works.{recorded-like}
 use Rattle.placement.specs.Masks.{bit}
-use Rattle.placement.specs.Placement.{Item, itemsNumber, noItem, copies, isLine}
+use Rattle.placement.specs.Placement.{Item, noItem, copies, isLine}
+use Rattle.placement.specs.Places.{placementNumber}
 use Rattle.lists.specs.Numbers.{firstNumber}
 use Rattle.lists.proofs.Some.{some-at, some-index}
 use Rattle.lines.specs.Lines.{Line, noLine, sent, delivered}
@@ -54,7 +55,7 @@ keeps-set-up sites items ps ms allowed =
     let number : (k : ℕ) → 0 + k ≡ k = λ k. omega arith in
     shape-whole (setUpNetwork sites ps ms)
     (record {
-      placed = ap (λ (m : ℕ). itemsNumber m xs) (start-length 0 sites) ∙ allowed .placed;
+      placed = ap (λ (m : ℕ). placementNumber m xs) (start-length 0 sites) ∙ allowed .placed;
       stamps = λ i h.
           ap (λ (x : Site). madeBy (placeOf xs) i (x .stamp)) (start-at 0 sites i (omega (arith, start-length 0 sites)) ∙ ap startSite (number i))
           ∙ made-start (placeOf xs) i 0 0;
@@ -85,8 +86,8 @@ module _ (n : Network) (s : Shape n) (i : ℕ) (new : Site) where
   pub stamps-set : madeBy (placeAt n) i (new .stamp) ≡ true → (k : ℕ) → k < length (set (n .sites) i new) → madeBy (placeAt n) k (getD (set (n .sites) i new) k noSite .stamp) ≡ true
   stamps-set e = set-each (λ k x. madeBy (placeAt n) k (x .stamp) ≡ true) (n .sites) i new noSite (s .stamps) (λ b. e)
 
-  pub placed-set : itemsNumber (length (set (n .sites) i new)) (n .items) ≡ 0
-  placed-set = ap (λ (m : ℕ). itemsNumber m (n .items)) (length-set (n .sites) i new) ∙ s .placed
+  pub placed-set : placementNumber (length (set (n .sites) i new)) (n .items) ≡ 0
+  placed-set = ap (λ (m : ℕ). placementNumber m (n .items)) (length-set (n .sites) i new) ∙ s .placed
 
   pub records-set : (k : ℕ) → k < length (n .history) → RecordShape (placeAt n) (length (set (n .sites) i new)) (length (n .items)) (getD (n .history) k noRecord)
   records-set k h = subst (λ (m : ℕ). RecordShape (placeAt n) m (length (n .items)) (getD (n .history) k noRecord)) (sym (length-set (n .sites) i new)) (s .records k h)
@@ -213,11 +214,6 @@ worked-fits items table (o ∷ os) =
     ap₂ _&&_ (ap₂ (λ (k x : ℕ). leb k 1 && ltb x items) (like .0) (like .1)) (worked-fits items (written table o) os)
 
 -- ---- commit
--- no site but its own moves
-pub commit-sites : (n : Network) (i : ℕ) (os : List Op) → commitNetwork n i os .sites ≡ set (n .sites) i (committed os (siteAt n i))
-unfolding commitNetwork
-commit-sites n i os = refl
-
 pub keeps-commit : (n : Network) (i : ℕ) (os : List Op) → wellShaped n ≡ true → CommitAllowed n i os → wellShaped (commitNetwork n i os) ≡ true
 unfolding commitNetwork
 keeps-commit n i os e allowed =

@@ -1,6 +1,8 @@
 pub mod Times
 pub mod Places
 pub mod Allowed
+pub mod Causes
+pub mod Cycles
 pub mod WellShaped
 pub mod Keeps
 pub mod Chosen

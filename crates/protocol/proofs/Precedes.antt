@@ -16,8 +16,8 @@ use Rattle.protocol.specs.Precedes.{precedesBy}
 use Rattle.protocol.specs.Run.{Turn}
 use Rattle.protocol.proofs.Times.{Times, times}
 
-module _ (place : ℕ → ℕ) (apart : (a b : ℕ) → place a ≡ place b → a ≡ b) {A : Type 0} (number : A → ℕ) (stamp : A → Stamp) where
-  open Times (times place apart) using (upto-before, upto-trans, before-upto, upto-then, never-before, fails-later, before-test, test-before)
+module _ (place : ℕ → ℕ) {A : Type 0} (number : A → ℕ) (stamp : A → Stamp) where
+  open Times (times place) using (upto-before, upto-trans, before-upto, upto-then, never-before, fails-later, before-test, test-before)
 
   abbrev precedes : A → A → Bool
   precedes c d = precedesBy place (number c) (stamp c) (number d) (stamp d)

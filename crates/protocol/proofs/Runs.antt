@@ -64,7 +64,7 @@ abbrev pub WritersRise : (ℕ → ℕ) → ℕ → List Record → Type 0
 WritersRise place x h =
     (k m : ℕ) → k < m → m < length h → touches x (recordAt h k .ops) ≡ true → touches x (recordAt h m .ops) ≡ true → IsEarlier place (recordAt h k .stamp) (recordAt h m .stamp)
 
-module _ (place : ℕ → ℕ) (apart : (a b : ℕ) → place a ≡ place b → a ≡ b) (x : ℕ) (h : List Record) (rise : WritersRise place x h) (q : Record → Bool) where
+module _ (place : ℕ → ℕ) (x : ℕ) (h : List Record) (rise : WritersRise place x h) (q : Record → Bool) where
   abbrev writes : Turn → Bool
   writes c = writer x (c .commit)
 
@@ -79,7 +79,7 @@ module _ (place : ℕ → ℕ) (apart : (a b : ℕ) → place a ≡ place b → 
       keep-turn writes passes (inTurn place h)
       ∙ ap (keep passes)
       (ap (keep writes) (in-turn-is place h)
-      ∙ keep-sorted first (turns-along place apart) (turns-either place apart) writes (numbered 0 h)
+      ∙ keep-sorted first (turns-along place) (turns-either place) writes (numbered 0 h)
       ∙ sorted-same first (keep writes (numbered 0 h)) (chain-keep writes (InOrder first) (numbered 0 h) rising))
       ∙ keep-turn passes writes (numbered 0 h)
 
@@ -104,12 +104,12 @@ by-number f j (r ∷ h) g =
     let next : (k : ℕ) → j + suc k ≡ suc j + k = λ k. omega arith in
     ap₂ {C = List Record} (λ p ps. p ∷ ps) (g 0 (omega arith) ∙ ap f first) (by-number f (suc j) h (λ k l. g (suc k) (omega arith) ∙ ap f (next k)))
 
-module _ (place : ℕ → ℕ) (apart : (a b : ℕ) → place a ≡ place b → a ≡ b) where
-  open Times (times place apart) using (upto-self, upto-before, upto-other, before-trans, fails-later, test-fails)
+module _ (place : ℕ → ℕ) where
+  open Times (times place) using (upto-self, upto-before, upto-other, before-trans, fails-later, test-fails)
 
   pub run-value : (h : List Record) (x : ℕ) → x < tableSize → WritersRise place x h → (t : Stamp) → valueAt place startTable h t x ≡ lastValue x (keep (λ (r : Record). notLater (orderBy place (r .stamp) t)) h)
   unfolding valueAt
-  run-value h x l rise t = run-last place apart x h rise (λ r. notLater (orderBy place (r .stamp) t)) l
+  run-value h x l rise t = run-last place x h rise (λ r. notLater (orderBy place (r .stamp) t)) l
 
   -- ---- what each turn sees, where no two turns have one timestamp
   abbrev Before : Turn → Turn → Type 0
@@ -174,7 +174,7 @@ module _ (place : ℕ → ℕ) (apart : (a b : ℕ) → place a ≡ place b → 
           (λ a b e. omega (arith, low k l a b, after-length startTable (keep (earlierThan r) (inTurn place h)), length-replicate tableSize (pos 0)))
           (λ a b e.
           let x = getD (r .ops) a noOp .item in
-          right k l a b e ∙ ap (λ (v : ℤ). wrote x v (take a (r .ops))) (sym (run-last place apart x h (rise x) (λ s. isEarlier (orderBy place (s .stamp) (r .stamp))) (low k l a b)))) in
+          right k l a b e ∙ ap (λ (v : ℤ). wrote x v (take a (r .ops))) (sym (run-last place x h (rise x) (λ s. isEarlier (orderBy place (s .stamp) (r .stamp))) (low k l a b)))) in
           (λ i. record { site = r .site; stamp = r .stamp; ops = kept i })
           ∙ ap (λ (s : Record). seenRecord (after startTable (keep (earlierThan s) (inTurn place h))) s) (sym (find-turn place h k))
           ∙ sym (run-sees startTable (inTurn place h) k strict (has-turn place h k l))

@@ -13,7 +13,7 @@ use Rattle.protocol.specs.Run.{startTable, shown, valueAt}
 use Rattle.protocol.specs.Agreement.{Known, holds, Agreement, OneCopyAgreement}
 use Rattle.protocol.proofs.Runs.{run-value, run-shows}
 use Rattle.protocol.proofs.Alike.{alike-shown, alike-value}
-use Rattle.protocol.proofs.Places.{places-apart, placeAt}
+use Rattle.protocol.proofs.Places.{placeAt}
 use Rattle.protocol.proofs.Invariant.{stampAt, tableAt, Invariant, stamps-apart, writers-rise}
 use Rattle.protocol.proofs.Follows.{readsOf, Follows, always}
 
@@ -21,7 +21,7 @@ use Rattle.protocol.proofs.Follows.{readsOf, Follows, always}
 module _ (n : Network) (inv : Invariant n) where
   run-history : n .history ≡ shown (placeAt n) startTable (n .history)
   run-history =
-      run-shows (placeAt n) (places-apart (n .items)) (n .history) (stamps-apart n inv) (writers-rise n inv)
+      run-shows (placeAt n) (n .history) (stamps-apart n inv) (writers-rise n inv)
       (λ k l a b. let item = inv .allowed k l a b .item in omega (arith, inv .sizes .items)) (inv .read)
 
 -- ---- what follows from the calls agrees with the run
@@ -52,7 +52,7 @@ module _ (k : Known) (f : Follows k) where
       let item = item-there x b in
       let held : holds (n .items) i x ≡ true = ap (λ (xs : List Item). holds xs i x) (sym (f .items-are)) ∙ e in
       f .inv .copy i x site item held
-      ∙ sym (run-value (placeAt n) (places-apart (n .items)) (n .history) x (omega (arith, f .inv .sizes .items)) (writers-rise n (f .inv) x) (stampAt n i))
+      ∙ sym (run-value (placeAt n) (n .history) x (omega (arith, f .inv .sizes .items)) (writers-rise n (f .inv) x) (stampAt n i))
       ∙ alike-value (placeAt n) (n .history) (k .book .commits) (f .commits-alike) (stampAt n i) x
       ∙ ap (λ (xs : List Item). valueAt (placeOf xs) startTable (k .book .commits) (stampAt n i) x) (sym (f .items-are))
 

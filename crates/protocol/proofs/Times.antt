@@ -1,4 +1,4 @@
--- Timestamps compared, whatever the places of the sites, as long as no two share one: the order's laws in the two relations that the
+-- Timestamps compared, whatever the places of the sites: the order's laws in the two relations that the
 -- invariant speaks of, and the cut at a site's own tuple. A block of laws opens those that it needs.
 use mathlib.Core.Path.{_≡_, refl, ap, sym, _∙_}
 use mathlib.Core.Bool.{Bool, true, false, false≢true}
@@ -52,12 +52,12 @@ without-last (p ∷ (q ∷ ps)) x = ap (λ (rs : List Pair). p ∷ rs) (without-
 pub without-appended : (s : Stamp) (j c : ℕ) → without (appended s j c) ≡ s
 without-appended s j c = ap (λ (ps : List Pair). record { epoch = s .epoch; tuples = ps }) (without-last (s .tuples) (record { site = j; count = c }))
 
-module _ (place : ℕ → ℕ) (apart : (a b : ℕ) → place a ≡ place b → a ≡ b) where
+module _ (place : ℕ → ℕ) where
   abbrev cmp : Stamp → Stamp → Order
   cmp = orderBy place
 
   laws : Laws Stamp cmp
-  laws = order-laws place apart
+  laws = order-laws place
 
   -- ---- the tests
   not-both : (s t : Stamp) → NotLater place s t → IsEarlier place t s → ⊥
@@ -112,7 +112,7 @@ module _ (place : ℕ → ℕ) (apart : (a b : ℕ) → place a ≡ place b → 
     upto-cut = ap (λ (s : Stamp). notLater (cmp u s)) whole ∙ cut-not-later place j (lastPair (t .tuples) .count) u (without t) below
 
     before-cut : IsEarlier place (without t) u → IsEarlier place t u
-    before-cut e = ap (λ (s : Stamp). cmp s u) whole ∙ cut-earlier-than place j (lastPair (t .tuples) .count) u (without t) below apart e
+    before-cut e = ap (λ (s : Stamp). cmp s u) whole ∙ cut-earlier-than place j (lastPair (t .tuples) .count) u (without t) below e
 
     test-cut : isEarlier (cmp u t) ≡ notLater (cmp u (without t))
     test-cut =

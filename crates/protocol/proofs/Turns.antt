@@ -19,12 +19,12 @@ use Rattle.protocol.specs.Run.{Turn, numbered, comesFirst, inTurn, find}
 use Rattle.protocol.specs.Network.{recordAt}
 
 -- ---- by rising timestamp, equal ones in the order made
-module _ (place : ℕ → ℕ) (apart : (a b : ℕ) → place a ≡ place b → a ≡ b) where
+module _ (place : ℕ → ℕ) where
   pub turns-along : (c d e : Turn) → comesFirst place c d ≡ true → comesFirst place d e ≡ true → comesFirst place c e ≡ true
-  turns-along c d e = not-later-trans (orderBy place) (order-laws place apart) (c .commit .stamp) (d .commit .stamp) (e .commit .stamp)
+  turns-along c d e = not-later-trans (orderBy place) (order-laws place) (c .commit .stamp) (d .commit .stamp) (e .commit .stamp)
 
   pub turns-either : (c d : Turn) → comesFirst place c d ≡ false → comesFirst place d c ≡ true
-  turns-either c d h = ap notLater (later-turned (orderBy place) (order-laws place apart) (c .commit .stamp) (d .commit .stamp) h)
+  turns-either c d h = ap notLater (later-turned (orderBy place) (order-laws place) (c .commit .stamp) (d .commit .stamp) h)
 
 -- ---- a turn found by its number
 abbrev pub has : ℕ → List Turn → Bool

@@ -23,7 +23,7 @@ use Rattle.placement.specs.Placement.{Item, noItem, copies}
 use Rattle.protocol.specs.Network.{Network, noStamp, messageStamp}
 use Rattle.protocol.specs.Precedes.{precedesBy}
 use Rattle.protocol.specs.Waiting.{into, carries, isWaiting, noLater, writeStamps, earliestWrite, waitingItems, EachOnce, ReportIs, Earliest, EarliestIs}
-use Rattle.protocol.proofs.Places.{placeAt, places-apart, timesAt}
+use Rattle.protocol.proofs.Places.{placeAt, timesAt}
 use Rattle.protocol.proofs.Precedes.{precedes-one-way, sorted-precede}
 use Rattle.protocol.proofs.Times.{Times}
 
@@ -48,7 +48,7 @@ module _ (n : Network) where
     report-chain : Chain Precedes (waitingItems n i)
     unfolding waitingItems
     report-chain =
-        sorted-precede (placeAt n) (places-apart (n .items)) (λ (k : ℕ). k) (earliestWrite n i) (keep (isWaiting n i) numbers)
+        sorted-precede (placeAt n) (λ (k : ℕ). k) (earliestWrite n i) (keep (isWaiting n i) numbers)
         (chain-keep (isWaiting n i) (λ j k. j < k) numbers (chain-implied (λ j k. j < k) _ (λ j k l _ _. l) numbers (numbers-rise 0 (length (n .items)))))
 
     -- an item that is not there has no copy
@@ -70,7 +70,7 @@ module _ (n : Network) where
         record {
           each-once = report-once;
           in-order = chain-at Precedes (waitingItems n i) 0 report-chain;
-          alone = λ xs once order. same-order Precedes (λ j k. precedes-one-way (placeAt n) (places-apart (n .items)) (λ (k : ℕ). k) (earliestWrite n i) j k)
+          alone = λ xs once order. same-order Precedes (λ j k. precedes-one-way (placeAt n) (λ (k : ℕ). k) (earliestWrite n i) j k)
               xs (waitingItems n i) (chain-by Precedes xs 0 order) report-chain (λ k. once k ∙ sym (report-once k));
         }
 
@@ -120,7 +120,7 @@ module _ (n : Network) where
 
       only : (s t : Stamp) → Earliest n i k s → Earliest n i k t → s ≡ t
       only s t e f =
-          not-later-both (orderBy (placeAt n)) (order-laws (placeAt n) (places-apart (n .items))) s t
+          not-later-both (orderBy (placeAt n)) (order-laws (placeAt n)) s t
           (subst (NotLater (placeAt n) s) (f .stamp-is) (e .none-earlier (f .write) (f .there)))
           (subst (NotLater (placeAt n) t) (e .stamp-is) (f .none-earlier (e .write) (e .there)))
 

@@ -13,7 +13,8 @@ use Rattle.lists.specs.Lists.{every, everyFrom, isEmpty}
 use Rattle.lists.proofs.Every.{and-true, every-at, every-all, from-all, from-at}
 use Rattle.timestamp_order.specs.Made.{madeBy}
 use Rattle.site.specs.Site.{Site}
-use Rattle.placement.specs.Placement.{Item, itemsNumber, isLine}
+use Rattle.placement.specs.Placement.{Item, isLine}
+use Rattle.placement.specs.Places.{placementNumber}
 use Rattle.limits.specs.Limits.{sitesMost}
 use Rattle.lines.specs.Lines.{Line, noLine, sent}
 use Rattle.messages.specs.Messages.{Message}
@@ -122,7 +123,7 @@ module _ (place : ℕ → ℕ) (sites items : ℕ) (r : Record) where
 
 -- ---- the parts of a well-shaped network
 pub record Shape (n : Network) : Type 0 where
-  pub placed : itemsNumber (length (n .sites)) (n .items) ≡ 0
+  pub placed : placementNumber (length (n .sites)) (n .items) ≡ 0
   pub stamps : (i : ℕ) → i < length (n .sites) → madeBy (placeAt n) i (siteAt n i .stamp) ≡ true
   pub records : (k : ℕ) → k < length (n .history) → RecordShape (placeAt n) (length (n .sites)) (length (n .items)) (getD (n .history) k noRecord)
   pub lined : (k : ℕ) → k < length (n .lines) → LineShape (n .items) (n .history) k (getD (n .lines) k noLine)
@@ -134,7 +135,7 @@ module _ (n : Network) where
   pub shape-parts : wellShaped n ≡ true → Shape n
   unfolding wellShaped
   shape-parts e =
-      let placement = eqb (itemsNumber (length (n .sites)) (n .items)) 0 in
+      let placement = eqb (placementNumber (length (n .sites)) (n .items)) 0 in
       let stamps = everyFrom ownStamp 0 (n .sites) in
       let records = every (recordFits (placeAt n) (length (n .sites)) (length (n .items))) (n .history) in
       let lines = everyFrom (lineFits (n .items) (n .history)) 0 (n .lines) in
@@ -143,7 +144,7 @@ module _ (n : Network) where
       let c = and-true records lines (b .1) in
       let number : (k : ℕ) → k ≡ 0 + k = λ k. omega arith in
       record {
-        placed = eqb-true (itemsNumber (length (n .sites)) (n .items)) 0 (a .0);
+        placed = eqb-true (placementNumber (length (n .sites)) (n .items)) 0 (a .0);
         stamps = λ i h. ap (λ (k : ℕ). ownStamp k (siteAt n i)) (number i) ∙ from-at ownStamp 0 (n .sites) i noSite (b .0) h;
         records = λ k h.
             record-parts (placeAt n) (length (n .sites)) (length (n .items)) (getD (n .history) k noRecord)
@@ -158,7 +159,7 @@ module _ (n : Network) where
   shape-whole s =
       let number : (k : ℕ) → 0 + k ≡ k = λ k. omega arith in
       let fits = lineFits (n .items) (n .history) in
-      rw (eq-eqb (itemsNumber (length (n .sites)) (n .items)) 0 (s .placed))
+      rw (eq-eqb (placementNumber (length (n .sites)) (n .items)) 0 (s .placed))
       (rw (from-all ownStamp 0 (n .sites) noSite (λ i h. ap (λ (k : ℕ). ownStamp k (siteAt n i)) (number i) ∙ s .stamps i h))
       (rw (every-all (recordFits (placeAt n) (length (n .sites)) (length (n .items))) (n .history) noRecord (λ k h. record-whole (placeAt n) (length (n .sites)) (length (n .items)) (getD (n .history) k noRecord) (s .records k h)))
       (from-all fits 0 (n .lines) noLine (λ k h. ap (λ (j : ℕ). fits j (getD (n .lines) k noLine)) (number k) ∙ line-whole (n .items) (n .history) k (getD (n .lines) k noLine) (s .lined k h)))))

@@ -87,7 +87,11 @@ abbrev pub learnedAll : Known → List Call → Known
 learnedAll k [] = k
 learnedAll k (c ∷ cs) = learnedAll (learned k c) cs
 
--- ---- the agreement; the run takes the book's commits by the order of sites that the last accepted set-up gives
+-- ---- the agreement
+-- a site's place in the order of sites, from the arguments of the last accepted set-up alone; by it the run takes the book's commits
+abbrev pub bookPlace : Known → ℕ → ℕ
+bookPlace k = placeOf (k .items)
+
 abbrev pub holds : List Item → ℕ → ℕ → Bool
 holds xs i x = owns xs i x || copies xs i x
 
@@ -95,9 +99,9 @@ pub record Agreement (k : Known) : Type 0 where
   pub network : Network
   pub state-is : k .state ≡ some network
   -- every value that a commit answered for a read is the value the run has there
-  pub values-agree : k .values ≡ map (λ (r : Record). valuesRead (r .ops)) (shown (placeOf (k .items)) startTable (k .book .commits))
+  pub values-agree : k .values ≡ map (λ (r : Record). valuesRead (r .ops)) (shown (bookPlace k) startTable (k .book .commits))
   -- the history is the book's commits in the order made, each read with that value
-  pub history-agrees : network .history ≡ shown (placeOf (k .items)) startTable (k .book .commits)
+  pub history-agrees : network .history ≡ shown (bookPlace k) startTable (k .book .commits)
   -- every accepted commit and dummy answered the timestamp that the book had for its site right after it
   pub answers-agree : k .answered ≡ k .booked
   -- each site's own timestamp is the book's
@@ -106,7 +110,7 @@ pub record Agreement (k : Known) : Type 0 where
   pub tables-reach : (i x : ℕ) → i < length (k .book .stamps) → x < length (k .items) → x < length (siteAt network i .table)
   -- every item at each site that owns or copies it holds the run's value after exactly the commits not later than that site's timestamp
   pub copies-agree : (i x : ℕ) → i < length (k .book .stamps) → x < length (k .items) → holds (k .items) i x ≡ true
-      → getD (siteAt network i .table) x (pos 0) ≡ valueAt (placeOf (k .items)) startTable (k .book .commits) (siteAt network i .stamp) x
+      → getD (siteAt network i .table) x (pos 0) ≡ valueAt (bookPlace k) startTable (k .book .commits) (siteAt network i .stamp) x
 
 -- for every state whatever, every set-up accepted on it, and every list of calls after it
 abbrev pub Always : (Known → Type 0) → Type 0

@@ -8,7 +8,8 @@ use Rattle.limits.specs.Limits.{sitesMost, itemsMost, opsMost, recordsMost}
 use Rattle.lists.specs.Lists.{someBelow}
 use Rattle.lists.specs.Numbers.{firstNumber}
 use Rattle.site_operations.specs.Operations.{Op}
-use Rattle.placement.specs.Placement.{itemsNumber, isLine, hasParents}
+use Rattle.placement.specs.Placement.{isLine, hasParents}
+use Rattle.placement.specs.Places.{placementNumber}
 use Rattle.protocol.specs.Network.{Network, siteAt, lineAt}
 use Rattle.protocol.specs.Steps.{itemsOf, opNumber, due, someLineFull, countAtMost, lacksArrived}
 
@@ -19,7 +20,7 @@ pub record SetUpAllowed (sites items : ℕ) (primaries masks : List ℕ) : Type 
   pub few-items : items ≤ itemsMost
   pub each-primary : length primaries ≡ items
   pub each-mask : length masks ≡ items
-  pub placed : itemsNumber sites (itemsOf primaries masks) ≡ 0
+  pub placed : placementNumber sites (itemsOf primaries masks) ≡ 0
 
 -- the lists of a commit's fields
 pub record ListsAllowed (kinds items values : ℕ) : Type 0 where

@@ -22,7 +22,7 @@ afterDeliver = deliverNetwork afterCommit 0 1
 abbrev pub afterSchedule : Network
 afterSchedule = scheduleNetwork afterDeliver 1
 
--- p 3 2 0 6 1 4, then c 0 w0=5, c 1 w1=7: of their timestamps 0.1 and 1.1 the second is the earlier one, as the higher site comes first; and c 0 w0=6
+-- p 3 2 0 6 1 4, then c 0 w0=5, c 1 w1=7: of their timestamps 0.1 and 1.1 the second is the earlier one, as the site of the higher place is earlier, and here places are numbers; and c 0 w0=6
 abbrev pub afterBoth : Network
 afterBoth = commitNetwork afterCommit 1 (record { kind = 1; item = 1; value = pos 7 } ∷ [])
 

@@ -1,5 +1,6 @@
 pub mod Network
 pub mod Steps
+pub mod Cycles
 pub mod Allowed
 pub mod Precedes
 pub mod Waiting

@@ -10,7 +10,9 @@ pub use Rattle.timestamp_order.specs.Timestamp.{noStamp}
 use Rattle.timestamp_order.specs.Made.{madeBy}
 use Rattle.site_operations.specs.Operations.{Op}
 use Rattle.site.specs.Site.{Site}
-use Rattle.placement.specs.Placement.{Item, itemsNumber, isLine}
+use Rattle.placement.specs.Placement.{Item, isLine}
+unfoldable pub use Rattle.placement.specs.Places.{placeOf}
+use Rattle.placement.specs.Places.{placementNumber}
 use Rattle.limits.specs.Limits.{sitesMost}
 use Rattle.lines.specs.Lines.{Line, noLine}
 use Rattle.messages.specs.Messages.{Message, commit, dummy}
@@ -72,11 +74,6 @@ abbrev pub messageOps : List Record → Message → List Op
 messageOps h (commit k) = recordAt h k .ops
 messageOps h (dummy t) = []
 
--- ---- the order of sites
--- a site's place in the order that a placement gives: its number, as every copy site has a higher number than the primary
-unfoldable pub placeOf : List Item → ℕ → ℕ
-placeOf xs k = k
-
 -- ---- well shaped
 -- a message on a line from p names a recorded commit of p, or is a dummy that p made
 abbrev pub messageFits : (ℕ → ℕ) → List Record → ℕ → Message → Bool
@@ -93,7 +90,7 @@ lineFits xs h k l =
 unfoldable pub wellShaped : Network → Bool
 wellShaped n =
     let place = placeOf (n .items) in
-    eqb (itemsNumber (length (n .sites)) (n .items)) 0
+    eqb (placementNumber (length (n .sites)) (n .items)) 0
     && (everyFrom (λ i s. madeBy place i (s .stamp)) 0 (n .sites)
     && (every (recordFits place (length (n .sites)) (length (n .items))) (n .history)
     && everyFrom (lineFits (n .items) (n .history)) 0 (n .lines)))

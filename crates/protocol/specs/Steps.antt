@@ -11,7 +11,8 @@ use Rattle.site_operations.specs.Operations.{Op, reads, writes, worked}
 use Rattle.site.specs.Site.{Site, committed, dummied, atEpoch, received}
 use Rattle.limits.specs.Limits.{opsMost, sitesMost, itemsMost, heldMost, recordsMost}
 use Rattle.site.specs.InWords.{tableSize}
-use Rattle.placement.specs.Placement.{Item, itemsNumber, owns, copies, isLine, hasParents}
+use Rattle.placement.specs.Placement.{Item, owns, copies, isLine, hasParents}
+use Rattle.placement.specs.Places.{placementNumber}
 use Rattle.lists.specs.Numbers.{firstNumber, numberIf, outside}
 use Rattle.lists.specs.Lists.{any, someBelow, keep}
 use Rattle.lines.specs.Lines.{Line, noLine, sent, delivered, taken}
@@ -34,7 +35,7 @@ setUpNumber sites items ps ms =
     firstNumber
     (numberIf (outside 1 sitesMost sites) 1
     ∷ numberIf (wrongItems items (length ps) (length ms)) 2
-    ∷ itemsNumber sites (itemsOf ps ms)
+    ∷ placementNumber sites (itemsOf ps ms)
     ∷ [])
 
 -- site i at its start: every value 0, epoch 0 with its own tuple at count 0

@@ -19,7 +19,6 @@ use Rattle.words.specs.Words.{part, put, overlaid}
 use Rattle.words.proofs.Parts.{part-length, part-getD, put-length, put-here, put-below, put-getD-below}
 use Rattle.words.proofs.Walks.{overlaid-same}
 use Rattle.timestamp_order.specs.Timestamp.{Stamp, room}
-use Rattle.timestamp_order.specs.Order.{byNumber}
 use Rattle.timestamp_words.specs.InWords.{stampIn, stampSize, stampRange, stampWords, stampShaped}
 use Rattle.timestamp_order.specs.Made.{madeBy}
 use Rattle.timestamp_words.proofs.Words.{stamp-front, words-back, words-length}
@@ -219,9 +218,9 @@ turned true false false c d = refl
 turned false e true c d = refl
 turned false e false c d = refl
 
-module _ (w : List ℕ) (sites items : ℕ) where
+module _ (place : ℕ → ℕ) (w : List ℕ) (sites items : ℕ) where
   abbrev pub shape : Bool
-  shape = eqb (length w) recordSize && (recordRange w && recordFits byNumber sites items (recordIn w))
+  shape = eqb (length w) recordSize && (recordRange w && recordFits place sites items (recordIn w))
 
   pub shape-unsized : (length w ≡ recordSize → ⊥) → false ≡ shape
   shape-unsized h = sym (rw (ne-eqb (length w) recordSize h))
@@ -240,17 +239,17 @@ module _ (w : List ℕ) (sites items : ℕ) where
         abbrev fitting-ops : ℕ → Bool
         fitting-ops k = every (λ c. ltb c codesMost) (take k (codesIn w)) && every (opFits items) (take k (placesIn w))
 
-        shape-is : shape ≡ (ltb site sites && (stampShaped site (part w stampAt stampSize) && fitting-ops n))
+        shape-is : shape ≡ (ltb site sites && (stampShaped place site (part w stampAt stampSize) && fitting-ops n))
         unfolding recordRange recordFits recordIn stampShaped
         shape-is =
             let m : min n opsMost ≡ n = omega arith in
             rw (eq-eqb (length w) recordSize size, ← is, ← at, le-leb 1 n (omega arith), le-leb n opsMost few, m)
-            (turned (stampRange (part w stampAt stampSize)) (every (λ c. ltb c codesMost) (take n (codesIn w))) (ltb site sites) (madeBy byNumber site (stampIn (part w stampAt stampSize))) (every (opFits items) (take n (placesIn w))))
+            (turned (stampRange (part w stampAt stampSize)) (every (λ c. ltb c codesMost) (take n (codesIn w))) (ltb site sites) (madeBy place site (stampIn (part w stampAt stampSize))) (every (opFits items) (take n (placesIn w))))
 
         pub shape-elsewhere : sites ≤ site → false ≡ shape
         shape-elsewhere h = sym (shape-is ∙ rw (le-ltb site sites h))
 
-        module _ (here : site < sites) (made : Bool) (m : made ≡ stampShaped site (part w stampAt stampSize)) where
+        module _ (here : site < sites) (made : Bool) (m : made ≡ stampShaped place site (part w stampAt stampSize)) where
           pub shape-unmade : made ≡ false → false ≡ shape
           shape-unmade f = sym (shape-is ∙ rw (lt-ltb site sites here, sym m ∙ f))
 

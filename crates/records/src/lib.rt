@@ -1,5 +1,6 @@
 // A record of the history in words of a lent slice: written, read, and tested for shape.
 use limits::OPERATIONS_WIDE;
+use limits::SITES_WIDE;
 use record_codes::CODES;
 use record_codes::STAMP;
 use record_codes::VALUES;
@@ -10,7 +11,7 @@ ghost use Prim.Native.Nat.{_≤_};
 ghost use lib.ListN.{length, take};
 ghost use lib.Dec.{eqb};
 ghost use Rattle.timestamp.specs.Value.{stampOf, PlainValue};
-ghost use Rattle.timestamp_order.specs.Order.{byNumber};
+ghost use Rattle.timestamp_order.specs.Order.{rank};
 ghost use Rattle.site_operations.specs.Operations.{touches};
 ghost use Rattle.site_operations.specs.InWords.{OpsLaid};
 ghost use Rattle.limits.specs.Limits.{opsMost};
@@ -115,9 +116,9 @@ fn count_before(w: &[u32], a: usize) -> usize
     n
 }
 
-// Whether the words are those of a record of a group of that many sites and items.
-pub fn shaped(w: &[u32], sites: u32, items: u32) -> bool
-    ensures { λ r. ⌜ r ≡ (eqb (length (now (w .entry))) recordSize && (recordRange (now (w .entry)) && recordFits byNumber sites items (recordIn (now (w .entry))))) ⌝ }
+// Whether the words are those of a record of a group of that many sites and items, the sites at these places.
+pub fn shaped(w: &[u32], sites: u32, items: u32, places: [u8; SITES_WIDE]) -> bool
+    ensures { λ r. ⌜ r ≡ (eqb (length (now (w .entry))) recordSize && (recordRange (now (w .entry)) && recordFits (rank places) sites items (recordIn (now (w .entry))))) ⌝ }
 {
     if w.len() != WORDS {
         return false;
@@ -133,7 +134,7 @@ pub fn shaped(w: &[u32], sites: u32, items: u32) -> bool
     if sites <= site {
         return false;
     }
-    if !timestamp_words::made_by(&w[STAMP..CODES], site) {
+    if !timestamp_words::made_by(&w[STAMP..CODES], site, places) {
         return false;
     }
     record_fit::fit(w, words::wide(n), items)

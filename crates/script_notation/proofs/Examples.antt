@@ -5,11 +5,11 @@ use mathlib.Core.Option.{none}
 use lib.IntN.{pos}
 use Rattle.decimal.specs.Decimal.{lastDigits, digits, valueFrom, natural, signed}
 use Rattle.timestamp_order.specs.Timestamp.{appendedOrSame, raisedOrSame}
-use Rattle.timestamp_order.specs.Order.{orderBy, tuplesOrder, pairOrder, numberOrder}
+use Rattle.timestamp_order.specs.Order.{orderBy, tuplesOrder, pairOrder, placeOrder, numberOrder}
 use Rattle.timestamp_order.proofs.Examples.{comparisons-hold, partings-hold}
 use Rattle.site_operations.specs.Operations.{worked}
 use Rattle.placement.specs.Placement.{itemNumber, isLine, hasParents}
-use Rattle.protocol.specs.Network.{placeOf}
+use Rattle.placement.specs.Places.{orderFrom, placesOf, placeOf, cyclic, placementNumber}
 use Rattle.protocol.specs.Steps.{setUpNumber, setUpNetwork, commitNumber, commitNetwork, deliverNumber, deliverNetwork, scheduleNumber, scheduleNetwork, earliest}
 use Rattle.protocol.specs.Calls.{perform}
 use Rattle.script_notation.specs.Fields.{position, fields}
@@ -24,7 +24,7 @@ unfolding lastDigits digits spaced
 in-order = refl
 
 pub examples-hold : Holds table
-unfolding lastDigits digits valueFrom natural signed appendedOrSame raisedOrSame orderBy tuplesOrder pairOrder numberOrder worked itemNumber isLine hasParents placeOf setUpNumber setUpNetwork commitNumber commitNetwork deliverNumber deliverNetwork scheduleNumber scheduleNetwork earliest perform position fields all operation placed called parse tuplesText spaced print answer answers
+unfolding lastDigits digits valueFrom natural signed appendedOrSame raisedOrSame orderBy tuplesOrder pairOrder placeOrder numberOrder worked itemNumber isLine hasParents orderFrom placesOf placeOf cyclic placementNumber setUpNumber setUpNetwork commitNumber commitNetwork deliverNumber deliverNetwork scheduleNumber scheduleNetwork earliest perform position fields all operation placed called parse tuplesText spaced print answer answers
 examples-hold = record { lines-hold = refl; pairs-hold = comparisons-hold; pairs-part = partings-hold }
 
 longest-answered : answer none (longestLine .input) .bytes ≡ longestLine .output

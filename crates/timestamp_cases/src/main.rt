@@ -1,4 +1,4 @@
-// Cases of the timestamp layer, run: the printed comparisons and where two timestamps part, the edges of each method, a value with an odd length field.
+// Cases of the timestamp layer, run: the printed comparisons and where two timestamps part, the edges of each method, a value with an odd length field, sites in another order.
 use libc::STDOUT_FILENO;
 use timestamp::Count;
 use timestamp::Epoch;
@@ -25,6 +25,8 @@ fn main() {
     full(start);
     odd_lengths(start);
     words_and_back(a);
+    other_places(start);
+    past_the_table(start);
 }
 
 // The three comparisons printed under Definition 3.3, each in both directions.
@@ -113,11 +115,43 @@ fn words_and_back(a: Timestamp) {
     compared(timestamp_words::from_words(&w), b);
 }
 
-// What the comparison finds, in both directions.
+// Sites in another order, 1 3 0 2: not the higher number but the higher place is earlier.
+fn other_places(start: Timestamp) {
+    let places = [2u8, 0, 3, 1, 4, 5, 6, 7];
+    let a = start.append(3, Count(1));
+    compared_by(start.append(0, Count(1)), a, places);
+    let b = a.append(2, Count(1));
+    compared_by(a.append(0, Count(2)), b, places);
+    compared_by(b, a.append(2, Count(2)), places);
+    compared_by(b, b, places);
+    compared_by(a, b, places);
+    let c = start.append(1, Count(1));
+    compared_by(c.append(3, Count(1)), c.append(0, Count(1)), places);
+    compared_by(a, a.at_epoch(Epoch(1)), places);
+}
+
+// A site past the table is at its number; and sites at one place go by their numbers.
+fn past_the_table(start: Timestamp) {
+    let places = [2u8, 0, 3, 1, 4, 5, 6, 200];
+    compared_by(start.append(8, Count(1)), start.append(6, Count(1)), places);
+    compared_by(start.append(8, Count(1)), start.append(7, Count(1)), places);
+    compared_by(
+        start.append(0, Count(1)),
+        start.append(3, Count(1)),
+        [0u8; 8],
+    );
+}
+
+// What the comparison finds, each site at its number.
 fn compared(s: Timestamp, t: Timestamp) {
-    verdict(timestamp_comparison::compare(s, t));
+    compared_by(s, t, place_table::numbers());
+}
+
+// What it finds by the places of the sites, in both directions.
+fn compared_by(s: Timestamp, t: Timestamp, places: [u8; 8]) {
+    verdict(timestamp_comparison::compare(s, t, places));
     io::write_all(STDOUT_FILENO, b" ");
-    verdict(timestamp_comparison::compare(t, s));
+    verdict(timestamp_comparison::compare(t, s, places));
     io::write_all(STDOUT_FILENO, b"\n");
 }
 

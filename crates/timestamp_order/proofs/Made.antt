@@ -1,4 +1,4 @@
--- Timestamps that a site makes: the walk that tests for rising sites, and what raising, appending and the last site do to them.
+-- Timestamps that a site makes: the walk that tests for rising places, and what raising, appending and the last site do to them.
 use mathlib.Core.Path.{_≡_, refl, sym, ap, _∙_}
 use mathlib.Core.Bool.{Bool, true, false, _&&_}
 use mathlib.Core.List.{List, [], _∷_, _++_}
@@ -8,6 +8,7 @@ use lib.ListN.{length, getD, drop, drop-of-length-le, length-append}
 use lib.Seq.{drop-cons}
 use lib.Dec.{ltb, leb, eqb}
 use borrow.Author.Tests.{lt-ltb, le-ltb, ltb-true, leb-true, leb-false, eqb-true, eq-eqb}
+use Rattle.lists.specs.Lists.{every}
 use Rattle.lists.proofs.Every.{and-true}
 use Rattle.timestamp_order.specs.Timestamp.{Pair, Stamp, noPair, appended, raisedLast, raised, lastPair, ownSite}
 use Rattle.timestamp_order.specs.Order.{Below}
@@ -59,6 +60,24 @@ module _ (place : ℕ → ℕ) (j : ℕ) (s : Stamp) where
   pub made-whole : Made place j (s .tuples) → madeBy place j s ≡ true
   unfolding madeBy
   made-whole m = rw (lt-ltb 0 (length (s .tuples)) (m .some), m .rises) (eq-eqb (ownSite s) j (m .last))
+
+-- ---- where only sites of a group stand before one of them, a timestamp that one of them made has tuples of these alone
+module _ (place : ℕ → ℕ) (sites : ℕ) (before : (k j : ℕ) → j < sites → place k < place j → k < sites) where
+  abbrev ofGroup : Pair → Bool
+  ofGroup p = ltb (p .site) sites
+
+  tuples-inside : (ps : List Pair) → rising place ps ≡ true → lastPair ps .site < sites → every ofGroup ps ≡ true
+  unfolding rising
+  tuples-inside [] r last = refl
+  tuples-inside (x ∷ []) r last = rw (lt-ltb (x .site) sites last)
+  tuples-inside (x ∷ (y ∷ ys)) r last =
+      let p = and-true (ltb (place (x .site)) (place (y .site))) (rising place (y ∷ ys)) r in
+      let rest = tuples-inside (y ∷ ys) (p .1) last in
+      let next = ltb-true (y .site) sites (and-true (ofGroup y) (every ofGroup ys) rest .0) in
+      rw (lt-ltb (x .site) sites (before (x .site) (y .site) next (ltb-true (place (x .site)) (place (y .site)) (p .0)))) rest
+
+  pub made-inside : (j : ℕ) (s : Stamp) → madeBy place j s ≡ true → j < sites → every (λ p. ltb (p .site) sites) (s .tuples) ≡ true
+  made-inside j s made near = let m = made-parts place j s made in tuples-inside (s .tuples) (m .rises) (omega (arith, m .last))
 
 -- the first timestamp of a site
 pub made-start : (place : ℕ → ℕ) (j e c : ℕ) → madeBy place j (record { epoch = e; tuples = record { site = j; count = c } ∷ [] }) ≡ true

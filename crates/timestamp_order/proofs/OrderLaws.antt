@@ -1,4 +1,4 @@
--- The laws of the order of timestamps, whatever the places of the sites, as long as no two sites share one.
+-- The laws of the order of timestamps, whatever the places of the sites.
 use mathlib.Core.Path.{_≡_, refl, sym, ap, _∙_}
 use mathlib.Core.Bool.{Bool, true, false}
 use mathlib.Core.List.{List, [], _∷_, _++_}
@@ -10,7 +10,7 @@ use borrow.Author.Tests.{ltb-true, ltb-false}
 use Rattle.timestamp_order.specs.declared.Order.{Order}
 use Rattle.timestamp_order.specs.declared.Order.the-variants.{Earlier, Equal, Later}
 use Rattle.timestamp_order.specs.Timestamp.{Pair, Stamp, appended, lastPair, raisedLast, raised}
-use Rattle.timestamp_order.specs.Order.{thenBy, numberOrder, pairOrder, tuplesOrder, orderBy, notLater, IsEarlier, NotLater, Below}
+use Rattle.timestamp_order.specs.Order.{thenBy, numberOrder, placeOrder, pairOrder, tuplesOrder, orderBy, PlacesTell, notLater, IsEarlier, NotLater, Below}
 use Rattle.timestamp_order.proofs.Numbers.{number-earlier, number-later, number-equal}
 use Rattle.timestamp_order.proofs.Comparisons.{Laws, turned, later≢earlier, equal≢earlier, later≢equal, both-laws, split-same, turn-then, linked, then-trans}
 use Rattle.timestamp_order.proofs.Timestamp.{last-snoc, raised-snoc}
@@ -55,20 +55,33 @@ number-laws =
     }
 
 -- ---- a strict total order
-module _ (place : ℕ → ℕ) (apart : (a b : ℕ) → place a ≡ place b → a ≡ b) where
-  -- the higher place first
-  place-laws : Laws ℕ (λ a b. numberOrder (place b) (place a))
-  place-laws =
-      record {
-        same = λ a b e. apart a b (sym (is-equal (place b) (place a) e));
-        self = λ a. number-laws .self (place a);
-        turn = λ a b. turn-number (place b) (place a);
-        trans = λ a b c p q. number-laws .trans (place c) (place b) (place a) q p;
-      }
+-- the higher number first
+higher-laws : Laws ℕ (λ a b. numberOrder b a)
+higher-laws =
+    record {
+      same = λ a b e. sym (is-equal b a e);
+      self = number-laws .self;
+      turn = λ a b. turn-number b a;
+      trans = λ a b c p q. number-laws .trans c b a q p;
+    }
+
+pub places-tell : PlacesTell
+unfolding placeOrder
+places-tell place apart i j = go (numberOrder (place j) (place i)) refl
+  where
+    go : (r : Order) → numberOrder (place j) (place i) ≡ r → thenBy (numberOrder (place j) (place i)) (numberOrder j i) ≡ numberOrder (place j) (place i)
+    go Earlier e = rw e refl
+    go Later e = rw e refl
+    go Equal e = let same : j ≡ i = apart j i (is-equal (place j) (place i) e) in rw e (ap (λ (k : ℕ). numberOrder j k) (sym same) ∙ number-laws .self j)
+
+module _ (place : ℕ → ℕ) where
+  place-laws : Laws ℕ (placeOrder place)
+  unfolding placeOrder
+  place-laws = both-laws ℕ ℕ ℕ place (λ a. a) (λ a b. numberOrder b a) (λ a b. numberOrder b a) higher-laws higher-laws (λ a b p q. q)
 
   pub pair-laws : Laws Pair (pairOrder place)
   unfolding pairOrder
-  pair-laws = both-laws Pair ℕ ℕ (λ x. x .site) (λ x. x .count) (λ a b. numberOrder (place b) (place a)) numberOrder place-laws number-laws (λ x y p q i. record { site = p i; count = q i })
+  pair-laws = both-laws Pair ℕ ℕ (λ x. x .site) (λ x. x .count) (placeOrder place) numberOrder place-laws number-laws (λ x y p q i. record { site = p i; count = q i })
 
   same-tuples : (xs ys : List Pair) → tuplesOrder place xs ys ≡ Equal → xs ≡ ys
   unfolding tuplesOrder
@@ -108,11 +121,10 @@ module _ (place : ℕ → ℕ) (apart : (a b : ℕ) → place a ≡ place b → 
   unfolding orderBy
   order-laws = both-laws Stamp ℕ (List Pair) (λ s. s .epoch) (λ s. s .tuples) numberOrder (tuplesOrder place) number-laws tuples-laws (λ x y p q i. record { epoch = p i; tuples = q i })
 
--- ---- what makes a timestamp later; no place need be a site's own here
+-- ---- what makes a timestamp later
 module _ (place : ℕ → ℕ) where
   self-pair : (x : Pair) → pairOrder place x x ≡ Equal
-  unfolding pairOrder
-  self-pair x = rw (number-laws .self (place (x .site))) (number-laws .self (x .count))
+  self-pair = pair-laws place .self
 
   more-tuples : (xs : List Pair) (y : Pair) (ys : List Pair) → tuplesOrder place xs (xs ++ (y ∷ ys)) ≡ Earlier
   unfolding tuplesOrder
@@ -121,7 +133,7 @@ module _ (place : ℕ → ℕ) where
 
   higher-count : (xs : List Pair) (j c d : ℕ) → c < d → tuplesOrder place (xs ++ (record { site = j; count = c } ∷ [])) (xs ++ (record { site = j; count = d } ∷ [])) ≡ Earlier
   unfolding tuplesOrder pairOrder
-  higher-count [] j c d h = rw (number-laws .self (place j), number-earlier c d h)
+  higher-count [] j c d h = rw (place-laws place .self j, number-earlier c d h)
   higher-count (x ∷ xs) j c d h = rw (self-pair x) (higher-count xs j c d h)
 
   pub same-epoch : (s t : Stamp) → s .epoch ≡ t .epoch → orderBy place s t ≡ tuplesOrder place (s .tuples) (t .tuples)
@@ -144,7 +156,7 @@ module _ (place : ℕ → ℕ) where
   raised-later : (xs : List Pair) → 0 < length xs → tuplesOrder place xs (raisedLast xs) ≡ Earlier
   unfolding tuplesOrder pairOrder
   raised-later [] h = absurd (omega arith)
-  raised-later (x ∷ []) h = rw (number-laws .self (place (x .site)), number-earlier (x .count) (x .count + 1) (omega arith))
+  raised-later (x ∷ []) h = rw (place-laws place .self (x .site), number-earlier (x .count) (x .count + 1) (omega arith))
   raised-later (x ∷ (y ∷ ys)) h = rw (self-pair x) (raised-later (y ∷ ys) (omega arith))
 
   -- the own count raised
@@ -193,7 +205,7 @@ cut-earlier Later e = e
 
 module _ (place : ℕ → ℕ) (j c : ℕ) where
   cut-tuples : (xs ys : List Pair) → Below place j xs → tuplesOrder place xs (ys ++ (record { site = j; count = c } ∷ [])) ≡ cut (tuplesOrder place xs ys)
-  unfolding tuplesOrder pairOrder
+  unfolding tuplesOrder pairOrder placeOrder
   cut-tuples [] [] b = refl
   cut-tuples [] (y ∷ ys) b = refl
   cut-tuples (x ∷ xs) [] b = rw (number-later (place j) (place (x .site)) (b .0))
@@ -220,17 +232,16 @@ module _ (place : ℕ → ℕ) (j c : ℕ) where
         go Equal f = equal≢earlier (sym f)
         go Later f = later≢equal f
 
-    module _ (apart : (a b : ℕ) → place a ≡ place b → a ≡ b) where
-      -- seen from the other side: the longer one is earlier than u exactly where the shorter is
-      pub cut-earlier-than : IsEarlier place s u → IsEarlier place (appended s j c) u
-      cut-earlier-than e =
-          let turn = order-laws place apart .turn in
-          turn u (appended s j c) ∙ ap turned cut-order ∙ cut-earlier (orderBy place u s) (sym (turn u s) ∙ e)
+    -- seen from the other side: the longer one is earlier than u exactly where the shorter is
+    pub cut-earlier-than : IsEarlier place s u → IsEarlier place (appended s j c) u
+    cut-earlier-than e =
+        let turn = order-laws place .turn in
+        turn u (appended s j c) ∙ ap turned cut-order ∙ cut-earlier (orderBy place u s) (sym (turn u s) ∙ e)
 
-      pub cut-shorter-earlier : IsEarlier place (appended s j c) u → IsEarlier place s u
-      cut-shorter-earlier e =
-          let turn = order-laws place apart .turn in
-          turn u s ∙ earlier-cut (orderBy place u s) (ap turned (sym cut-order) ∙ sym (turn u (appended s j c)) ∙ e)
+    pub cut-shorter-earlier : IsEarlier place (appended s j c) u → IsEarlier place s u
+    cut-shorter-earlier e =
+        let turn = order-laws place .turn in
+        turn u s ∙ earlier-cut (orderBy place u s) (ap turned (sym cut-order) ∙ sym (turn u (appended s j c)) ∙ e)
 
 -- ---- the own tuple last
 module _ (s : Stamp) (j c : ℕ) where

@@ -16,7 +16,7 @@ use Rattle.timestamp_order.specs.declared.Parting.{Parting}
 use Rattle.timestamp_order.specs.declared.Parting.the-variants.{Epochs, After}
 use Rattle.timestamp_order.specs.declared.Compared.{Compared}
 use Rattle.timestamp_order.specs.Timestamp.{Pair, Stamp, noPair}
-use Rattle.timestamp_order.specs.Order.{thenBy, numberOrder, pairOrder, tuplesOrder, orderBy, byNumber}
+use Rattle.timestamp_order.specs.Order.{thenBy, numberOrder, pairOrder, tuplesOrder, orderBy}
 use Rattle.timestamp_order.specs.Parting.{samePair, shared, parting, sharedOf, Compares, PartsAfter, PartsAt, PartThere, EqualShareAll, orderThere, DecidedThere}
 use Rattle.timestamp_order.proofs.OrderLaws.{number-laws, pair-laws, order-laws, same-epoch}
 
@@ -110,8 +110,8 @@ pub shared-within : (a b : Stamp) (n : ℕ) → parting a b ≡ some n → n ≤
 shared-within a b n e = subst (PartsAt a b) e (part-there a b .0) .1 .first-has
 
 pub equal-share-all : EqualShareAll
-equal-share-all a b e =
-    let same : a ≡ b = order-laws byNumber (λ m n f. f) .same a b e in
+equal-share-all place a b e =
+    let same : a ≡ b = order-laws place .same a b e in
     let all = tuples-part a b (ap (λ (s : Stamp). s .epoch) same) in (
       all ∙ ap (λ (s : Stamp). some (shared (a .tuples) (s .tuples))) (sym same) ∙ ap some (shared-self (a .tuples)),
       all ∙ ap (λ (s : Stamp). some (shared (s .tuples) (b .tuples))) same ∙ ap some (shared-self (b .tuples)),
@@ -128,7 +128,7 @@ alone Earlier = refl
 alone Equal = refl
 alone Later = refl
 
-module _ (place : ℕ → ℕ) (apart : (m n : ℕ) → place m ≡ place n → m ≡ n) where
+module _ (place : ℕ → ℕ) where
   -- what stands right behind the shared tuples
   tuples-decide : (xs ys : List Pair) → let n = shared xs ys in tuplesOrder place xs ys ≡ tuplesOrder place (take 1 (drop n xs)) (take 1 (drop n ys))
   unfolding shared tuplesOrder
@@ -140,29 +140,29 @@ module _ (place : ℕ → ℕ) (apart : (m n : ℕ) → place m ≡ place n → 
       go : (b : Bool) → samePair x y ≡ b
           → let n = shared xs ys in tuplesOrder place xs ys ≡ tuplesOrder place (take 1 (drop n xs)) (take 1 (drop n ys))
           → let n = cond b (suc (shared xs ys)) 0 in thenBy (pairOrder place x y) (tuplesOrder place xs ys) ≡ tuplesOrder place (take 1 (drop n (x ∷ xs))) (take 1 (drop n (y ∷ ys)))
-      go true e behind = rw (ap (pairOrder place x) (sym (same-is x y e)) ∙ pair-laws place apart .self x) behind
+      go true e behind = rw (ap (pairOrder place x) (sym (same-is x y e)) ∙ pair-laws place .self x) behind
       go false e behind =
-          decides (pairOrder place x y) (tuplesOrder place xs ys) (λ f. other-differs x y e (pair-laws place apart .same x y f)) ∙ sym (alone (pairOrder place x y))
+          decides (pairOrder place x y) (tuplesOrder place xs ys) (λ f. other-differs x y e (pair-laws place .same x y f)) ∙ sym (alone (pairOrder place x y))
 
 pub decided-there : DecidedThere
 unfolding orderBy
-decided-there place apart a b = go (eqb (a .epoch) (b .epoch)) refl
+decided-there place a b = go (eqb (a .epoch) (b .epoch)) refl
   where
     go : (e : Bool) → eqb (a .epoch) (b .epoch) ≡ e → thenBy (numberOrder (a .epoch) (b .epoch)) (tuplesOrder place (a .tuples) (b .tuples)) ≡ orderThere place a b (parting a b)
     go true e =
         let same = eqb-true (a .epoch) (b .epoch) e in
-        same-epoch place a b same ∙ tuples-decide place apart (a .tuples) (b .tuples) ∙ ap (orderThere place a b) (sym (tuples-part a b same))
+        same-epoch place a b same ∙ tuples-decide place (a .tuples) (b .tuples) ∙ ap (orderThere place a b) (sym (tuples-part a b same))
     go false e =
         let other = eqb-false (a .epoch) (b .epoch) e in
         decides (numberOrder (a .epoch) (b .epoch)) (tuplesOrder place (a .tuples) (b .tuples)) (λ f. other (number-laws .same (a .epoch) (b .epoch) f))
         ∙ ap (orderThere place a b) (sym (epochs-part a b other))
 
 -- ---- what the comparison of two timestamps answers, by the spot
-module _ (a b : Stamp) where
-  answered : (p : Parting) (r : Order) → sharedOf p ≡ parting a b → r ≡ orderThere byNumber a b (sharedOf p) → Compares a b (record { order = r; parting = p })
-  answered p r s o = record { order-is = o ∙ ap (orderThere byNumber a b) s ∙ sym (decided-there byNumber (λ m n f. f) a b); parting-is = s }
+module _ (place : ℕ → ℕ) (a b : Stamp) where
+  answered : (p : Parting) (r : Order) → sharedOf p ≡ parting a b → r ≡ orderThere place a b (sharedOf p) → Compares place a b (record { order = r; parting = p })
+  answered p r s o = record { order-is = o ∙ ap (orderThere place a b) s ∙ sym (decided-there place a b); parting-is = s }
 
-  pub other-epochs : (a .epoch ≡ b .epoch → ⊥) → Compares a b (record { order = numberOrder (a .epoch) (b .epoch); parting = Epochs })
+  pub other-epochs : (a .epoch ≡ b .epoch → ⊥) → Compares place a b (record { order = numberOrder (a .epoch) (b .epoch); parting = Epochs })
   other-epochs d = answered Epochs _ (sym (epochs-part a b d)) refl
 
   -- the tuples looked at one after another: those before i are shared
@@ -174,9 +174,9 @@ module _ (a b : Stamp) where
     ys = b .tuples
 
     abbrev pub Answers : Order → Type 0
-    Answers r = Compares a b (record { order = r; parting = After i })
+    Answers r = Compares place a b (record { order = r; parting = After i })
 
-    answers : shared xs ys ≡ i → (r : Order) → tuplesOrder byNumber (take 1 (drop i xs)) (take 1 (drop i ys)) ≡ r → Answers r
+    answers : shared xs ys ≡ i → (r : Order) → tuplesOrder place (take 1 (drop i xs)) (take 1 (drop i ys)) ≡ r → Answers r
     answers e r o = answered (After i) r (ap some (sym e) ∙ sym (tuples-part a b same)) (sym o)
 
     met : i < length xs → i < length ys → (e : Bool) → samePair (getD xs i noPair) (getD ys i noPair) ≡ e → shared xs ys ≡ i + cond e (suc (shared (drop (suc i) xs) (drop (suc i) ys))) 0
@@ -186,9 +186,9 @@ module _ (a b : Stamp) where
     pub goes-on : i < length xs → i < length ys → samePair (getD xs i noPair) (getD ys i noPair) ≡ true → shared xs ys ≡ suc i + shared (drop (suc i) xs) (drop (suc i) ys)
     goes-on p q e = met p q true e ∙ omega arith
 
-    pub they-differ : i < length xs → i < length ys → samePair (getD xs i noPair) (getD ys i noPair) ≡ false → (r : Order) → r ≡ pairOrder byNumber (getD xs i noPair) (getD ys i noPair) → Answers r
+    pub they-differ : i < length xs → i < length ys → samePair (getD xs i noPair) (getD ys i noPair) ≡ false → (r : Order) → r ≡ pairOrder place (getD xs i noPair) (getD ys i noPair) → Answers r
     unfolding tuplesOrder
-    they-differ p q e r o = answers (met p q false e ∙ omega arith) r (rw (drop-cons xs i noPair p, drop-cons ys i noPair q) (alone (pairOrder byNumber (getD xs i noPair) (getD ys i noPair)) ∙ sym o))
+    they-differ p q e r o = answers (met p q false e ∙ omega arith) r (rw (drop-cons xs i noPair p, drop-cons ys i noPair q) (alone (pairOrder place (getD xs i noPair) (getD ys i noPair)) ∙ sym o))
 
     nothing-behind : (zs : List Pair) → i + shared zs [] ≡ i
     unfolding shared
@@ -214,5 +214,5 @@ module _ (a b : Stamp) where
         answers (so-far ∙ rw end (omega arith)) Equal (rw (end, drop-of-length-le ys {i = i} q))
 
 -- the same answer, of timestamps said another way
-pub compares-as : {a b s t : Stamp} {r : Compared} → a ≡ s → b ≡ t → Compares a b r → Compares s t r
-compares-as {b = b} {s = s} {r = r} e f p = subst (λ (y : Stamp). Compares s y r) f (subst (λ (x : Stamp). Compares x b r) e p)
+pub compares-as : {place : ℕ → ℕ} {a b s t : Stamp} {r : Compared} → a ≡ s → b ≡ t → Compares place a b r → Compares place s t r
+compares-as {place = place} {b = b} {s = s} {r = r} e f p = subst (λ (y : Stamp). Compares place s y r) f (subst (λ (x : Stamp). Compares place x b r) e p)

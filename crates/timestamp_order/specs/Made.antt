@@ -1,4 +1,4 @@
--- Which timestamps a site makes: sites rising, the last its own.
+-- Which timestamps a site makes: the places of their sites rise, and the last site is its own.
 use mathlib.Core.Bool.{Bool, true, _&&_}
 use mathlib.Core.List.{List, [], _∷_}
 use Prim.Native.Nat.{ℕ}
@@ -12,6 +12,6 @@ rising place [] = true
 rising place (x ∷ []) = true
 rising place (x ∷ (y ∷ ys)) = ltb (place (x .site)) (place (y .site)) && rising place (y ∷ ys)
 
--- a timestamp that site j made: it has a tuple, its sites rise, and it ends with j
+-- a timestamp that site j made: it has a tuple, the places of its sites rise, and it ends with j
 unfoldable pub madeBy : (ℕ → ℕ) → ℕ → Stamp → Bool
 madeBy place j s = ltb 0 (length (s .tuples)) && (rising place (s .tuples) && eqb (ownSite s) j)

@@ -12,7 +12,7 @@ use Rattle.timestamp_order.specs.declared.Parting.{Parting}
 use Rattle.timestamp_order.specs.declared.Parting.the-variants.{Epochs, After}
 use Rattle.timestamp_order.specs.declared.Compared.{Compared}
 use Rattle.timestamp_order.specs.Timestamp.{Pair, Stamp, noPair}
-use Rattle.timestamp_order.specs.Order.{numberOrder, tuplesOrder, orderBy, order}
+use Rattle.timestamp_order.specs.Order.{numberOrder, tuplesOrder, orderBy}
 
 -- the same site and the same count, whatever the site's place
 abbrev pub samePair : Pair → Pair → Bool
@@ -33,9 +33,9 @@ abbrev pub sharedOf : Parting → Option ℕ
 sharedOf Epochs = none
 sharedOf (After n) = some n
 
--- the whole answer of a comparison
-pub record Compares (a b : Stamp) (r : Compared) : Type 0 where
-  pub order-is : r .order ≡ order a b
+-- the whole answer of a comparison, by the places of the sites
+pub record Compares (place : ℕ → ℕ) (a b : Stamp) (r : Compared) : Type 0 where
+  pub order-is : r .order ≡ orderBy place a b
   pub parting-is : sharedOf (r .parting) ≡ parting a b
 
 -- ---- what is shown of it
@@ -56,13 +56,13 @@ PartThere = (a b : Stamp) → PartsAt a b (parting a b) × ((p : Option ℕ) →
 
 -- equal timestamps share all
 abbrev pub EqualShareAll : Type 0
-EqualShareAll = (a b : Stamp) → order a b ≡ Equal → (parting a b ≡ some (length (a .tuples))) × (parting a b ≡ some (length (b .tuples)))
+EqualShareAll = (place : ℕ → ℕ) (a b : Stamp) → orderBy place a b ≡ Equal → (parting a b ≡ some (length (a .tuples))) × (parting a b ≡ some (length (b .tuples)))
 
 -- the order that the spot gives: of the epochs where they differ, else of what stands right behind the shared tuples
 abbrev pub orderThere : (ℕ → ℕ) → Stamp → Stamp → Option ℕ → Order
 orderThere place a b none = numberOrder (a .epoch) (b .epoch)
 orderThere place a b (some n) = tuplesOrder place (take 1 (drop n (a .tuples))) (take 1 (drop n (b .tuples)))
 
--- the spot decides the order, whatever the places of the sites, as long as no two share one
+-- the spot decides the order, whatever the places of the sites
 abbrev pub DecidedThere : Type 0
-DecidedThere = (place : ℕ → ℕ) → ((m n : ℕ) → place m ≡ place n → m ≡ n) → (a b : Stamp) → orderBy place a b ≡ orderThere place a b (parting a b)
+DecidedThere = (place : ℕ → ℕ) (a b : Stamp) → orderBy place a b ≡ orderThere place a b (parting a b)

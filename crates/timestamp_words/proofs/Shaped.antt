@@ -10,7 +10,6 @@ use lib.Seq.{getD-take, length-take-le}
 use lib.Dec.{ltb, eqb}
 use borrow.Author.Tests.{lt-ltb, le-ltb, le-leb, lt-leb}
 use Rattle.timestamp_order.specs.Timestamp.{Pair, noPair, room, lastPair}
-use Rattle.timestamp_order.specs.Order.{byNumber}
 use Rattle.timestamp_words.specs.InWords.{pairAt, pairsAt, tupleIn, pairsStart, pairSize, pairPlace, stampIn, stampShaped}
 use Rattle.timestamp_order.specs.Made.{rising, madeBy}
 use Rattle.timestamp_order.proofs.Timestamp.{last-at}
@@ -52,8 +51,8 @@ module _ (w : List ℕ) (n : ℕ) (few : n ≤ room) where
       ∙ ap (λ (k : ℕ). pairAt w (pairPlace (k - 1)) .site) held-length
 
 -- ---- the test, from what is found to the answer
-module _ (j : ℕ) (w : List ℕ) where
-  pub shaped-many : room < getD w 1 0 → false ≡ stampShaped j w
+module _ (place : ℕ → ℕ) (j : ℕ) (w : List ℕ) where
+  pub shaped-many : room < getD w 1 0 → false ≡ stampShaped place j w
   unfolding stampShaped
   shaped-many h = sym (rw (lt-leb (getD w 1 0) room h))
 
@@ -65,19 +64,19 @@ module _ (j : ℕ) (w : List ℕ) where
     tuples-size : length (stampIn w .tuples) ≡ n
     tuples-size = ap length tuples-are ∙ held-length w n few
 
-    shaped-is : stampShaped j w ≡ (ltb 0 n && (rising byNumber (take n (pairsAt w pairsStart room)) && eqb (lastPair (take n (pairsAt w pairsStart room)) .site) j))
+    shaped-is : stampShaped place j w ≡ (ltb 0 n && (rising place (take n (pairsAt w pairsStart room)) && eqb (lastPair (take n (pairsAt w pairsStart room)) .site) j))
     unfolding stampShaped madeBy
     shaped-is =
         rw (le-leb (getD w 1 0) room (omega arith))
-        (ap₂ (λ (m : ℕ) (ps : List Pair). ltb 0 m && (rising byNumber ps && eqb (lastPair ps .site) j)) tuples-size tuples-are)
+        (ap₂ (λ (m : ℕ) (ps : List Pair). ltb 0 m && (rising place ps && eqb (lastPair ps .site) j)) tuples-size tuples-are)
 
-    pub shaped-none : n ≡ 0 → false ≡ stampShaped j w
+    pub shaped-none : n ≡ 0 → false ≡ stampShaped place j w
     shaped-none z = sym (shaped-is ∙ rw (le-ltb 0 n (omega arith)))
 
-    module _ (some : 0 < n) (r : Bool) (e : r ≡ rising byNumber (take n (pairsAt w pairsStart room))) where
-      pub shaped-not-rising : r ≡ false → false ≡ stampShaped j w
+    module _ (some : 0 < n) (r : Bool) (e : r ≡ rising place (take n (pairsAt w pairsStart room))) where
+      pub shaped-not-rising : r ≡ false → false ≡ stampShaped place j w
       shaped-not-rising f = sym (shaped-is ∙ rw (lt-ltb 0 n some, sym e ∙ f))
 
-      pub shaped-by-site : r ≡ true → (x : ℕ) → x ≡ pairAt w (pairPlace (n - 1)) .site → eqb x j ≡ stampShaped j w
+      pub shaped-by-site : r ≡ true → (x : ℕ) → x ≡ pairAt w (pairPlace (n - 1)) .site → eqb x j ≡ stampShaped place j w
       shaped-by-site f x g =
           sym (shaped-is ∙ rw (lt-ltb 0 n some, sym e ∙ f) (ap (λ (s : ℕ). eqb s j) (held-own w n few some ∙ sym g)))

@@ -5,7 +5,6 @@ use Prim.Native.Nat.{ℕ, zero, suc, _+_, _*_}
 use lib.ListN.{length, take, getD}
 use lib.Dec.{leb}
 use Rattle.timestamp_order.specs.Timestamp.{Pair, Stamp, noPair, room}
-use Rattle.timestamp_order.specs.Order.{byNumber}
 use Rattle.timestamp_order.specs.Made.{madeBy}
 
 -- where the tuples start, the words of one, and where tuple i starts
@@ -43,8 +42,8 @@ abbrev pub stampRange : List ℕ → Bool
 stampRange w = leb (getD w 1 0) room
 
 -- they are those of a timestamp that site j made: at most eight tuples, as many as they say
-unfoldable pub stampShaped : ℕ → List ℕ → Bool
-stampShaped j w = stampRange w && madeBy byNumber j (stampIn w)
+unfoldable pub stampShaped : (ℕ → ℕ) → ℕ → List ℕ → Bool
+stampShaped place j w = stampRange w && madeBy place j (stampIn w)
 
 -- ---- written
 -- the words of n tuples from number i on, zeros where there is none

@@ -11,7 +11,7 @@ ghost use lib.ListN.{length, take};
 ghost use Rattle.words.specs.Words.{overlaid};
 ghost use Rattle.timestamp.specs.Value.{stampOf, pairOf, PlainValue};
 ghost use Rattle.timestamp_order.specs.Timestamp.{room};
-ghost use Rattle.timestamp_order.specs.Order.{byNumber};
+ghost use Rattle.timestamp_order.specs.Order.{rank};
 ghost use Rattle.timestamp_order.specs.Made.{rising as risingOf};
 ghost use Rattle.timestamp_words.specs.InWords.{stampShaped, stampIn, stampWords, pairAt, pairsAt, tupleIn, pairsStart, pairPlace};
 
@@ -72,9 +72,9 @@ pub fn tuple_in(w: &[u32], i: usize) -> Tuple
     }
 }
 
-// Whether the words are those of a timestamp that the site made: sites rising, the last its own.
-pub fn made_by(w: &[u32], site: u32) -> bool
-    ensures { λ r. ⌜ r ≡ stampShaped site (now (w .entry)) ⌝ }
+// Whether the words are those of a timestamp that the site made: the places of the sites rise, and the last site is its own.
+pub fn made_by(w: &[u32], site: u32, places: [u8; SITES_WIDE]) -> bool
+    ensures { λ r. ⌜ r ≡ stampShaped (rank places) site (now (w .entry)) ⌝ }
 {
     let n = words::wide(words::word(w, COUNT));
     if SITES_WIDE < n {
@@ -83,25 +83,36 @@ pub fn made_by(w: &[u32], site: u32) -> bool
     if n == 0 {
         return false;
     }
-    if !rising(w, n) {
+    if !rising(w, n, places) {
         return false;
     }
     site_in(w, n - 1) == site
 }
 
-// Whether the sites of the first n tuples rise.
-fn rising(w: &[u32], n: usize) -> bool
+// Whether the places of the first n tuples' sites rise.
+fn rising(w: &[u32], n: usize, places: [u8; SITES_WIDE]) -> bool
     requires { ⌜ n ≤ room ⌝ }
-    ensures { λ r. ⌜ r ≡ risingOf byNumber (take n (pairsAt (now (w .entry)) pairsStart room)) ⌝ }
+    ensures { λ r. ⌜ r ≡ risingOf (rank places) (take n (pairsAt (now (w .entry)) pairsStart room)) ⌝ }
 {
+    let mut last = place_in(w, 0, places);
     let mut i = 1;
     while i < n {
-        if site_in(w, i) <= site_in(w, i - 1) {
+        let next = place_in(w, i, places);
+        if next <= last {
             return false;
         }
+        last = next;
         i += 1;
     }
     true
+}
+
+// The place of the site of tuple i.
+fn place_in(w: &[u32], i: usize, places: [u8; SITES_WIDE]) -> u32
+    requires { ⌜ i < room ⌝ }
+    ensures { λ r. ⌜ r ≡ rank places (pairAt (now (w .entry)) (pairPlace i) .site) ⌝ }
+{
+    place_table::place(places, site_in(w, i))
 }
 
 // The words of a timestamp; the places past its last tuple are 0.

@@ -1,21 +1,33 @@
-// Tuples compared, the higher site earlier; whether two are the same; and what every comparison is made of.
+// Tuples compared, the site of the higher place earlier; whether two are the same; and what every comparison is made of.
+use limits::SITES_WIDE;
 use timestamp::Count;
 use timestamp::Tuple;
 use timestamp_order::Order;
 ghost use mathlib.Core.Path.{_≡_};
 ghost use Rattle.timestamp.specs.Value.{pairOf};
-ghost use Rattle.timestamp_order.specs.Order.{thenBy, numberOrder, pairOrder, byNumber};
+ghost use Rattle.timestamp_order.specs.Order.{thenBy, numberOrder, placeOrder, pairOrder, rank};
 ghost use Rattle.timestamp_order.specs.Parting.{samePair};
 
-// The higher site is earlier; for the same site the lower count.
-pub fn compare_tuples(a: Tuple, b: Tuple) -> Order
-    ensures { λ r. ⌜ r ≡ pairOrder byNumber (pairOf a) (pairOf b) ⌝ }
+// The site of the higher place is earlier; for the same site the lower count.
+pub fn compare_tuples(a: Tuple, b: Tuple, places: [u8; SITES_WIDE]) -> Order
+    ensures { λ r. ⌜ r ≡ pairOrder (rank places) (pairOf a) (pairOf b) ⌝ }
 {
-    let by_site = number_order(b.site, a.site);
+    let by_site = compare_sites(a.site, b.site, places);
     let x = a.count;
     let y = b.count;
     let by_count = compare_counts(x, y);
     then_by(by_site, by_count)
+}
+
+// The higher place is earlier; of two sites at one place the higher number.
+fn compare_sites(i: u32, j: u32, places: [u8; SITES_WIDE]) -> Order
+    ensures { λ r. ⌜ r ≡ placeOrder (rank places) i j ⌝ }
+{
+    let first = place_table::place(places, i);
+    let second = place_table::place(places, j);
+    let by_place = number_order(second, first);
+    let by_number = number_order(j, i);
+    then_by(by_place, by_number)
 }
 
 // Whether two tuples are the same: site and count.

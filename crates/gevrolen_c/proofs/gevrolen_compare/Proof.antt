@@ -18,7 +18,7 @@ use Rattle.gevrolen_c.proofs.gevrolen_compare.Tie as tie
 -- a timestamp has eight tuples at most, so that how many are shared is a word
 few : (c : tie.After-compare-words) (n : ℕ) → sharedOf (c .compare-words .result .parting) ≡ some n → n < 4294967296
 few c n e =
-    let A = c .before .before .before .args in
+    let A = c .before .before .before .before .args in
     let first = A .first .now in
     omega (arith, shared-within (stampIn first) (stampIn (A .second .now)) n (sym (c .compare-words .ensures .parting-is) ∙ e), size-law first)
 

@@ -1,6 +1,7 @@
 -- `part_numbered` hands back the part where the file is accepted.
 use mathlib.Core.Path.{sym, _∙_}
-use Rattle.history_file.proofs.Files.{accepted, part-read, part-none}
+use Rattle.history_file.proofs.Files.{part-read, part-none}
+use Rattle.history.proofs.LeadLaws.{accepted-led}
 use borrow.Author.Needs.{needs}
 use Rattle.history.proofs.part_numbered.Statement.{statement}
 use Rattle.history.proofs.part_numbered.Tie as tie
@@ -18,9 +19,7 @@ returns : tie.Need-returns
 returns c = part-none (c .before .before .before .args .b .now) (λ e. c .before .if1 .taken (c .before .before .before .pre ∙ e))
 
 part-of-requires : tie.Need-part-of-requires
-part-of-requires c κs =
-    let a = accepted (c .before .before .args .b .now) (sym (c .before .before .pre) ∙ c .if1 .left) in
-    record { long = a .long; low = a .low; high = a .high }
+part-of-requires c κs = accepted-led (c .before .before .args .b .now) (sym (c .before .before .pre) ∙ c .if1 .left)
 
 returns-2 : tie.Need-returns-2
 returns-2 c = c .part-of .ensures ∙ part-read (c .before .before .before .args .b .now) (sym (c .before .before .before .pre) ∙ c .before .if1 .left)

@@ -9,10 +9,10 @@ use Rattle.history_print.proofs.records.Statement.{statement}
 use Rattle.history_print.proofs.records.Tie as tie
 
 abbrev Inv-loop : tie.InvT-loop
-Inv-loop part n sites items lines₀ page₀ at₀ i₀ lines page at i = (i ≤ n) × (page .filled ≤ 65536) × (length lines ≡ 65536)
+Inv-loop part n sites items places lines₀ page₀ at₀ i₀ lines page at i = (i ≤ n) × (page .filled ≤ 65536) × (length lines ≡ 65536)
 
 abbrev μ-loop : tie.MeasureT-loop
-μ-loop part n sites items lines₀ page₀ at₀ i₀ lines page at i = n - i
+μ-loop part n sites items places lines₀ page₀ at₀ i₀ lines page at i = n - i
 
 large-buffer-requires : tie.Need-large-buffer-requires Inv-loop μ-loop
 large-buffer-requires c κs = search needs

@@ -31,11 +31,12 @@ returns c =
     let items = short .before .before in
     let sites = items .before in
     let records = sites .before in
-    let w = records .before .before .before .args .state .now in
+    let A = records .before .before .before .args in
+    let w = A .state .now in
     let records-are = records .record-count .ensures ∙ sym (records-count w) in
     let sites-are = sites .site-count .ensures ∙ sym (sites-count w) in
     let items-are = items .item-count .ensures ∙ sym (items-count w 0) in
-    put .put-trailer .ensures ∙ (λ t. trailer (records-are t) (short .short .ensures t) (sites-are t) (items-are t))
+    put .put-trailer .ensures ∙ (λ t. trailer (records-are t) (short .short .ensures t) (sites-are t) (items-are t) (A .flag))
 
 pub put-trailer-spec : {M : Type 1} → statement M
 put-trailer-spec =

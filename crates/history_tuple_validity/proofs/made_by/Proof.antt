@@ -1,5 +1,6 @@
--- `made_by` tests that there is a tuple, that the sites rise, and the last one.
+-- `made_by` tests that there is a tuple, that the places of the sites rise, and the last one.
 use borrow.Author.Tests.{not-true, not-false}
+use Rattle.timestamp_order.specs.Order.{rank}
 use Rattle.history_file.proofs.Validity.{made-none, made-falling, made-last}
 use borrow.Author.Needs.{needs}
 use Rattle.history_tuple_validity.proofs.made_by.Statement.{statement}
@@ -8,7 +9,7 @@ use Rattle.history_tuple_validity.proofs.made_by.Tie as tie
 returns : tie.Need-returns
 returns c =
     let A = c .before .before .args in
-    made-none (A .b .now) (A .n) (A .site) (c .if1 .taken)
+    made-none (rank (A .places)) (A .b .now) (A .n) (A .site) (c .if1 .taken)
 
 rising-requires : tie.Need-rising-requires
 rising-requires c κs = search needs
@@ -18,7 +19,7 @@ returns-2 c =
     let some = c .before .before in
     let A = some .before .before .args in
     let r = c .before .rising in
-    made-falling (A .b .now) (A .n) (A .site) (some .if1 .left) (r .result) (r .ensures) (not-true (r .result) (c .if2 .taken))
+    made-falling (rank (A .places)) (A .b .now) (A .n) (A .site) (some .if1 .left) (r .result) (r .ensures) (not-true (r .result) (c .if2 .taken))
 
 mul-wide : tie.Need-mul-wide
 mul-wide c = search needs
@@ -38,7 +39,7 @@ returns-3 c =
     let some = rose .before .before in
     let A = some .before .before .args in
     let r = rose .before .rising in
-    made-last (A .b .now) (A .n) (A .site) (some .if1 .left) (r .result) (r .ensures) (not-false (r .result) (rose .if2 .left)) (c .wide .result) (c .wide .ensures)
+    made-last (rank (A .places)) (A .b .now) (A .n) (A .site) (some .if1 .left) (r .result) (r .ensures) (not-false (r .result) (rose .if2 .left)) (c .wide .result) (c .wide .ensures)
 
 pub made-by-spec : {M : Type 1} → statement M
 made-by-spec =

@@ -1,5 +1,6 @@
 -- `tuples_fit` tests the 00 bytes, then who made the timestamp.
 use borrow.Author.Tests.{not-true, not-false}
+use Rattle.timestamp_order.specs.Order.{rank}
 use Rattle.history_tuple_validity.proofs.FitLaws.{tuples-unpadded, tuples-made}
 use borrow.Author.Needs.{needs}
 use Rattle.history_tuple_validity.proofs.tuples_fit.Statement.{statement}
@@ -12,7 +13,7 @@ returns : tie.Need-returns
 returns c =
     let p = c .before .padded in
     let A = c .before .before .before .args in
-    tuples-unpadded (A .site) (A .n) (A .b .now) (p .result) (p .ensures) (not-true (p .result) (c .if1 .taken))
+    tuples-unpadded (rank (A .places)) (A .site) (A .n) (A .b .now) (p .result) (p .ensures) (not-true (p .result) (c .if1 .taken))
 
 made-by-requires : tie.Need-made-by-requires
 made-by-requires c κs = search needs
@@ -21,7 +22,7 @@ returns-2 : tie.Need-returns-2
 returns-2 c =
     let p = c .before .before .padded in
     let A = c .before .before .before .before .args in
-    tuples-made (A .site) (A .n) (A .b .now) (p .result) (p .ensures) (not-false (p .result) (c .before .if1 .left)) (c .made-by .result) (c .made-by .ensures)
+    tuples-made (rank (A .places)) (A .site) (A .n) (A .b .now) (p .result) (p .ensures) (not-false (p .result) (c .before .if1 .left)) (c .made-by .result) (c .made-by .ensures)
 
 pub tuples-fit-spec : {M : Type 1} → statement M
 tuples-fit-spec =

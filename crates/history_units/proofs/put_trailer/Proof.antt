@@ -5,17 +5,17 @@ use borrow.Author.Needs.{needs}
 use Rattle.history_units.proofs.put_trailer.Statement.{statement}
 use Rattle.history_units.proofs.put_trailer.Tie as tie
 
-array-read-t10 : tie.Need-array-read-t10
-array-read-t10 c = search needs
+array-read-t11 : tie.Need-array-read-t11
+array-read-t11 c = search needs
 
-array-read-t14 : tie.Need-array-read-t14
-array-read-t14 c = search needs
+array-read-t15 : tie.Need-array-read-t15
+array-read-t15 c = search needs
 
-array-read-t18 : tie.Need-array-read-t18
-array-read-t18 c = search needs
+array-read-t19 : tie.Need-array-read-t19
+array-read-t19 c = search needs
 
-array-read-t22 : tie.Need-array-read-t22
-array-read-t22 c = search needs
+array-read-t23 : tie.Need-array-read-t23
+array-read-t23 c = search needs
 
 low-requires : tie.Need-low-requires
 low-requires c κs = search needs
@@ -47,28 +47,46 @@ low-requires-9 c κs = search needs
 low-requires-10 : tie.Need-low-requires-10
 low-requires-10 c κs = search needs
 
+low-requires-11 : tie.Need-low-requires-11
+low-requires-11 c κs = search needs
+
 slice-aggregate-copy : tie.Need-slice-aggregate-copy
 slice-aggregate-copy c = search needs
 
 copy-requires : tie.Need-copy-requires
-copy-requires c κs = omega (arith, c .before .before .before .before .before .before .before .before .before .before .before .before .before .pre)
+copy-requires c κs = omega (arith, c .before .before .before .before .before .before .before .before .before .before .before .before .before .before .pre)
 
 same-length : tie.Need-same-length
 same-length c = search needs
 
 returns : tie.Need-returns
 returns c =
-    let A = c .before .before .before .before .before .before .before .before .before .before .before .before .before .before .before .before .args in
-    trailer-copied (A .b .now) _ (A .count) (A .distance) (A .sites) (A .items) _ _ _ _ _ _ _ _ _ _ (c .before .before .before .before .before .before .before .before .before .before .before .before .before .before .before .before .pre) (c .before .before .copy .ensures .1) (c .before .before .before .before .before .before .before .before .before .before .before .before .before .before .low .ensures) (c .before .before .before .before .before .before .before .before .before .before .before .before .before .low2 .ensures) (c .before .before .before .before .before .before .before .before .before .before .before .before .low3 .ensures) (c .before .before .before .before .before .before .before .before .before .before .before .low4 .ensures) (c .before .before .before .before .before .before .before .before .before .before .low5 .ensures) (c .before .before .before .before .before .before .before .before .before .low6 .ensures) (c .before .before .before .before .before .before .before .before .low7 .ensures) (c .before .before .before .before .before .before .before .low8 .ensures) (c .before .before .before .before .before .before .low9 .ensures) (c .before .before .before .before .before .low10 .ensures)
+    let l11 = c .before .before .before .before .before in
+    let l10 = l11 .before in
+    let l9 = l10 .before in
+    let l8 = l9 .before in
+    let l7 = l8 .before in
+    let l6 = l7 .before in
+    let l5 = l6 .before in
+    let l4 = l5 .before in
+    let l3 = l4 .before in
+    let l2 = l3 .before in
+    let l1 = l2 .before in
+    let start = l1 .before .before in
+    let A = start .args in
+    trailer-copied (A .b .now) _ (A .count) (A .distance) (A .sites) (A .items) (A .flag) _ _ _ _ _ _ _ _ _ _ _ (start .pre) (c .before .before .copy .ensures .1)
+    (l1 .low .ensures) (l2 .low2 .ensures) (l3 .low3 .ensures) (l4 .low4 .ensures)
+    (l5 .low5 .ensures) (l6 .low6 .ensures) (l7 .low7 .ensures) (l8 .low8 .ensures)
+    (l9 .low9 .ensures) (l10 .low10 .ensures) (l11 .low11 .ensures)
 
 pub put-trailer-spec : {M : Type 1} → statement M
 put-trailer-spec =
     tie.close
     (tie.spec
-    array-read-t10
-    array-read-t14
-    array-read-t18
-    array-read-t22
+    array-read-t11
+    array-read-t15
+    array-read-t19
+    array-read-t23
     low-requires
     low-requires-2
     low-requires-3
@@ -79,6 +97,7 @@ put-trailer-spec =
     low-requires-8
     low-requires-9
     low-requires-10
+    low-requires-11
     slice-aggregate-copy
     copy-requires
     same-length

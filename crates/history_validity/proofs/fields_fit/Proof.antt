@@ -3,6 +3,7 @@ use Prim.Native.Nat.{_+_, _*_}
 use native.Mathlib.Omega.{arith}
 use mathlib.Core.Path.{refl}
 use borrow.Author.Tests.{not-true, not-false}
+use Rattle.timestamp_order.specs.Order.{rank}
 use Rattle.history_file.specs.Reading.{sizeRead}
 use Rattle.history_file.proofs.Units.{rest-length}
 use Rattle.history_validity.proofs.FitLaws.{head-unpadded, site-unknown, tuples-unfit, fits-by-ops}
@@ -33,14 +34,14 @@ returns : tie.Need-returns
 returns c =
     let sited = c .before .before in
     let A = sited .before .before .before .args in
-    head-unpadded (A .sites) (A .items) (A .b .now) (sited .wide .result) (sited .wide .ensures) (c .if1 .taken)
+    head-unpadded (rank (A .places)) (A .sites) (A .items) (A .b .now) (sited .wide .result) (sited .wide .ensures) (c .if1 .taken)
 
 returns-2 : tie.Need-returns-2
 returns-2 c =
     let padded = c .before in
     let sited = padded .before .before in
     let A = sited .before .before .before .args in
-    site-unknown (A .sites) (A .items) (A .b .now) (sited .wide .result) (sited .wide .ensures) (padded .if1 .left) (c .if2 .taken)
+    site-unknown (rank (A .places)) (A .sites) (A .items) (A .b .now) (sited .wide .result) (sited .wide .ensures) (padded .if1 .left) (c .if2 .taken)
 
 sub-tuples-fit : tie.Need-sub-tuples-fit
 unfolding sizeRead
@@ -74,7 +75,7 @@ returns-3 c =
     let start = sited .before .before .before in
     let A = start .args in
     let f = c .before .tuples-fit in
-    tuples-unfit (A .sites) (A .items) (A .b .now) (sited .wide .result) (sited .wide .ensures) (padded .if1 .left) (here .if2 .left) (A .t) (start .pre .tuples) (f .result) (f .ensures) (not-true (f .result) (c .if3 .taken))
+    tuples-unfit (rank (A .places)) (A .sites) (A .items) (A .b .now) (sited .wide .result) (sited .wide .ensures) (padded .if1 .left) (here .if2 .left) (A .t) (start .pre .tuples) (f .result) (f .ensures) (not-true (f .result) (c .if3 .taken))
 
 sub-operations-fit : tie.Need-sub-operations-fit
 unfolding sizeRead
@@ -109,7 +110,7 @@ returns-4 c =
     let start = sited .before .before .before in
     let A = start .args in
     let f = made .before .tuples-fit in
-    fits-by-ops (A .sites) (A .items) (A .b .now) (sited .wide .result) (sited .wide .ensures) (padded .if1 .left) (here .if2 .left) (A .t) (start .pre .tuples) (f .result) (f .ensures) (not-false (f .result) (made .if3 .left)) (A .o) _ (start .pre .ops) refl (c .operations-fit .result) (c .operations-fit .ensures)
+    fits-by-ops (rank (A .places)) (A .sites) (A .items) (A .b .now) (sited .wide .result) (sited .wide .ensures) (padded .if1 .left) (here .if2 .left) (A .t) (start .pre .tuples) (f .result) (f .ensures) (not-false (f .result) (made .if3 .left)) (A .o) _ (start .pre .ops) refl (c .operations-fit .result) (c .operations-fit .ensures)
 
 pub fields-fit-spec : {M : Type 1} → statement M
 fields-fit-spec =

@@ -1,4 +1,5 @@
 -- `step` tests the bytes from the place on.
+use Rattle.timestamp_order.specs.Order.{rank}
 use Rattle.history_file.proofs.Validity.{step-none, step-some}
 use borrow.Author.Needs.{needs}
 use Rattle.history_validity.proofs.step.Statement.{statement}
@@ -31,12 +32,12 @@ size-requires c κs = search needs
 returns : tie.Need-returns
 returns c =
     let A = c .before .before .before .before .before .before .args in
-    step-some (A .sites) (A .items) (A .b .now) (A .at) (c .before .before .before .valid .result) (c .before .before .before .valid .ensures) (c .before .before .if1 .taken) (c .size .result) (c .size .ensures .0)
+    step-some (rank (A .places)) (A .sites) (A .items) (A .b .now) (A .at) (c .before .before .before .valid .result) (c .before .before .before .valid .ensures) (c .before .before .if1 .taken) (c .size .result) (c .size .ensures .0)
 
 returns-2 : tie.Need-returns-2
 returns-2 c =
     let A = c .before .before .before .before .args in
-    step-none (A .sites) (A .items) (A .b .now) (A .at) (c .before .valid .result) (c .before .valid .ensures) (c .if1 .left)
+    step-none (rank (A .places)) (A .sites) (A .items) (A .b .now) (A .at) (c .before .valid .result) (c .before .valid .ensures) (c .if1 .left)
 
 pub step-spec : {M : Type 1} → statement M
 step-spec =

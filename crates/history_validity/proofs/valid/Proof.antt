@@ -3,6 +3,7 @@ use mathlib.Core.Path.{_≡_, ap₂}
 use Prim.Native.Nat.{ℕ, _+_, _*_}
 use native.Mathlib.Omega.{arith}
 use borrow.Author.Tests.{not-true, not-false}
+use Rattle.timestamp_order.specs.Order.{rank}
 use Rattle.history_file.specs.Reading.{sizeRead}
 use Rattle.history_file.proofs.Validity.{valid-short, valid-uncounted, valid-by-fields, size-some}
 use mathlib.Core.Path.{refl}
@@ -18,7 +19,7 @@ said c = ap₂ (λ (t o : ℕ). 8 + 8 * t + 8 * o) (c .before .before .wide .ens
 returns : tie.Need-returns
 returns c =
     let A = c .before .before .args in
-    valid-short (A .sites) (A .items) (A .b .now) (sizeRead (A .b .now)) refl (omega (arith, size-some (A .b .now), c .if1 .taken))
+    valid-short (rank (A .places)) (A .sites) (A .items) (A .b .now) (sizeRead (A .b .now)) refl (omega (arith, size-some (A .b .now), c .if1 .taken))
 
 shared-slice-read-wide : tie.Need-shared-slice-read-wide
 shared-slice-read-wide c = search needs
@@ -48,7 +49,7 @@ returns-2 : tie.Need-returns-2
 returns-2 c =
     let start = c .before .before .before .before .before .before .before in
     let A = start .args in
-    valid-short (A .sites) (A .items) (A .b .now) _ (said (c .before)) (c .if2 .taken)
+    valid-short (rank (A .places)) (A .sites) (A .items) (A .b .now) _ (said (c .before)) (c .if2 .taken)
 
 counts-fit-requires : tie.Need-counts-fit-requires
 counts-fit-requires c κs = search needs
@@ -59,7 +60,7 @@ returns-3 c =
     let counted = long .before in
     let A = counted .before .before .before .before .before .before .args in
     let f = c .before .counts-fit in
-    valid-uncounted (A .sites) (A .items) (A .b .now) _ (said counted) (long .if2 .left) (counted .before .before .wide .result) (counted .wide2 .result) (counted .before .before .wide .ensures .0) (counted .wide2 .ensures .0) (f .result) (f .ensures) (not-true (f .result) (c .if3 .taken))
+    valid-uncounted (rank (A .places)) (A .sites) (A .items) (A .b .now) _ (said counted) (long .if2 .left) (counted .before .before .wide .result) (counted .wide2 .result) (counted .before .before .wide .ensures .0) (counted .wide2 .ensures .0) (f .result) (f .ensures) (not-true (f .result) (c .if3 .taken))
 
 fields-fit-requires : tie.Need-fields-fit-requires
 fields-fit-requires c κs =
@@ -74,7 +75,7 @@ returns-4 c =
     let counted = long .before in
     let A = counted .before .before .before .before .before .before .args in
     let f = fit .before .counts-fit in
-    valid-by-fields (A .sites) (A .items) (A .b .now) _ (said counted) (long .if2 .left) (counted .before .before .wide .result) (counted .wide2 .result) (counted .before .before .wide .ensures .0) (counted .wide2 .ensures .0) (f .result) (f .ensures) (not-false (f .result) (fit .if3 .left)) (c .fields-fit .result) (c .fields-fit .ensures)
+    valid-by-fields (rank (A .places)) (A .sites) (A .items) (A .b .now) _ (said counted) (long .if2 .left) (counted .before .before .wide .result) (counted .wide2 .result) (counted .before .before .wide .ensures .0) (counted .wide2 .ensures .0) (f .result) (f .ensures) (not-false (f .result) (fit .if3 .left)) (c .fields-fit .result) (c .fields-fit .ensures)
 
 pub valid-spec : {M : Type 1} → statement M
 valid-spec =

@@ -3,12 +3,12 @@ use mathlib.Core.Path.{_≡_, sym, ap, ap₂, _∙_}
 use mathlib.Core.Bool.{Bool, true}
 use borrow.Author.Tests.{not-true, not-false}
 use Rattle.timestamp_order.specs.Timestamp.{Stamp}
-use Rattle.timestamp_order.specs.Order.{order, isEarlier}
-use Rattle.timestamp_words.specs.InWords.{stampIn}
+use Rattle.timestamp_order.specs.Order.{orderBy, isEarlier}
 use Rattle.placement.specs.Placement.{isLine}
-use Rattle.protocol.specs.Network.{Network}
-use Rattle.protocol.specs.Steps.{headStamp}
+use Rattle.protocol.specs.Network.{Network, placeOf}
+use Rattle.protocol.specs.Steps.{headEarlier}
 use Rattle.network_layout.specs.InWords.{networkIn}
+use Rattle.network_layout.proofs.OnNetwork.{compared}
 use Rattle.network_schedule_causes.proofs.CauseLaws.{parent-bit}
 use Rattle.network_choice.proofs.ChoiceLaws.{better-none, better-first, better-earlier, better-not}
 use borrow.Author.Needs.{needs}
@@ -71,10 +71,10 @@ module _ (c : tie.After-is-earlier) where
   abbrev from : tie.Start
   from = start (low .before .before)
 
-  told : isEarlier (order (headStamp (net from) (from .args .p) (from .args .j)) (headStamp (net from) (from .args .best) (from .args .j))) ≡ c .is-earlier .result
+  told : headEarlier (net from) (from .args .j) (from .args .p) (from .args .best) ≡ c .is-earlier .result
   told =
-      let found : c .is-earlier .result ≡ isEarlier (order (stampIn (both .before .head-words .result .now)) (stampIn (both .head-words2 .result .now))) = c .is-earlier .ensures ∙ ap isEarlier (c .before .compare-words .ensures .order-is) in
-      sym (found ∙ ap₂ {C = Bool} (λ (s t : Stamp). isEarlier (order s t)) (both .before .head-words .ensures) (both .head-words2 .ensures))
+      let found = c .is-earlier .ensures ∙ ap isEarlier (compared (from .args .state .now) (from .args .places) (from .pre .places-are) (c .before .compare-words .ensures)) in
+      sym (found ∙ ap₂ {C = Bool} (λ (s t : Stamp). isEarlier (orderBy (placeOf (net from .items)) s t)) (both .before .head-words .ensures) (both .head-words2 .ensures))
 
 returns-3 : tie.Need-returns-3
 returns-3 c =

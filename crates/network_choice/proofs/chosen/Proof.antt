@@ -15,15 +15,15 @@ use Rattle.network_choice.proofs.chosen.Statement.{statement}
 use Rattle.network_choice.proofs.chosen.Tie as tie
 
 abbrev Inv-loop : tie.InvT-loop
-Inv-loop state j mask best₀ p₀ best p = (p ≤ sitesMost) × Leading (networkIn state) j p best
+Inv-loop state j mask places best₀ p₀ best p = (p ≤ sitesMost) × Leading (networkIn state) j p best
 
 abbrev μ-loop : tie.MeasureT-loop
-μ-loop state j mask best₀ p₀ best p = sitesMost - p
+μ-loop state j mask places best₀ p₀ best p = sitesMost - p
 
 -- of all parents the best
 module _ (c : tie.After-loop Inv-loop μ-loop) where
   abbrev start : tie.Start Inv-loop μ-loop
-  start = c .before .before .before .before
+  start = c .before .before .before .before .before
 
   all-seen : c .before .loop .p ≡ sitesMost
   all-seen = omega (arith, c .loop-test .left, c .before .loop .inv .0)
@@ -37,16 +37,30 @@ parents-requires c κs =
     let at : AtState w = at-state w (c .before .pre .net) in
     search needs
 
+places-requires : tie.Need-places-requires Inv-loop μ-loop
+places-requires c κs =
+    let start = c .before .before in
+    let w = start .args .state .now in
+    let at : AtState w = at-state w (start .pre .net) in
+    search needs
+
 loop-holds : tie.Need-loop-holds Inv-loop μ-loop
 loop-holds c =
-    let A = c .before .before .args in
+    let A = c .before .before .before .args in
     (omega arith, best-none (networkIn (A .state .now)) (A .j))
 
 better-requires : tie.Need-better-requires Inv-loop μ-loop
 better-requires c κs =
     let turn = c .before in
-    let asked = turn .before in
-    record { free = asked .before .before .pre; few = omega arith; parents = asked .parents .ensures; best = turn .loop .inv .1 }
+    let ordered = turn .before in
+    let asked = ordered .before in
+    record {
+      free = asked .before .before .pre;
+      few = omega arith;
+      parents = asked .parents .ensures;
+      best = turn .loop .inv .1;
+      places-are = ordered .places .ensures;
+    }
 
 add-p : tie.Need-add-p Inv-loop μ-loop
 add-p c = search needs
@@ -75,6 +89,7 @@ chosen-spec =
     Inv-loop
     μ-loop
     parents-requires
+    places-requires
     loop-holds
     better-requires
     add-p

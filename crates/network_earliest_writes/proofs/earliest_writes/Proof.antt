@@ -20,10 +20,10 @@ abbrev notedBelow : List ℕ → ℕ → ℕ → List ℕ
 notedBelow state site p = noteMessages (networkIn state) (replicate itemsMost recordsMost) (intoBelow (networkIn state) site p)
 
 abbrev Inv-loop : tie.InvT-loop
-Inv-loop state site writers₀ p₀ writers p = (p ≤ sitesMost) × (length writers ≡ itemsMost) × (writers ≡ notedBelow state site p)
+Inv-loop state site places writers₀ p₀ writers p = (p ≤ sitesMost) × (length writers ≡ itemsMost) × (writers ≡ notedBelow state site p)
 
 abbrev μ-loop : tie.MeasureT-loop
-μ-loop state site writers₀ p₀ writers p = sitesMost - p
+μ-loop state site places writers₀ p₀ writers p = sitesMost - p
 
 loop-holds : tie.Need-loop-holds Inv-loop μ-loop
 loop-holds c = (omega arith, refl, refl)
@@ -37,7 +37,10 @@ line-number-requires c κs = search needs
 note-line-requires : tie.Need-note-line-requires Inv-loop μ-loop
 note-line-requires c κs =
     let P = c .before .before .before .before .before .pre in
-    record { sized = P .sized; ranged = P .ranged; few = omega (arith, c .line-number .ensures, c .before .before .loop-test .taken, P .few) }
+    record {
+      at = record { sized = P .at .sized; ranged = P .at .ranged; few = omega (arith, c .line-number .ensures, c .before .before .loop-test .taken, P .at .few) };
+      places-are = P .places-are;
+    }
 
 add-p : tie.Need-add-p Inv-loop μ-loop
 add-p c = search needs

@@ -3,8 +3,8 @@ use mathlib.Core.Path.{_≡_, refl, ap, ap₂, _∙_}
 use mathlib.Core.Bool.{Bool}
 use Rattle.timestamp_order.specs.Order.{isEarlier}
 use Rattle.network_layout.specs.InWords.{networkIn}
+use Rattle.network_layout.proofs.OnNetwork.{compared}
 use Rattle.network_earliest_writes.specs.Noted.{isSooner}
-use Rattle.network_earliest_writes.proofs.NotedLaws.{compared}
 use borrow.Author.Needs.{needs}
 use Rattle.network_earliest_writes.proofs.meet.Statement.{statement}
 use Rattle.network_earliest_writes.proofs.meet.Tie as tie
@@ -31,9 +31,10 @@ returns-2 c =
     let found = c .before in
     let second = found .before in
     let first = second .before in
-    let n = networkIn (first .before .before .before .before .args .state .now) in
+    let s = first .before .before .before .before in
+    let n = networkIn (s .args .state .now) in
     let told : c .is-earlier .result ≡ isSooner n (first .wide .result) (second .wide2 .result)
-    = c .is-earlier .ensures ∙ ap isEarlier (compared n _ _ _ (found .compare-records .ensures)) in
+    = c .is-earlier .ensures ∙ ap isEarlier (compared (s .args .state .now) (s .args .places) (s .pre .places-are) (found .compare-records .ensures)) in
     (refl, told ∙ ap₂ {C = Bool} (isSooner n) (first .wide .ensures) (second .wide2 .ensures))
 
 pub meet-spec : {M : Type 1} → statement M

@@ -12,13 +12,13 @@ use Rattle.network_earliest_writes.proofs.note_line.Statement.{statemen
 use Rattle.network_earliest_writes.proofs.note_line.Tie as tie
 
 abbrev Inv-loop : tie.InvT-loop
-Inv-loop writers₀ state k n i₀ writers i =
+Inv-loop writers₀ state k places n i₀ writers i =
     (i ≤ n)
     × (length writers ≡ length writers₀)
     × (noteMessages (networkIn state) writers₀ (messagesOn state k) ≡ noteMessages (networkIn state) writers (drop i (messagesOn state k)))
 
 abbrev μ-loop : tie.MeasureT-loop
-μ-loop writers₀ state k n i₀ writers i = n - i
+μ-loop writers₀ state k places n i₀ writers i = n - i
 
 line-held-requires : tie.Need-line-held-requires Inv-loop μ-loop
 line-held-requires c κs = search needs

@@ -35,7 +35,7 @@ module _ (c : tie.After-name) where
   message = getD (messagesOn w (start .args .k)) (start .args .i) (commit 0)
 
   at : AtState w
-  at = record { sized = start .pre .sized; ranged = start .pre .ranged }
+  at = record { sized = start .pre .at .sized; ranged = start .pre .at .ranged }
 
   named : c .name .result ≡ nameOf message
   named = c .name .ensures ∙ ap (λ (l : Line). nameOf (getD (l .messages) (start .args .i) (commit 0))) (c .before .line-at .ensures .meant)
@@ -43,7 +43,11 @@ module _ (c : tie.After-name) where
 note-record-requires : tie.Need-note-record-requires
 note-record-requires c κs =
     let m = c .before .before .before in
-    record { at = at m; has = noted-there (w m) (at m) (m .name .result) (omega (arith, c .before .if1 .taken, c .before .before .record-count .ensures)) }
+    record {
+      at = at m;
+      has = noted-there (w m) (at m) (m .name .result) (omega (arith, c .before .if1 .taken, c .before .before .record-count .ensures));
+      places-are = start m .pre .places-are;
+    }
 
 same-length : tie.Need-same-length
 same-length c = search needs

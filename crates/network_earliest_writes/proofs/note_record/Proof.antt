@@ -19,14 +19,14 @@ abbrev opsOf : List ℕ → ℕ → List Op
 opsOf state r = nthRecord (networkIn state) r .ops
 
 abbrev Inv-loop : tie.InvT-loop
-Inv-loop writers₀ state r w n met₀ a₀ writers met a =
+Inv-loop writers₀ state r places w n met₀ a₀ writers met a =
     (a ≤ n)
     × (length writers ≡ length writers₀)
     × (noteOps (networkIn state) r writers₀ (opsOf state r) ≡ noteOps (networkIn state) r writers (drop a (opsOf state r)))
     × IsMet state r (met .other) (met .earlier)
 
 abbrev μ-loop : tie.MeasureT-loop
-μ-loop writers₀ state r w n met₀ a₀ writers met a = n - a
+μ-loop writers₀ state r places w n met₀ a₀ writers met a = n - a
 
 -- ---- at the loop: the record's words, and what they mean
 module _ (h : tie.At-loop Inv-loop μ-loop) where

@@ -51,7 +51,12 @@ returns-2 c =
 meet-requires : tie.Need-meet-requires
 meet-requires c κs =
     let P = c .before .before .before .before .before .before .before .pre in
-    record { has = P .note .has; has-noted = noted-there _ (P .note .at) _ (omega (arith, c .before .record-count .ensures, c .if2 .left)); met = P .met }
+    record {
+      has = P .note .has;
+      has-noted = noted-there _ (P .note .at) _ (omega (arith, c .before .record-count .ensures, c .if2 .left));
+      met = P .met;
+      places-are = P .note .places-are;
+    }
 
 mul-writers-2 : tie.Need-mul-writers-2
 mul-writers-2 c = search needs

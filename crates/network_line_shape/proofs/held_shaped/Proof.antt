@@ -12,7 +12,7 @@ counted-requires : tie.Need-counted-requires
 counted-requires c κs = search needs
 
 returns : tie.Need-returns
-returns c xs given =
+returns c xs given ranked =
     let count = c .before .counted in
     let A = c .before .before .before .before .args in
     line-uncounted xs (historyIn (A .kept .now) (A .made)) (A .k) (A .l .now) (sym (count .ensures) ∙ not-true _ (c .if1 .taken))
@@ -21,7 +21,7 @@ is-given-requires : tie.Need-is-given-requires
 is-given-requires c κs = search needs
 
 returns-2 : tie.Need-returns-2
-returns-2 c xs given =
+returns-2 c xs given ranked =
     let bit = c .before .is-given in
     let tested = c .before .before in
     let count = tested .before .counted in
@@ -46,14 +46,14 @@ messages-shaped-requires : tie.Need-messages-shaped-requires
 messages-shaped-requires c κs = search needs
 
 returns-3 : tie.Need-returns-3
-returns-3 c xs given =
+returns-3 c xs given ranked =
     let joined = c .before .before in
     let bit = joined .before .is-given in
     let tested = joined .before .before in
     let count = tested .before .counted in
     let s = tested .before .before .before .before in
     let A = s .args in
-    line-by-messages xs (historyIn (A .kept .now) (A .made)) (A .k) (A .l .now) (sym (count .ensures) ∙ not-false _ (tested .if1 .left)) (A .n) (s .pre .held) (s .pre .some) (sym (given (A .k) (s .pre .line .few)) ∙ sym (bit .ensures) ∙ not-false _ (joined .if2 .left)) (c .messages-shaped .result) (c .messages-shaped .ensures)
+    line-by-messages xs (historyIn (A .kept .now) (A .made)) (A .k) (A .l .now) (sym (count .ensures) ∙ not-false _ (tested .if1 .left)) (A .n) (s .pre .held) (s .pre .some) (sym (given (A .k) (s .pre .line .few)) ∙ sym (bit .ensures) ∙ not-false _ (joined .if2 .left)) (A .places) ranked (c .messages-shaped .result) (c .messages-shaped .ensures)
 
 pub held-shaped-spec : {M : Type 1} → statement M
 held-shaped-spec =

@@ -16,7 +16,7 @@ arrived-requires : tie.Need-arrived-requires
 arrived-requires c κs = search needs
 
 returns : tie.Need-returns
-returns c xs given =
+returns c xs given ranked =
     let empty = c .before .before .is-empty in
     let A = c .before .before .before .before .before .args in
     let none = eqb-true (length (lineIn (A .l .now) .messages)) 0 (sym (empty .ensures) ∙ c .before .if1 .taken) in

@@ -2,6 +2,7 @@
 use mathlib.Core.Path.{ap, _∙_}
 use native.Mathlib.Omega.{arith}
 use lib.ListN.{length}
+use Rattle.timestamp_order.specs.Order.{rank}
 use Rattle.network_layout.proofs.Assembled.{kept-size}
 use Rattle.network_shape.proofs.ShapeLaws.{history-asked}
 use borrow.Author.Needs.{needs}
@@ -34,8 +35,8 @@ returns : tie.Need-returns
 returns c =
     let lent = c .before .before .before .words-at in
     let counted = c .before .before .before .before in
-    let w = counted .before .before .before .args .state .now in
-    history-asked w (counted .wide .result) (counted .wide .ensures) (lent .result .now) (lent .ensures) (c .records-shaped .result) (c .records-shaped .ensures)
+    let A = counted .before .before .before .args in
+    history-asked (A .state .now) (rank (A .places)) (counted .wide .result) (counted .wide .ensures) (lent .result .now) (lent .ensures) (c .records-shaped .result) (c .records-shaped .ensures)
 
 pub history-fits-spec : {M : Type 1} → statement M
 history-fits-spec =

@@ -1,53 +1,53 @@
 -- `lines_shaped` leaves at the first line that does not fit.
 use mathlib.Core.Path.{_≡_, refl, ap, _∙_}
-use Prim.Native.Nat.{_+_, _*_, _≤_, _-_}
+use mathlib.Core.List.{List}
+use Prim.Native.Nat.{ℕ, _+_, _*_, _≤_, _-_}
 use native.Mathlib.Omega.{arith}
 use borrow.Author.Needs.{needs}
 use borrow.Author.Tests.{not-true, not-false}
 use Rattle.words.specs.Words.{part}
 use lib.ListN.{length}
 use Rattle.words.proofs.Parts.{part-length}
-use Rattle.placement.specs.InWords.{itemsIn}
+use Rattle.placement.specs.Placement.{Item, LineBits}
+use Rattle.placement.specs.Places.{placesOf}
+use Rattle.records.specs.Records.{Record}
 use Rattle.lines.specs.InWords.{lineSize}
 use Rattle.protocol.specs.Network.{linesMost}
 use Rattle.network_line_shape.specs.LineTests.{historyIn, lineTest}
 use Rattle.network_line_shape.proofs.Walk.{Passed, walk-false, walk-next, walk-done}
-use Rattle.network_shape.proofs.ShapeLaws.{placed-lines, skip}
+use Rattle.network_shape.proofs.ShapeLaws.{skip}
 use Rattle.network_shape.proofs.lines_shaped.Statement.{statement}
 use Rattle.network_shape.proofs.lines_shaped.Tie as tie
 
+-- the lines before number k fit, for every placement that gives these lines and places
+abbrev PassedTo : ℕ → List ℕ → List Record → List ℕ → ℕ → Type 0
+PassedTo given places h w k = (xs : List Item) → LineBits xs given → places ≡ placesOf xs → Passed (lineTest xs h) lineSize linesMost w k
+
 abbrev Inv-loop : tie.InvT-loop
-Inv-loop w placed items kept made given k₀ k = (k ≤ linesMost) × Passed (lineTest (itemsIn items placed) (historyIn kept made)) lineSize linesMost w k
+Inv-loop w given places kept made k₀ k = (k ≤ linesMost) × PassedTo given places (historyIn kept made) w k
 
 abbrev μ-loop : tie.MeasureT-loop
-μ-loop w placed items kept made given k₀ k = linesMost - k
+μ-loop w given places kept made k₀ k = linesMost - k
 
 -- the state of the loop, and what the function was given
 abbrev entry : tie.At-loop Inv-loop μ-loop → tie.Start Inv-loop μ-loop
-entry h = h .before .before .before .before .before .before
+entry h = h .before .before .before .before
 
 -- what a turn asks
-asked : (c : tie.After-line-shaped Inv-loop μ-loop) → let h = c .before .before .before in let A = entry h .args in c .line-shaped .result ≡ lineTest (itemsIn (A .items) (A .placed .now)) (historyIn (A .kept .now) (A .made)) (h .loop .k) (part (A .w .now) (h .loop .k * lineSize) lineSize)
-asked c =
+asked : (c : tie.After-line-shaped Inv-loop μ-loop) → let h = c .before .before .before in let A = entry h .args in (xs : List Item) → LineBits xs (A .given) → A .places ≡ placesOf xs → c .line-shaped .result ≡ lineTest xs (historyIn (A .kept .now) (A .made)) (h .loop .k) (part (A .w .now) (h .loop .k * lineSize) lineSize)
+asked c xs bits ranked =
     let h = c .before .before .before in
-    let s = entry h in
-    let A = s .args in
-    let xs = itemsIn (A .items) (A .placed .now) in
-    let bits = placed-lines (A .items) (s .pre .few-items) (A .placed .now) (h .before .before .lines .result) (h .before .before .lines .ensures) in
-    c .line-shaped .ensures xs bits ∙ ap (lineTest xs (historyIn (A .kept .now) (A .made)) (h .loop .k)) (c .before .chunk .ensures)
-
-lines-requires : tie.Need-lines-requires Inv-loop μ-loop
-lines-requires c κs = search needs
+    let A = entry h .args in
+    c .line-shaped .ensures xs bits ranked ∙ ap (lineTest xs (historyIn (A .kept .now) (A .made)) (h .loop .k)) (c .before .chunk .ensures)
 
 next-used-requires : tie.Need-next-used-requires Inv-loop μ-loop
-next-used-requires c κs = record { sized = c .before .before .before .before .pre .sized; few = omega arith }
+next-used-requires c κs = record { sized = c .before .before .pre .sized; few = omega arith }
 
 loop-holds : tie.Need-loop-holds Inv-loop μ-loop
 loop-holds c =
-    let s = c .before .before .before .before .before in
-    let A = s .args in
+    let A = c .before .before .before .args in
     let first = c .next-used .ensures in
-    (first .few, skip (itemsIn (A .items) (A .placed .now)) (historyIn (A .kept .now) (A .made)) (A .w .now) 0 (c .next-used .result) first refl)
+    (first .few, λ xs bits ranked. skip xs (historyIn (A .kept .now) (A .made)) (A .w .now) 0 (c .next-used .result) first refl)
 
 chunk-requires : tie.Need-chunk-requires Inv-loop μ-loop
 chunk-requires c κs = search needs
@@ -62,11 +62,11 @@ line-shaped-requires c κs =
     record { sized = ap length (c .chunk .ensures) ∙ size; few = turn .loop-test .taken; history = s .pre .history }
 
 returns : tie.Need-returns Inv-loop μ-loop
-returns c =
+returns c xs bits ranked =
     let turn = c .before .before .before in
     let A = entry (turn .before) .args in
     let l = turn .before .loop in
-    walk-false (lineTest (itemsIn (A .items) (A .placed .now)) (historyIn (A .kept .now) (A .made))) lineSize (linesMost) (A .w .now) (l .k) (l .inv .1) (turn .loop-test .taken) (c .before .line-shaped .result) (asked (c .before)) (not-true _ (c .if1 .taken))
+    walk-false (lineTest xs (historyIn (A .kept .now) (A .made))) lineSize linesMost (A .w .now) (l .k) (l .inv .1 xs bits ranked) (turn .loop-test .taken) (c .before .line-shaped .result) (asked (c .before) xs bits ranked) (not-true _ (c .if1 .taken))
 
 add-next-used : tie.Need-add-next-used Inv-loop μ-loop
 add-next-used c = search needs
@@ -87,19 +87,19 @@ loop-again c =
     let turn = asks .before .before .before in
     let A = entry (turn .before) .args in
     let l = turn .before .loop in
-    let xs = itemsIn (A .items) (A .placed .now) in
     let h = historyIn (A .kept .now) (A .made) in
     let next = c .next-used2 .ensures in (
       next .few,
-      skip xs h (A .w .now) (l .k + 1) (c .next-used2 .result) next
-          (walk-next (lineTest xs h) lineSize (linesMost) (A .w .now) (l .k) (l .inv .1) (turn .loop-test .taken) (asks .before .line-shaped .result) (asked (asks .before)) (not-false _ (asks .if1 .left))),
+      λ xs bits ranked.
+          skip xs h (A .w .now) (l .k + 1) (c .next-used2 .result) next
+          (walk-next (lineTest xs h) lineSize linesMost (A .w .now) (l .k) (l .inv .1 xs bits ranked) (turn .loop-test .taken) (asks .before .line-shaped .result) (asked (asks .before) xs bits ranked) (not-false _ (asks .if1 .left))),
     )
 
 returns-2 : tie.Need-returns-2 Inv-loop μ-loop
-returns-2 c =
+returns-2 c xs bits ranked =
     let A = entry (c .before) .args in
     let l = c .before .loop in
-    walk-done (lineTest (itemsIn (A .items) (A .placed .now)) (historyIn (A .kept .now) (A .made))) lineSize (linesMost) (A .w .now) (l .k) (l .inv .1) (c .loop-test .left)
+    walk-done (lineTest xs (historyIn (A .kept .now) (A .made))) lineSize linesMost (A .w .now) (l .k) (l .inv .1 xs bits ranked) (c .loop-test .left)
 
 pub lines-shaped-spec : {M : Type 1} → statement M
 lines-shaped-spec =
@@ -107,7 +107,6 @@ lines-shaped-spec =
     (tie.spec
     Inv-loop
     μ-loop
-    lines-requires
     next-used-requires
     loop-holds
     chunk-requires

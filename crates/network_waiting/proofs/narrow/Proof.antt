@@ -40,22 +40,26 @@ earliest-before-requires : tie.Need-earliest-before-requires
 earliest-before-requires c κs =
     let s = c .before .before .before .before in
     let P = s .pre in
-    record { first = P .seeking .item; second = P .seeking .written (middle s) (omega (arith, to s, P .between .within)) }
+    record {
+      first = P .placing .seeking .item;
+      second = P .placing .seeking .written (middle s) (omega (arith, to s, P .between .within));
+      places-are = P .placing .places-are;
+    }
 
 returns : tie.Need-returns
 returns c =
     let s = c .before .before .before .before .before .before in
     let A = s .args in
-    lower-half (A .state .now) (A .writers .now) (A .items .now) (A .k) (s .pre .seeking) (low s) (high s) (s .pre .between) (middle s) (from s) (to s) (sym (c .before .earliest-before .ensures) ∙ c .if1 .taken)
+    lower-half (A .state .now) (A .writers .now) (A .items .now) (A .k) (s .pre .placing .seeking) (low s) (high s) (s .pre .between) (middle s) (from s) (to s) (sym (c .before .earliest-before .ensures) ∙ c .if1 .taken)
 
-add-t10 : tie.Need-add-t10
-add-t10 c = search needs
+add-behind : tie.Need-add-behind
+add-behind c = search needs
 
 returns-2 : tie.Need-returns-2
 returns-2 c =
     let s = c .before .before .before .before .before .before in
     let A = s .args in
-    upper-half (A .state .now) (A .writers .now) (A .items .now) (A .k) (s .pre .seeking) (low s) (high s) (s .pre .between) (middle s) (from s) (to s) (sym (c .before .earliest-before .ensures) ∙ c .if1 .left)
+    upper-half (A .state .now) (A .writers .now) (A .items .now) (A .k) (s .pre .placing .seeking) (low s) (high s) (s .pre .between) (middle s) (from s) (to s) (sym (c .before .earliest-before .ensures) ∙ c .if1 .left)
 
 pub narrow-spec : {M : Type 1} → statement M
 narrow-spec =
@@ -67,5 +71,5 @@ narrow-spec =
     shared-slice-read-earliest-before
     earliest-before-requires
     returns
-    add-t10
+    add-behind
     returns-2)

@@ -7,16 +7,16 @@ use Rattle.network_waiting.proofs.place_in.Statement.{statement}
 use Rattle.network_waiting.proofs.place_in.Tie as tie
 
 abbrev Inv-loop : tie.InvT-loop
-Inv-loop items writers state k range₀ range = Between items state writers k (range .low) (range .high)
+Inv-loop items writers state k places range₀ range = Between items state writers k (range .low) (range .high)
 
 abbrev μ-loop : tie.MeasureT-loop
-μ-loop items writers state k range₀ range = range .high - range .low
+μ-loop items writers state k places range₀ range = range .high - range .low
 
 loop-holds : tie.Need-loop-holds Inv-loop μ-loop
 loop-holds c = record { rising = omega arith; within = omega arith; behind = λ a l. absurd (omega arith); before = λ a h l. absurd (omega arith) }
 
 narrow-requires : tie.Need-narrow-requires Inv-loop μ-loop
-narrow-requires c κs = record { seeking = c .before .before .before .before .before .before .pre; between = c .before .before .loop .inv; some = c .if1 .taken }
+narrow-requires c κs = record { placing = c .before .before .before .before .before .before .pre; between = c .before .before .loop .inv; some = c .if1 .taken }
 
 loop-less : tie.Need-loop-less Inv-loop μ-loop
 loop-less c = c .narrow .ensures .fewer
@@ -28,7 +28,7 @@ returns : tie.Need-returns Inv-loop μ-loop
 returns c =
     let s = c .before .before .before .before .before .before in
     let l = c .before .before .loop in
-    place-left (s .args .state .now) (s .args .writers .now) (s .args .items .now) (s .args .k) (s .pre) (l .range .low) (l .range .high) (l .inv) (c .if1 .left)
+    place-left (s .args .state .now) (s .args .writers .now) (s .args .items .now) (s .args .k) (s .pre .seeking) (l .range .low) (l .range .high) (l .inv) (c .if1 .left)
 
 pub place-in-spec : {M : Type 1} → statement M
 place-in-spec =

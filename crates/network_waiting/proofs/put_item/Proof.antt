@@ -59,7 +59,10 @@ part-place-in-end c = search needs
 place-in-requires : tie.Need-place-in-requires
 place-in-requires c κs =
     let e = c .before .before in
-    subst (λ (m : ℕ). Seeking (take m (start e .args .items .now)) (w e) (writers e) (start e .args .k)) (lent-used e) (seeks e)
+    record {
+      seeking = subst (λ (m : ℕ). Seeking (take m (start e .args .items .now)) (w e) (writers e) (start e .args .k)) (lent-used e) (seeks e);
+      places-are = start e .pre .places-are;
+    }
 
 add-end : tie.Need-add-end
 add-end c = search needs

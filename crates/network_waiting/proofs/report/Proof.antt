@@ -20,11 +20,11 @@ use Rattle.network_waiting.proofs.report.Statement.{statement}
 use Rattle.network_waiting.proofs.report.Tie as tie
 
 abbrev Inv-loop : tie.InvT-loop
-Inv-loop state site writers items₀ count₀ k₀ items count k =
+Inv-loop state site places writers items₀ count₀ k₀ items count k =
     (k ≤ k₀) × (count + k ≤ k₀) × (take count items ≡ inPlace state writers site k (k₀ - k)) × Filled 0 itemsMost count items
 
 abbrev μ-loop : tie.MeasureT-loop
-μ-loop state site writers items₀ count₀ k₀ items count k = k
+μ-loop state site places writers items₀ count₀ k₀ items count k = k
 
 -- ---- at the loop
 module _ (h : tie.At-loop Inv-loop μ-loop) where
@@ -32,7 +32,7 @@ module _ (h : tie.At-loop Inv-loop μ-loop) where
   counted = h .before
 
   abbrev start : tie.Start Inv-loop μ-loop
-  start = counted .before .before .before
+  start = counted .before .before .before .before
 
   abbrev w : List ℕ
   w = start .args .state .now
@@ -52,6 +52,9 @@ module _ (h : tie.At-loop Inv-loop μ-loop) where
   are : EarliestAre (networkIn w) (start .args .site) writers
   are = subst (EarliestAre (networkIn w) (start .args .site)) (sym (counted .before .earliest-writes .ensures)) (writers-are w at (start .args .site))
 
+places-requires : tie.Need-places-requires Inv-loop μ-loop
+places-requires c κs = search needs
+
 earliest-writes-requires : tie.Need-earliest-writes-requires Inv-loop μ-loop
 earliest-writes-requires c κs = search needs
 
@@ -62,7 +65,7 @@ loop-holds : tie.Need-loop-holds Inv-loop μ-loop
 loop-holds c =
     let n = c .item-count .result in
     let none : 0 ≡ n - n = omega arith in
-    let A = c .before .before .before .args in (
+    let A = c .before .before .before .before .args in (
       omega arith,
       omega arith,
       ap (inPlace (A .state .now) (c .before .earliest-writes .result) (A .site) n) none,
@@ -85,6 +88,7 @@ put-item-requires c κs =
     let some = c .before .before .loop-test .taken in
     record {
       asking = record { at = start h .pre; earliest-are = are h; few = omega (arith, some, l .inv .0, few h) };
+      places-are = counted h .before .before .places .ensures;
       room = omega (arith, some, l .inv .1, few h, l .inv .3 .sized);
       seeking = λ here. seeking (w h) (writers h) (start h .args .site) (at h) (are h) (take (l .count) (l .items)) (l .k) (placed h - l .k) (l .k - 1) (omega (arith, l .inv .0, few h)) (l .inv .2) here;
     }
@@ -130,6 +134,7 @@ report-spec =
     (tie.spec
     Inv-loop
     μ-loop
+    places-requires
     earliest-writes-requires
     item-count-requires
     loop-holds

@@ -4,8 +4,9 @@ use Prim.Native.Nat.{ℕ, _≤_, _-_}
 use native.Mathlib.Omega.{arith}
 use lib.ListN.{length}
 use Rattle.network_layout.specs.InWords.{networkIn}
+use Rattle.network_layout.specs.At.{AtState}
 use Rattle.network_layout.proofs.Performs.{records-count}
-use Rattle.network_layout.proofs.OnNetwork.{at-record}
+use Rattle.network_layout.proofs.OnNetwork.{at-state, at-record}
 use Rattle.network_writers.specs.Writers.{LastSoFar}
 use Rattle.network_writers.proofs.WriterLaws.{none-looked-at}
 use borrow.Author.Needs.{needs}
@@ -13,10 +14,10 @@ use Rattle.network_writers.proofs.last_writer.Statement.{statement}
 use Rattle.network_writers.proofs.last_writer.Tie as tie
 
 abbrev Inv-loop : tie.InvT-loop
-Inv-loop state k item made reader best₀ j₀ best j = (j ≤ made) × LastSoFar (networkIn state) reader item j best
+Inv-loop state k item made reader places best₀ j₀ best j = (j ≤ made) × LastSoFar (networkIn state) reader item j best
 
 abbrev μ-loop : tie.MeasureT-loop
-μ-loop state k item made reader best₀ j₀ best j = made - j
+μ-loop state k item made reader places best₀ j₀ best j = made - j
 
 record-count-requires : tie.Need-record-count-requires Inv-loop μ-loop
 record-count-requires c κs = let sized = c .before .pre .net .sized in search needs
@@ -27,22 +28,32 @@ wide-requires c κs = search needs
 wide-requires-2 : tie.Need-wide-requires-2 Inv-loop μ-loop
 wide-requires-2 c κs = search needs
 
+places-requires : tie.Need-places-requires Inv-loop μ-loop
+places-requires c κs =
+    let start = c .before .before .before .before in
+    let w = start .args .state .now in
+    let at : AtState w = at-state w (start .pre .net) in
+    search needs
+
 loop-holds : tie.Need-loop-holds Inv-loop μ-loop
 loop-holds c =
-    let A = c .before .before .before .before .args in
-    (omega arith, none-looked-at (networkIn (A .state .now)) (c .wide2 .result) (A .item))
+    let A = c .before .before .before .before .before .args in
+    (omega arith, none-looked-at (networkIn (A .state .now)) (c .before .wide2 .result) (A .item))
 
 -- ---- at the loop
 module _ (h : tie.At-loop Inv-loop μ-loop) where
+  abbrev counted : tie.After-wide2 Inv-loop μ-loop
+  counted = h .before .before
+
   abbrev start : tie.Start Inv-loop μ-loop
-  start = h .before .before .before .before .before
+  start = counted .before .before .before .before
 
   -- the reader and the number of records, as the code counts
-  reader-is : h .before .wide2 .result ≡ start .args .k
-  reader-is = h .before .wide2 .ensures
+  reader-is : counted .wide2 .result ≡ start .args .k
+  reader-is = counted .wide2 .ensures
 
-  made-is : h .before .before .wide .result ≡ length (networkIn (start .args .state .now) .history)
-  made-is = omega (arith, records-count (start .args .state .now), h .before .before .wide .ensures, h .before .before .before .record-count .ensures)
+  made-is : counted .before .wide .result ≡ length (networkIn (start .args .state .now) .history)
+  made-is = omega (arith, records-count (start .args .state .now), counted .before .wide .ensures, counted .before .before .record-count .ensures)
 
 later-writer-requires : tie.Need-later-writer-requires Inv-loop μ-loop
 later-writer-requires c κs =
@@ -50,9 +61,10 @@ later-writer-requires c κs =
     let S = start h in
     let w = S .args .state .now in
     record {
-      reader = at-record w (S .pre .net) (S .args .k) (h .before .wide2 .result) (reader-is h) (S .pre .there);
+      reader = at-record w (S .pre .net) (S .args .k) (counted h .wide2 .result) (reader-is h) (S .pre .there);
       next = at-record w (S .pre .net) (h .loop .j) (h .loop .j) refl (omega (arith, made-is h, c .loop-test .taken));
       so-far = h .loop .inv .1;
+      places-are = h .before .places .ensures;
     }
 
 add-j : tie.Need-add-j Inv-loop μ-loop
@@ -74,7 +86,7 @@ returns c =
     let n = networkIn (A .state .now) in
     let all : h .loop .j ≡ length (n .history) = omega (arith, made-is h, c .loop-test .left, h .loop .inv .0) in
     subst (λ (k : ℕ). LastSoFar n k (A .item) (length (n .history)) (h .loop .best)) (reader-is h)
-    (subst (λ (j : ℕ). LastSoFar n (h .before .wide2 .result) (A .item) j (h .loop .best)) all (h .loop .inv .1))
+    (subst (λ (j : ℕ). LastSoFar n (counted h .wide2 .result) (A .item) j (h .loop .best)) all (h .loop .inv .1))
 
 pub last-writer-spec : {M : Type 1} → statement M
 last-writer-spec =
@@ -85,6 +97,7 @@ last-writer-spec =
     record-count-requires
     wide-requires
     wide-requires-2
+    places-requires
     loop-holds
     later-writer-requires
     add-j

@@ -1,8 +1,7 @@
 -- `item_number` answers what the definition says of an item, test by test.
-use mathlib.Core.Path.{_≡_, sym, _∙_}
-use Prim.Native.Nat.{_%_, _^_}
+use mathlib.Core.Path.{sym, _∙_}
 use Rattle.placement.specs.Placement.{Item}
-use Rattle.placement.proofs.Items.{primary-missing, copy-missing, copy-own, copy-below, none-faulty}
+use Rattle.placement.proofs.Items.{primary-missing, copy-missing, copy-own, none-faulty}
 use borrow.Author.Needs.{needs}
 use Rattle.placement.proofs.item_number.Statement.{statement}
 use Rattle.placement.proofs.item_number.Tie as tie
@@ -33,30 +32,13 @@ returns-3 c =
     let s = a .before .before in
     copy-own (s .args .sites) (item s) (a .before .if1 .left) (sym (a .above .ensures) ∙ c .before .before .if2 .left) (sym (c .before .bit .ensures) ∙ c .if3 .taken)
 
--- what is asked of the copies below the primary
-below-is : (c : tie.After-below) → let s = c .before .before .before .before .before .before in c .below .result ≡ (s .args .mask) % (2 ^ (s .args .primary))
-below-is c = c .below .ensures
-
-below-requires : tie.Need-below-requires
-below-requires c κs = search needs
-
 returns-4 : tie.Need-returns-4
 unfolding item
 returns-4 c =
-    let d = c .before in
-    let b = d .before .before in
+    let b = c .before in
     let a = b .before .before in
     let s = a .before .before in
-    copy-below (s .args .sites) (item s) (a .before .if1 .left) (sym (a .above .ensures) ∙ b .before .if2 .left) (sym (b .bit .ensures) ∙ d .before .if3 .left) (λ z. c .if4 .taken (below-is d ∙ z))
-
-returns-5 : tie.Need-returns-5
-unfolding item
-returns-5 c =
-    let d = c .before in
-    let b = d .before .before in
-    let a = b .before .before in
-    let s = a .before .before in
-    none-faulty (s .args .sites) (item s) (a .before .if1 .left) (sym (a .above .ensures) ∙ b .before .if2 .left) (sym (b .bit .ensures) ∙ d .before .if3 .left) (sym (below-is d) ∙ c .if4 .left)
+    none-faulty (s .args .sites) (item s) (a .before .if1 .left) (sym (a .above .ensures) ∙ b .before .if2 .left) (sym (b .bit .ensures) ∙ c .if3 .left)
 
 pub item-number-spec : {M : Type 1} → statement M
 item-number-spec =
@@ -67,6 +49,4 @@ item-number-spec =
     returns-2
     bit-requires
     returns-3
-    below-requires
-    returns-4
-    returns-5)
+    returns-4)

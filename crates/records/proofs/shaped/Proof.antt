@@ -1,5 +1,6 @@
 -- `shaped` tests the size, the number of operations, the site, its timestamp, and the operations.
 use borrow.Author.Tests.{not-true, not-false}
+use Rattle.timestamp_order.specs.Order.{rank}
 use Rattle.records.proofs.Laws.{shape-unsized, shape-none, shape-many, shape-elsewhere, shape-unmade, shape-by-ops}
 use borrow.Author.Needs.{needs}
 use Rattle.records.proofs.shaped.Statement.{statement}
@@ -8,7 +9,7 @@ use Rattle.records.proofs.shaped.Tie as tie
 returns : tie.Need-returns
 returns c =
     let A = c .before .before .args in
-    shape-unsized (A .w .now) (A .sites) (A .items) (c .if1 .taken)
+    shape-unsized (rank (A .places)) (A .w .now) (A .sites) (A .items) (c .if1 .taken)
 
 word-requires : tie.Need-word-requires
 word-requires c κs = search needs
@@ -16,12 +17,12 @@ word-requires c κs = search needs
 returns-2 : tie.Need-returns-2
 returns-2 c =
     let A = c .before .before .before .before .args in
-    shape-none (A .w .now) (A .sites) (A .items) (c .before .before .if1 .left) (c .before .word .result) (c .before .word .ensures) (c .if2 .taken)
+    shape-none (rank (A .places)) (A .w .now) (A .sites) (A .items) (c .before .before .if1 .left) (c .before .word .result) (c .before .word .ensures) (c .if2 .taken)
 
 returns-3 : tie.Need-returns-3
 returns-3 c =
     let A = c .before .before .before .before .before .args in
-    shape-many (A .w .now) (A .sites) (A .items) (c .before .before .before .if1 .left) (c .before .before .word .result) (c .before .before .word .ensures) (c .before .if2 .left) (c .if3 .taken)
+    shape-many (rank (A .places)) (A .w .now) (A .sites) (A .items) (c .before .before .before .if1 .left) (c .before .before .word .result) (c .before .before .word .ensures) (c .before .if2 .left) (c .if3 .taken)
 
 word-requires-2 : tie.Need-word-requires-2
 word-requires-2 c κs = search needs
@@ -29,7 +30,7 @@ word-requires-2 c κs = search needs
 returns-4 : tie.Need-returns-4
 returns-4 c =
     let A = c .before .before .before .before .before .before .before .args in
-    shape-elsewhere (A .w .now) (A .sites) (A .items) (c .before .before .before .before .before .if1 .left) (c .before .before .before .before .word .result) (c .before .before .before .before .word .ensures) (c .before .before .before .if2 .left) (c .before .before .if3 .left) (c .before .word2 .result) (c .before .word2 .ensures) (c .if4 .taken)
+    shape-elsewhere (rank (A .places)) (A .w .now) (A .sites) (A .items) (c .before .before .before .before .before .if1 .left) (c .before .before .before .before .word .result) (c .before .before .before .before .word .ensures) (c .before .before .before .if2 .left) (c .before .before .if3 .left) (c .before .word2 .result) (c .before .word2 .ensures) (c .if4 .taken)
 
 sub-made-by : tie.Need-sub-made-by
 sub-made-by c = search needs
@@ -46,7 +47,7 @@ made-by-requires c κs = search needs
 returns-5 : tie.Need-returns-5
 returns-5 c =
     let A = c .before .before .before .before .before .before .before .before .before .before .args in
-    shape-unmade (A .w .now) (A .sites) (A .items) (c .before .before .before .before .before .before .before .before .if1 .left) (c .before .before .before .before .before .before .before .word .result) (c .before .before .before .before .before .before .before .word .ensures) (c .before .before .before .before .before .before .if2 .left) (c .before .before .before .before .before .if3 .left) (c .before .before .before .before .word2 .result) (c .before .before .before .before .word2 .ensures) (c .before .before .before .if4 .left) (c .before .made-by .result) (c .before .made-by .ensures) (not-true (c .before .made-by .result) (c .if5 .taken))
+    shape-unmade (rank (A .places)) (A .w .now) (A .sites) (A .items) (c .before .before .before .before .before .before .before .before .if1 .left) (c .before .before .before .before .before .before .before .word .result) (c .before .before .before .before .before .before .before .word .ensures) (c .before .before .before .before .before .before .if2 .left) (c .before .before .before .before .before .if3 .left) (c .before .before .before .before .word2 .result) (c .before .before .before .before .word2 .ensures) (c .before .before .before .if4 .left) (c .before .made-by .result) (c .before .made-by .ensures) (not-true (c .before .made-by .result) (c .if5 .taken))
 
 wide-requires : tie.Need-wide-requires
 wide-requires c κs = search needs
@@ -57,7 +58,7 @@ fit-requires c κs = search needs
 returns-6 : tie.Need-returns-6
 returns-6 c =
     let A = c .before .before .before .before .before .before .before .before .before .before .before .before .args in
-    shape-by-ops (A .w .now) (A .sites) (A .items) (c .before .before .before .before .before .before .before .before .before .before .if1 .left) (c .before .before .before .before .before .before .before .before .before .word .result) (c .before .before .before .before .before .before .before .before .before .word .ensures) (c .before .before .before .before .before .before .before .before .if2 .left) (c .before .before .before .before .before .before .before .if3 .left) (c .before .before .before .before .before .before .word2 .result) (c .before .before .before .before .before .before .word2 .ensures) (c .before .before .before .before .before .if4 .left) (c .before .before .before .made-by .result) (c .before .before .before .made-by .ensures) (not-false (c .before .before .before .made-by .result) (c .before .before .if5 .left)) (c .before .wide .result) (c .before .wide .ensures) (c .fit .result) (c .fit .ensures)
+    shape-by-ops (rank (A .places)) (A .w .now) (A .sites) (A .items) (c .before .before .before .before .before .before .before .before .before .before .if1 .left) (c .before .before .before .before .before .before .before .before .before .word .result) (c .before .before .before .before .before .before .before .before .before .word .ensures) (c .before .before .before .before .before .before .before .before .if2 .left) (c .before .before .before .before .before .before .before .if3 .left) (c .before .before .before .before .before .before .word2 .result) (c .before .before .before .before .before .before .word2 .ensures) (c .before .before .before .before .before .if4 .left) (c .before .before .before .made-by .result) (c .before .before .before .made-by .ensures) (not-false (c .before .before .before .made-by .result) (c .before .before .if5 .left)) (c .before .wide .result) (c .before .wide .ensures) (c .fit .result) (c .fit .ensures)
 
 pub shaped-spec : {M : Type 1} → statement M
 shaped-spec =

@@ -8,7 +8,7 @@ use lib.ListN.{length, getD, drop}
 use borrow.Author.Tests.{not-true, not-false}
 use Rattle.timestamp_order.specs.declared.Order.{Order}
 use Rattle.timestamp_order.specs.Timestamp.{Stamp, noPair}
-use Rattle.timestamp_order.specs.Order.{byNumber, pairOrder}
+use Rattle.timestamp_order.specs.Order.{rank, pairOrder}
 use Rattle.timestamp_order.specs.Parting.{samePair, shared}
 use Rattle.timestamp_order.proofs.PartingLaws.{goes-on, they-differ, first-ends, second-ends, both-end}
 use Rattle.timestamp_words.specs.InWords.{stampIn, tupleIn}
@@ -18,10 +18,10 @@ use Rattle.timestamp_comparison.proofs.compare_lists.Statement.{stateme
 use Rattle.timestamp_comparison.proofs.compare_lists.Tie as tie
 
 abbrev Inv-loop : tie.InvT-loop
-Inv-loop a b n m i₀ i = (i ≤ n) × (shared (stampIn a .tuples) (stampIn b .tuples) ≡ i + shared (drop i (stampIn a .tuples)) (drop i (stampIn b .tuples)))
+Inv-loop a b places n m i₀ i = (i ≤ n) × (shared (stampIn a .tuples) (stampIn b .tuples) ≡ i + shared (drop i (stampIn a .tuples)) (drop i (stampIn b .tuples)))
 
 abbrev μ-loop : tie.MeasureT-loop
-μ-loop a b n m i₀ i = n - i
+μ-loop a b places n m i₀ i = n - i
 
 -- ---- at the loop
 module _ (h : tie.At-loop Inv-loop μ-loop) where
@@ -33,6 +33,9 @@ module _ (h : tie.At-loop Inv-loop μ-loop) where
 
   abbrev right : Stamp
   right = stampIn (start .args .b .now)
+
+  abbrev place : ℕ → ℕ
+  place = rank (start .args .places)
 
   left-long : h .before .before .size-in .result ≡ length (left .tuples)
   left-long = h .before .before .size-in .ensures .0
@@ -75,7 +78,7 @@ loop-holds c = search needs
 returns : tie.Need-returns Inv-loop μ-loop
 returns c =
     let h = c .before .before in
-    second-ends (left h) (right h) (start h .pre) (h .loop .i) (h .loop .inv .1) (omega (arith, left-long h, c .before .loop-test .taken)) (omega (arith, right-long h, c .if1 .taken))
+    second-ends (place h) (left h) (right h) (start h .pre) (h .loop .i) (h .loop .inv .1) (omega (arith, left-long h, c .before .loop-test .taken)) (omega (arith, right-long h, c .if1 .taken))
 
 same-at-requires : tie.Need-same-at-requires Inv-loop μ-loop
 same-at-requires c κs = search needs
@@ -87,10 +90,10 @@ returns-2 : tie.Need-returns-2 Inv-loop μ-loop
 returns-2 c =
     let s = c .before .before in
     let h = at s in
-    they-differ (left h) (right h) (start h .pre) (h .loop .i) (h .loop .inv .1) (in-first s) (in-second s)
+    they-differ (place h) (left h) (right h) (start h .pre) (h .loop .i) (h .loop .inv .1) (in-first s) (in-second s)
     (met s ∙ not-true (s .same-at .result) (c .before .if2 .taken))
     (c .order-at .result)
-    (c .order-at .ensures ∙ sym (ap₂ {C = Order} (pairOrder byNumber) (x-is s) (y-is s)))
+    (c .order-at .ensures ∙ sym (ap₂ {C = Order} (pairOrder (place h)) (x-is s) (y-is s)))
 
 add-i : tie.Need-add-i Inv-loop μ-loop
 add-i c = search needs
@@ -104,19 +107,19 @@ loop-again c =
     let h = at s in (
       omega (arith, s .before .before .loop-test .taken),
       rw add-one
-          (goes-on (left h) (right h) (start h .pre) (h .loop .i) (h .loop .inv .1) (in-first s) (in-second s)
+          (goes-on (place h) (left h) (right h) (start h .pre) (h .loop .i) (h .loop .inv .1) (in-first s) (in-second s)
           (met s ∙ not-false (s .same-at .result) (c .if2 .left))),
     )
 
 returns-3 : tie.Need-returns-3 Inv-loop μ-loop
 returns-3 c =
     let h = c .before .before in
-    first-ends (left h) (right h) (start h .pre) (h .loop .i) (h .loop .inv .1) (omega (arith, left-long h, c .before .loop-test .left)) (omega (arith, right-long h, h .loop .inv .0, c .if3 .taken))
+    first-ends (place h) (left h) (right h) (start h .pre) (h .loop .i) (h .loop .inv .1) (omega (arith, left-long h, c .before .loop-test .left)) (omega (arith, right-long h, h .loop .inv .0, c .if3 .taken))
 
 returns-4 : tie.Need-returns-4 Inv-loop μ-loop
 returns-4 c =
     let h = c .before .before in
-    both-end (left h) (right h) (start h .pre) (h .loop .i) (h .loop .inv .1) (omega (arith, left-long h, c .before .loop-test .left)) (omega (arith, right-long h, c .before .loop-test .left, c .if3 .left))
+    both-end (place h) (left h) (right h) (start h .pre) (h .loop .i) (h .loop .inv .1) (omega (arith, left-long h, c .before .loop-test .left)) (omega (arith, right-long h, c .before .loop-test .left, c .if3 .left))
 
 pub compare-lists-spec : {M : Type 1} → statement M
 compare-lists-spec =

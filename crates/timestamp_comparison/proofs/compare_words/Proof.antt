@@ -1,7 +1,7 @@
 -- `compare_words` tells the epochs apart; the tuples decide where they are the same.
 use mathlib.Core.Path.{_≡_, sym, ap₂, _∙_}
 use Rattle.timestamp_order.specs.declared.Order.{Order}
-use Rattle.timestamp_order.specs.Order.{numberOrder}
+use Rattle.timestamp_order.specs.Order.{numberOrder, rank}
 use Rattle.timestamp_order.proofs.PartingLaws.{other-epochs}
 use Rattle.timestamp_words.specs.InWords.{stampIn}
 use borrow.Author.Needs.{needs}
@@ -25,7 +25,7 @@ returns c =
     let f = read .epoch-in2 in
     let differ : e .result .0 ≡ f .result .0 → ⊥ = c .before .if1 .taken in
     let by-epoch : c .compare-epochs .result ≡ numberOrder (e .result .0) (f .result .0) = c .compare-epochs .ensures in
-    let told = other-epochs (stampIn (A .a .now)) (stampIn (A .b .now)) (λ s. differ (e .ensures ∙ s ∙ sym (f .ensures))) in
+    let told = other-epochs (rank (A .places)) (stampIn (A .a .now)) (stampIn (A .b .now)) (λ s. differ (e .ensures ∙ s ∙ sym (f .ensures))) in
     record { order-is = by-epoch ∙ ap₂ {C = Order} numberOrder (e .ensures) (f .ensures) ∙ told .order-is; parting-is = told .parting-is }
 
 compare-lists-requires : tie.Need-compare-lists-requires

@@ -1,7 +1,7 @@
 -- `order_at` reads the two tuples and puts them in order.
 use mathlib.Core.Path.{ap₂, _∙_}
 use Rattle.timestamp_order.specs.declared.Order.{Order}
-use Rattle.timestamp_order.specs.Order.{pairOrder, byNumber}
+use Rattle.timestamp_order.specs.Order.{pairOrder, rank}
 use borrow.Author.Needs.{needs}
 use Rattle.timestamp_comparison.proofs.order_at.Statement.{statement}
 use Rattle.timestamp_comparison.proofs.order_at.Tie as tie
@@ -16,7 +16,9 @@ compare-tuples-requires : tie.Need-compare-tuples-requires
 compare-tuples-requires c κs = search needs
 
 returns : tie.Need-returns
-returns c = c .compare-tuples .ensures ∙ ap₂ {C = Order} (pairOrder byNumber) (c .before .before .tuple-in .ensures) (c .before .tuple-in2 .ensures)
+returns c =
+    let A = c .before .before .before .before .before .args in
+    c .compare-tuples .ensures ∙ ap₂ {C = Order} (pairOrder (rank (A .places))) (c .before .before .tuple-in .ensures) (c .before .tuple-in2 .ensures)
 
 pub order-at-spec : {M : Type 1} → statement M
 order-at-spec =
