@@ -1,10 +1,12 @@
 /* 100,000 mixed steps on an almost empty network and as many on a full one; or, with a letter as the argument, one kind of call again and again on a full network or its
    history file. What the calls answer is summed. */
 #include <stdio.h>
+#include <string.h>
 
 #include "gevrolen.h"
 
 static uint32_t state[GEVROLEN_WORDS];
+static uint32_t saved[GEVROLEN_WORDS];
 static uint8_t file[GEVROLEN_FILE_BYTES];
 static size_t length;
 
@@ -63,9 +65,8 @@ static uint64_t almost_empty(void)
     return sum;
 }
 
-/* Item k has its primary at site k % 8 and a copy at every site above it; 256 records of eight operations, the last one's reads, 16 messages on each of the 28 lines, one
-   from each parent arrived at site 7. */
-static void fill(void)
+/* Item k has its primary at site k % 8 and a copy at every site above it. */
+static void set_up(void)
 {
     uint32_t primaries[GEVROLEN_ITEMS];
     uint8_t masks[GEVROLEN_ITEMS];
@@ -74,6 +75,12 @@ static void fill(void)
         masks[k] = (uint8_t)(0xFE << k % 8);
     }
     gevrolen_set_up(state, GEVROLEN_SITES, GEVROLEN_ITEMS, primaries, GEVROLEN_ITEMS, masks, GEVROLEN_ITEMS);
+}
+
+/* That network: 256 records of eight operations, the last one's reads, 16 messages on each of the 28 lines, one from each parent arrived at site 7. */
+static void fill(void)
+{
+    set_up();
     rounds("w00w10w20w30w40w50w60w70", 16);
     rounds("w70", 127);
     rounds("r70", 1);
@@ -107,11 +114,58 @@ static uint64_t origin(void)
     return answer.record;
 }
 
+/* 128 commits of eight writes at all eight sites, 14 messages of theirs on a line. */
+static void half(void)
+{
+    rounds("w00w10w20w30w40w50w60w70", 14);
+    rounds("w70", 16);
+}
+
+/* Every site hears of all commits: a higher epoch at site 0, then each site takes what there is and sends a dummy. */
+static void hear(uint32_t epoch)
+{
+    struct gevrolen_scheduled answer;
+    struct gevrolen_stamp stamp;
+    gevrolen_epoch(state, 0, epoch);
+    for (uint32_t site = 0; site < GEVROLEN_SITES; site++) {
+        for (uint32_t parent = 0; parent < site; parent++)
+            while (gevrolen_deliver(state, parent, site) == GEVROLEN_ACCEPTED)
+                ;
+        while (gevrolen_schedule(state, site, &answer) == GEVROLEN_ACCEPTED)
+            ;
+        gevrolen_dummy(state, site, &stamp);
+    }
+}
+
+/* A full network to collect: 158 records are not later than any site, and of the messages on its full lines most name the others; or all 256, and dummies fill the lines. */
+static void season(int all)
+{
+    set_up();
+    half();
+    hear(1);
+    half();
+    if (all)
+        hear(2);
+    rounds("d00d10d20d30d40d50d60", 16);
+    memcpy(saved, state, sizeof state);
+}
+
+/* A collect of that network, and its copy, which by itself is a kind of its own. */
+static uint64_t collected(int collects)
+{
+    uint32_t removed = 0;
+    memcpy(state, saved, sizeof state);
+    if (collects)
+        gevrolen_collect(state, &removed);
+    return removed + state[0];
+}
+
 static uint64_t checked(void)
 {
     struct gevrolen_file answer;
+    struct gevrolen_base base;
     uint8_t places[GEVROLEN_SITES];
-    gevrolen_read(file, length, &answer, places);
+    gevrolen_read(file, length, &answer, places, &base);
     return answer.records;
 }
 
@@ -127,10 +181,11 @@ static uint64_t digest(const struct gevrolen_record *one)
 static uint64_t following(void)
 {
     struct gevrolen_file answer;
+    struct gevrolen_base base;
     struct gevrolen_record one;
     uint8_t places[GEVROLEN_SITES];
     uint64_t sum = 0;
-    gevrolen_read(file, length, &answer, places);
+    gevrolen_read(file, length, &answer, places, &base);
     for (size_t at = 0; !gevrolen_record_from(file + answer.start, answer.length, at, 8, 64, places, &one, &at);)
         sum += digest(&one);
     return sum;
@@ -155,6 +210,9 @@ static uint64_t once(char letter)
     case 'h': return gevrolen_deliver(state, 8, 8) == GEVROLEN_NO_SUCH_SITE;
     case 'w': return waiting();
     case 'o': return origin();
+    case 'c':
+    case 'C': return collected(1);
+    case 'm': return collected(0);
     case 'x': gevrolen_export(state, file, sizeof file, &length); return length;
     case 'k': return checked();
     case 'r': return following();
@@ -181,6 +239,7 @@ int main(int count, char **arguments)
         printf("%llu\n", (unsigned long long)full());
         return 0;
     }
+    season(arguments[1][0] == 'C');
     fill();
     gevrolen_export(state, file, sizeof file, &length);
     for (int n = times(arguments[1][0]); n; n--)

@@ -9,8 +9,12 @@
 
     # ..                        a comment, answered as it is
     w SITE                      waiting report: the number, how many items, the items as they come, and behind them such places as are not 0: there are none
-    t NUMBER OPERATION          origin of a read, by its record and operation: the number, the kind (1 start, 2 commit; 0 where refused), the commit's record number
+    t NUMBER OPERATION          origin of a read, by its record and operation: the number, the kind (1 start, 2 commit, 3 folded; 0 where refused), the commit's record
+                                number
     n                           the places of sites: the number, and eight of them
+    g                           collect: the number, and how many records it removed
+    y                           the base: the number, whether records were removed (1) or not (0), how many values, the values, and behind them such places as are not 0:
+                                there are none
     v EPOCH LENGTH TUPLES ..    two timestamps compared, each as a struct: its epoch, its length field, the tuples in front of places full of EE (- for none); behind the
                                 second eight places with commas, or nothing for the numbers. The order, whether the epochs differ (1) or not (0), how many leading
                                 tuples are shared; then the same with the two exchanged
@@ -21,7 +25,8 @@
     x SIZE                      export to so many bytes EE, which then are the file: the number and the length
     b, h                        the file's bytes; the bytes of its part
     a                           two sums over the file's bytes, as Adler's
-    f                           check of the file: number, records, sites, items, length of the part, eight places
+    f                           check of the file: number, records, sites, items, length of the part, eight places; then the base as `y` has it, but for one of as many
+                                values as there are items, all 0, where no records were removed
     r NUMBER                    a record by its number: number, how many operations, then the record with all eight places of operations
     @ BYTE SITES ITEMS          the record that starts at a byte of the part: number, where the next starts, how many operations, the record likewise; by the places that the
                                 check answers, or by eight behind it, with commas
@@ -70,11 +75,18 @@ class Model:
 
     def origin(self, k, a):
         number, kind, record = self.engine.origin(k, a)
-        return number, ("", "start", "commit").index(kind), record
+        return number, ("", "start", "commit", "folded").index(kind), record
 
     def places(self):
         number, places = self.engine.places()
         return number, list(places)
+
+    def collect(self):
+        return self.engine.collect()
+
+    def base(self):
+        number, folded, values = self.engine.base()
+        return number, laid_base(folded, values)
 
     def compare(self, first, second, places):
         order, shared = model.compare(layout.stamp_lent(first), layout.stamp_lent(second), places)
@@ -85,7 +97,8 @@ class Model:
         return number, len(made), made + bytes([EE]) * (size - len(made))
 
     def read(self, data):
-        return files.read(data)
+        *found, folded, values = files.read(data)
+        return (*found, laid_base(folded, values))
 
     def record(self, data, k):
         number, site, stamp, operations = files.record(data, k)
@@ -99,6 +112,17 @@ class Model:
 
 def eight(operations):
     return operations + ((0, 0, 0),) * (8 - len(operations))
+
+
+def laid_base(folded, values):
+    """A base as its struct has it: the flag, how many values, and 64 places for them."""
+    return [int(folded), len(values)] + list(values) + [0] * (ITEMS - len(values))
+
+
+def base_fields(base):
+    """The flag, how many values, the values, and behind them such places as are not 0."""
+    end = 2 + base[1]
+    return base[:end] + [place for place in base[end:] if place]
 
 
 def stamp_struct(epoch, length, tuples):
@@ -131,6 +155,7 @@ class Calls:
     def answer(self, line):
         letter, text = line[:1].decode(), line[2:].decode()
         plain = {"#": lambda: line.decode(), "b": self.file.hex, "h": self.read, "a": self.sums, "f": self.check, "n": self.places}
+        plain |= {"g": lambda: self.step(lambda: joined(self.side.collect())), "y": self.base}
         named = {"=": lambda: self.put(b"", text), "+": lambda: self.put(self.file, text)}
         named |= {"v": lambda: self.compare(*text.split(" ")), "@": lambda: self.record_from(*text.split(" "))}
         numbered = {"w": self.waiting, "t": self.origin, "k": self.poke, "o": self.records, "u": self.lists, "x": self.export, "r": self.record}
@@ -153,6 +178,10 @@ class Calls:
     def places(self):
         number, places = self.side.places()
         return joined([number] + places)
+
+    def base(self):
+        number, base = self.side.base()
+        return joined([number] + base_fields(base))
 
     def compare(self, *fields):
         first, second = stamp_struct(*fields[:3]), stamp_struct(*fields[3:6])
@@ -189,8 +218,9 @@ class Calls:
         return self.file[start : start + length]
 
     def check(self):
-        number, _, length, records, sites, items, places = self.side.read(self.file)
-        return joined([number, records, sites, items, length, *places])
+        number, _, length, records, sites, items, places, base = self.side.read(self.file)
+        told = base_fields(base) if base != laid_base(False, [0] * items) else []
+        return joined([number, records, sites, items, length, *places] + told)
 
     def read(self):
         number, part = self.side.read(self.file)[0], self.part()
@@ -201,7 +231,7 @@ class Calls:
         return "%d %d %s" % (number, count, record_text(*found))
 
     def record_from(self, at, sites, items, table=None):
-        places = places_of(table) if table else self.side.read(self.file)[-1]
+        places = places_of(table) if table else self.side.read(self.file)[-2]
         number, after, count, found = self.side.record_from(self.part(), int(at), int(sites), int(items), places)
         return "%d %d %d %s" % (number, after, count, record_text(*found))
 

@@ -13,8 +13,8 @@ from limits import HELD, ITEMS, OPERATIONS, RECORDS, SITES, U32
 
 # How often each call stands in a list. A run takes one of these by chance: what it does most decides which corners it reaches.
 BALANCED = dict(
-    commit=8, commit_lists=2, dummy=4, epoch=1, deliver=14, schedule=12, waiting=2, table=2, stamp=2, line=2, places=1, origin=2,
-    export=1, script=4, run=1, poke=2, copy=1, set_up=1, state=0.2, held=0, noise=0.1, file=2, record_from=1, compare=2, compare_lent=2,
+    commit=8, commit_lists=2, dummy=4, epoch=1, deliver=14, schedule=12, collect=2, round=0.3, waiting=2, table=2, stamp=2, line=2, places=1, base=1, origin=2,
+    export=1, script=4, run=1, poke=2, copy=1, set_up=1, state=0.2, held=0, few=0, noise=0.1, file=2, record_from=1, compare=2, compare_lent=2,
 )
 MOODS = [
     BALANCED,
@@ -27,6 +27,8 @@ MOODS = [
     dict(BALANCED, set_up=20),
     dict(BALANCED, origin=20, state=3),
     dict(BALANCED, waiting=60, held=15, schedule=4),
+    dict(commit=60, dummy=2, epoch=0.2, deliver=8, schedule=8, collect=3, round=1, waiting=1, origin=8, base=1, export=1),
+    dict(BALANCED, few=10, state=1, collect=15, base=5, origin=5),
 ]
 
 EDGES = [0, 1, 2, 7, 8, 9, 15, 16, 17, 63, 64, 65, 255, 256, 257, 2**31 - 1, 2**31, U32 - 1, U32]
@@ -177,9 +179,25 @@ def network(seed, records, held):
         count = rng.randint(0, held)
         n.held[p, c] = [rng.choice(made[p]) if made[p] and rng.random() < 0.6 else stamp(rng, p, n.places) for _ in range(count)]
         n.arrived[p, c] = rng.randint(0, count)
+    n.folded = rng.random() < 0.5
+    if n.folded and rng.random() < 0.8:
+        n.base = [value(rng) for _ in range(items)]
+    if rng.random() < 0.5:
+        later(rng, n)
     if rng.random() < 0.4:
         flaw(rng, n)
     return n
+
+
+def later(rng, n):
+    """Sites that are later than many records, which messages do not name then, most often: a collect removes some."""
+    epoch = rng.choice([1, 2, U32])
+    n.stamps = [(max(epoch, own), tuples) for own, tuples in n.stamps]
+    past = n.past()
+    for line, held in n.held.items():
+        if rng.random() < 0.95:
+            n.held[line] = [message for message in held if isinstance(message, tuple) or not past[message]]
+            n.arrived[line] = min(n.arrived[line], len(n.held[line]))
 
 
 def wrong_stamp(rng, site, places):
@@ -206,7 +224,7 @@ def flaw(rng, n):
     p = rng.randrange(SITES)
     line = (p, rng.randrange(SITES))
     site, item = rng.randrange(n.sites), rng.randrange(len(n.items))
-    which = rng.randrange(8)
+    which = rng.randrange(9)
     if which == 0:
         n.held[line] = n.held[line][:-1] + [stamp(rng, p, n.places)]
     elif which == 1:
@@ -221,6 +239,8 @@ def flaw(rng, n):
         # a copy more: it may close a cycle, or give other places, by which timestamps need not rise
         primary, mask = n.items[item]
         n.items[item] = (primary, mask | 1 << site & ~(1 << primary))
+    elif which == 6:
+        n.folded, n.base[rng.choice([item, -1])] = False, value(rng)
     elif n.history:
         k = rng.randrange(len(n.history))
         n.history[k] = wrong_record(rng, n, *n.history[k])
@@ -248,11 +268,12 @@ def damaged(rng, data):
             near = int.from_bytes(data[-8:-4], "little") + rng.choice([-16, -8, -1, 1, 8, 16])
             data[-8:-4] = files.little(near % 2**32)
         elif fault == 5 and len(data) >= files.TRAILER:
-            data[-2] = rng.choice([0, 1, 2, 3, 128, 255])
+            data[-2] = rng.choice([0, 1, 2, 3, 4, 5, 6, 7, 128, 130, 255])
         elif fault == 6 and len(data) >= files.TRAILER:
             damage_table(rng, data)
         elif fault == 7 and len(data) >= files.TRAILER:
-            data[-8:-4] = files.little(rng.choice([15, files.TRAILER, files.TRAILER + data[-4] - 1, files.TRAILER + data[-4]]) % 2**32)
+            whole = files.TRAILER + files.lead_size(data[-2], data[-4], data[-3])
+            data[-8:-4] = files.little(rng.choice([15, files.TRAILER, files.TRAILER + data[-4], whole - 4, whole - 1, whole - 1, whole]))
     return bytes(data)
 
 
@@ -276,7 +297,8 @@ def file(rng, engine):
         count = rng.choice([0, 1, 2, 3, 5, RECORDS, RECORDS + 1]) if rng.random() < 0.05 else rng.choice([0, 1, 2, 3])
         places = rng.choice([NUMBERS, order(rng, sites)])
         by = rng.choice([places, places, places, order(rng, sites)])  # the order that the timestamps have
-        made = files.file_bytes(sites, items, [record(rng, sites, items, by) for _ in range(count)], places)
+        base = rng.choice([[0] * items, [value(rng) for _ in range(items)]])
+        made = files.file_bytes(sites, items, [record(rng, sites, items, by) for _ in range(count)], places, rng.random() < 0.5, base)
     return damaged(rng, rng.choice([b"", b"", b"junk", rng.randbytes(40)]) + made)
 
 
@@ -332,6 +354,8 @@ class Chooser:
         self.names, self.weights = list(mood), list(mood.values())
         self.left = self.rng.choice([20, 100, 400, 800])
         self.undo = []
+        self.plan = []  # calls of a round that come first
+        self.hearing = []  # sites that are to hear in it
 
     def first(self):
         return ("set_up",) + placement(self.rng)
@@ -343,6 +367,8 @@ class Chooser:
             return None
         if self.undo and self.rng.random() < 0.3:
             return self.undo.pop()
+        if (self.plan or self.hearing) and self.rng.random() < 0.95:
+            return self.going_on(engine)
         if engine.network is None and not self.undo and self.rng.random() < 0.3:
             return self.first()
         name = self.rng.choices(self.names, self.weights)[0]
@@ -425,6 +451,37 @@ class Chooser:
     def waiting(self, engine):
         return ("waiting", self.likely(self.children(engine), self.site(engine)))
 
+    def collect(self, engine):
+        return ("collect",)
+
+    def round(self, engine):
+        """The first call of a round: sites without parents get a higher epoch; then, in the order of places, each hears what there is and sends a dummy. At its end, or
+        where it stops before, comes a collect.
+        """
+        n = engine.network
+        if n:
+            top = max(epoch for epoch, _ in n.stamps)
+            self.plan = [("epoch", i, min(top + 1, U32)) for i in range(n.sites) if not n.parents(i)]
+            order = sorted(range(n.sites), key=lambda i: n.places[i])
+            self.hearing = order[: self.rng.choice([n.sites, n.sites, n.sites - 1, self.rng.randint(0, n.sites)])]
+        return self.going_on(engine)
+
+    def going_on(self, engine):
+        """The next call of the round."""
+        n = engine.network
+        if self.plan:
+            return self.plan.pop(0)
+        if not self.hearing or not n or self.hearing[0] >= n.sites:
+            self.hearing = []
+            return ("collect",)
+        j = self.hearing[0]
+        moving = [p for p in n.parents(j) if n.arrived[p, j] < len(n.held[p, j])]
+        if moving:
+            return ("deliver", moving[0], j)
+        if n.parents(j) and all(n.arrived[p, j] for p in n.parents(j)):
+            return ("schedule", j)
+        return ("dummy", self.hearing.pop(0))
+
     def table(self, engine):
         return ("table", self.site(engine))
 
@@ -436,6 +493,9 @@ class Chooser:
 
     def places(self, engine):
         return ("places",)
+
+    def base(self, engine):
+        return ("base",)
 
     def origin(self, engine):
         made = engine.network.history if engine.network else []
@@ -480,6 +540,11 @@ class Chooser:
         self.undo.clear()
         return ("state", self.rng.randrange(2**32), self.rng.choice([8, 20, 60]), HELD)
 
+    def few(self, engine):
+        """A state with few records, quickly made and worked through."""
+        self.undo.clear()
+        return ("state", self.rng.randrange(2**32), self.rng.choice([3, 8, 20]), self.rng.choice([0, 1, 3]))
+
     def noise(self, engine):
         self.undo.clear()
         return ("noise", self.rng.randrange(2**32))
@@ -487,16 +552,17 @@ class Chooser:
     def file(self, engine):
         data = file(self.rng, engine)
         name = self.rng.choice(["read", "record", "records"])
-        return (name, data, below(self.rng, files.read(data)[3], 0.2)) if name == "record" else (name, data)
+        return (name, data, below(self.rng, files.read(data).records, 0.2)) if name == "record" else (name, data)
 
     def record_from(self, engine):
         data = file(self.rng, engine)
-        number, _, sites, items, places, found = files.examined(data)
-        if number:
+        seen = files.examined(data)
+        sites, items, places = seen.sites, seen.items, seen.places
+        if seen.number:
             part = data[: max(0, len(data) - files.TRAILER)]
             starts, sites, items = [0], SITES, ITEMS
         else:
-            part, starts = files.part(data), [0] + [end for _, end in found]
+            part, starts = files.part(data), [0] + [end for _, end in seen.found]
         at = self.likely(starts, self.rng.choice([8, len(part), len(part) + 1, self.rng.randint(0, len(part))]))
         sites, items = self.likely([sites], self.rng.choice([0, 1, 3, 9])), self.likely([items], self.rng.choice([0, 1, 2, 65]))
         return ("record_from", part, at, sites, items, self.likely([places], table(self.rng)))

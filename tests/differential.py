@@ -6,9 +6,9 @@
     differential.py play FILE           the calls of a file, one to a line as a failure prints them
 
 Compared are: every field of every answer; every byte of the struct or buffer that was lent for it, unused places too; after a call that was refused or only looks, every
-word of the state; after the others, what the words mean. Where calls alone led from a set-up to the state, an origin must also have the value read. The first
-difference is printed with its seed and a list of calls that is as short as could be found; the exit status is then 1. The module is taken from target/gevrolen, where
-bindings/build puts it, or from GEVROLEN_FOLDER.
+word of the state; after the others, what the words mean. Where calls alone led from a set-up to the state, an origin must also have the value read, and all that was
+seen must be what the book of the calls and the one-copy run have (book.py). The first difference is printed with its seed and a list of calls that is as short as could be
+found; the exit status is then 1. The module is taken from target/gevrolen, where bindings/build puts it, or from GEVROLEN_FOLDER.
 """
 import array
 import ast
@@ -20,6 +20,7 @@ import sys
 import tempfile
 import time
 
+import book
 import chosen
 import files
 import layout
@@ -32,8 +33,9 @@ import gevrolen  # noqa: E402
 SHRINKING = 30  # seconds
 CASES = range(400)  # the seeds of the runs that must reach every case
 UNREACHED = "the runs do not reach: "
-SHOWN = ("set_up", "read", "schedule", "origin", "waiting", "file", "record_from", "compare", "compare_lent")  # what has cases that the runs must show
-LOOKS = {"waiting", "table", "stamp", "line", "places", "origin", "export", "read", "record", "records", "record_from", "compare", "compare_lent"}
+# what has cases that the runs must show
+SHOWN = ("set_up", "read", "schedule", "collect", "base", "book", "origin", "waiting", "file", "record_from", "compare", "compare_lent")
+LOOKS = {"waiting", "table", "stamp", "line", "places", "base", "origin", "export", "read", "record", "records", "record_from", "compare", "compare_lent"}
 UNNUMBERED = {"script", "run", "records", "compare", "compare_lent"}  # answers that do not start with a number
 POISON = 0xEE
 GUARD = bytes([POISON]) * 64
@@ -42,16 +44,17 @@ GUARD = bytes([POISON]) * 64
 # ---- what is lent to the library: full of poison, and looked at afterwards
 class Lent:
     struct = None
+    base = None
     buffer = None
     places = None
 
 
-def poisoned(structure):
+def poisoned(structure, name="struct"):
     class Poisoned(structure):
         def __init__(self, *fields):
             ctypes.memset(ctypes.byref(self), POISON, ctypes.sizeof(self))
             super().__init__(*fields)
-            Lent.struct = self
+            setattr(Lent, name, self)
 
     return Poisoned
 
@@ -73,6 +76,7 @@ def poisoned_buffer(size):
 
 for answer in ["_Stamp", "_Committed", "_Scheduled", "_Report", "_Table", "_Line", "_Origin", "_File", "_Record", "_Compared"]:
     setattr(gevrolen, answer, poisoned(getattr(gevrolen, answer)))
+gevrolen._Base = poisoned(gevrolen._Base, "base")
 gevrolen._Places = PoisonedPlaces
 gevrolen._buffer = poisoned_buffer
 gevrolen._ANSWERS = 1000  # a run of some lines takes several calls then
@@ -95,19 +99,27 @@ STRUCTS = {
     "table": lambda number, values: [len(values)] + padded(values, layout.ITEMS),
     "stamp": lambda number, stamp: stamp_words(stamp),
     "line": lambda number, held, arrived: [held, arrived],
-    "origin": lambda number, kind, record: [("", "start", "commit").index(kind), record],
+    "origin": lambda number, kind, record: [("", "start", "commit", "folded").index(kind), record],
     "compare": lambda order, shared: [1, 0] if shared is None else [0, shared],
-    "read": lambda number, *fields: [half for n in fields[:-1] for half in (n, n >> 32)],
+    "read": lambda number, *fields: [half for n in fields[:5] for half in (n, n >> 32)],
     "record": lambda number, site, stamp, ops: [site, len(ops)] + stamp_words(stamp) + padded([n for o in ops for n in o], 3 * layout.OPERATIONS),
 }
 STRUCTS["commit_lists"] = STRUCTS["commit"]
 
 
+def words_bytes(numbers):
+    return array.array("I", [n % 2**32 for n in numbers]).tobytes()
+
+
 def struct_bytes(name, fields):
-    return array.array("I", [n % 2**32 for n in STRUCTS[name](*fields)]).tobytes()
+    return words_bytes(STRUCTS[name](*fields))
 
 
-# ---- what set-ups, reads, schedules, origins, reports, files and comparisons have to show: a plainer rule would answer otherwise
+def base_bytes(folded, values):
+    return words_bytes([folded, len(values)] + padded(values, layout.ITEMS))
+
+
+# ---- what set-ups, reads, schedules, collects, origins, reports, files and comparisons have to show: a plainer rule would answer otherwise
 def breadth_first(sites, lines):
     """Another order of sites in which parents come first: of all that are free, lowest number first, then of those that are free by them."""
     placed = []
@@ -168,32 +180,48 @@ def another(b, table, flag):
     return inside + b[-16:-8] + files.little(len(inside) + files.TRAILER) + b[-4:-2] + bytes([flag, b[-1]])
 
 
-def shown_by_file(b, number, places):
-    """Why a file was refused by 23, where another table or flag would do; or what its table does."""
-    if number not in (0, 23):
+def shown_by_file(b, seen):
+    """Why a file was refused by 23, where another table, distance or flag would do; or what stands before its records."""
+    if seen.number not in (0, 23):
         return {}
-    distance, sites, flag = files.number_at(b, len(b) - 8), b[-4], b[-2]
-    numbers = bytes(range(sites))
-    table = b[len(b) - distance :][:sites] if flag == files.TABLE else b""
-    good = lambda table, flag: files.read(another(b, table, flag))[0] == 0
+    distance, sites, items, flag = files.number_at(b, len(b) - 8), b[-4], b[-3], b[-2]
+    refused, known = seen.number == 23, flag <= files.TABLE + files.BASE
+    in_range = 1 <= sites <= files.SITES and 1 <= items <= files.ITEMS
+    numbers, rest = bytes(range(sites)), flag & ~files.TABLE
+    table = b[len(b) - distance :][:sites] if known and flag & files.TABLE else b""
+    good = lambda table, flag: files.read(another(b, table, flag)).number == 0
     orders = [bytes(reversed(numbers)), numbers[:-2] + numbers[:-3:-1]]
-    refused, short = number == 23, flag == files.TABLE and distance < files.TRAILER + sites
-    refused_table = refused and flag == files.TABLE and not short and 1 <= sites <= files.SITES
+    without, ordered = lambda: good(b"", rest), lambda: any(good(one, rest + files.TABLE) for one in orders)
+    by_flag = lambda other: files.read(b[:-2] + bytes([other, b[-1]])).number == 0
+    short = refused and known and in_range and distance < files.TRAILER + files.lead_size(flag, sites, items)
+    refused_table = refused and table != b"" and not short and in_range
     whole = sorted(table) == list(numbers)
     falls = any(x > y for _, (_, tuples), _ in files.records(b) for (x, _), (y, _) in zip(tuples, tuples[1:]))
     return {
         "a table": not refused and table != b"",
-        "a table and no records": not refused and table != b"" and distance == files.TRAILER + sites,
+        "a table and no records": not refused and table != b"" and seen.length == 0,
         "a table of fewer than eight": not refused and 0 < len(table) < files.SITES,
         "no table": not refused and table == b"",
         "tuples whose numbers fall": not refused and falls,
-        "places behind the sites' own": not refused and places[:sites] + files.NUMBERS[sites:] == places != files.NUMBERS and sites < files.SITES,
-        "23 for its flag": refused and flag > 1 and (good(b"", 0) or any(good(one, 1) for one in orders)),
-        "23 for a distance too small for its table": refused and short and 1 <= sites <= files.SITES,
-        "23 for a table without each place once": refused_table and not whole and (good(b"", 0) or any(good(one, 1) for one in orders)),
-        "23 for a table that equals the numbers": refused_table and table == numbers and good(b"", 0),
-        "23 for tuples whose places do not rise, though their numbers do": refused_table and whole and table != numbers and good(b"", 0),
-        "23 for tuples whose numbers do not rise, without a table": refused and flag == 0 and any(good(one, 1) for one in orders) and not good(b"", 0),
+        "places behind the sites' own": not refused and seen.places[:sites] + files.NUMBERS[sites:] == seen.places != files.NUMBERS and sites < files.SITES,
+        "a base": not refused and flag == files.BASE,
+        "a base and no records": not refused and seen.folded and seen.length == 0,
+        "a base of zeros": not refused and seen.folded and not any(seen.base),
+        "a base of one item": not refused and seen.folded and items == 1,
+        "a base of 64 items": not refused and seen.folded and items == files.ITEMS,
+        "a base behind a table": not refused and seen.folded and table != b"",
+        "neither table nor base": not refused and flag == 0,
+        "23 for its flag": refused and not known and by_flag(flag & 3),
+        "23 for a base that is not announced": refused and known and not seen.folded and by_flag(flag ^ files.BASE),
+        "23 for a base that is announced and not there": refused and known and flag & files.BASE and by_flag(flag ^ files.BASE),
+        "23 for a distance too small for its table": short and flag == files.TABLE,
+        "23 for a distance too small for its base": short and flag == files.BASE,
+        "23 for a distance too small for table and base": short and flag == files.TABLE + files.BASE and distance >= files.TRAILER + max(sites, 4 * items),
+        "23 for a distance one short of its base": short and flag == files.BASE and distance == files.TRAILER + 4 * items - 1,
+        "23 for a table without each place once": refused_table and not whole and (without() or ordered()),
+        "23 for a table that equals the numbers": refused_table and table == numbers and without(),
+        "23 for tuples whose places do not rise, though their numbers do": refused_table and whole and table != numbers and without(),
+        "23 for tuples whose numbers do not rise, without a table": refused and known and not flag & files.TABLE and ordered() and not without(),
     }
 
 
@@ -231,7 +259,12 @@ def shown_by_origin(n, k, a, named):
     own, other = named == k, named not in (None, k)
     by_numbers = sorted(range(len(stamps)), key=lambda i: model.key(files.NUMBERS, stamps[i]))
     return {
-        "the start value": named is None,
+        "the start value": named is None and not n.folded,
+        "folded": named is None and n.folded,
+        "folded, of a 0 that was read": named is None and n.folded and read == 0,
+        "folded, though a later commit writes the item": named is None and n.folded and writers != [],
+        "a commit that was kept": other and n.folded,
+        "the reader, where others were folded": own and n.folded,
         "not the one that numbers would name": not own and named != ([None] + [i for i in by_numbers[: by_numbers.index(k)] if i in writers])[-1],
         "one made after the reader": other and named > k,
         "not the last made before the reader": not own and named != max((i for i in writers if i < k), default=None),
@@ -245,6 +278,75 @@ def shown_by_origin(n, k, a, named):
         "not the reader, which writes the item behind the read": not own and k in writers,
         "not the reader, which writes another item before the read": not own and any(kind == 1 for kind, _, _ in ops[:a]),
         "not the reader, which reads the item before": not own and any(x == item for _, x, _ in ops[:a]),
+    }
+
+
+def shown_by_collect(n):
+    """How what a collect is to do to a network stands to what other rules would do."""
+    keys = [model.key(n.places, stamp) for _, stamp, _ in n.history]
+    sites = [model.key(n.places, stamp) for stamp in n.stamps]
+    past, named = n.past(), n.named()
+    count = sum(past)
+    gone = [k for k in n.rising() if past[k]]
+    by = lambda stamps, places: [model.key(places, stamp) <= min(model.key(places, own) for own in stamps) for _, stamp, _ in n.history]
+    lively = [n.stamps[i] for i in range(n.sites) if any(n.has(i, x) for x in range(len(n.items)))]
+    written = [[item for kind, item, _ in n.history[k][2] if kind == 1] for k in gone]
+
+    def folded(records):
+        base = list(n.base)
+        for k in records:
+            model.write(base, n.history[k][2])
+        return base
+
+    left = folded(gone)
+    both = list(zip(n.base, left))
+    stale = {line: [isinstance(k, int) and past[k] for k in messages] for line, messages in n.held.items()}
+    refused = any(map(any, stale.values()))
+    some = not refused and count > 0
+    return {
+        "none removed of some": not refused and count == 0 and past != [],
+        "none removed, by which the flag is not set": not refused and count == 0 and not n.folded,
+        "none removed, by which the flag stays set": not refused and count == 0 and n.folded,
+        "some removed": some and count < len(past),
+        "some removed again": some and n.folded,
+        "all removed": some and count == len(past),
+        "one at the point itself removed": some and min(sites) in keys,
+        "not up to the latest site": not refused and past != [own <= max(sites) for own in keys],
+        "not by numbers": not refused and past != by(n.stamps, files.NUMBERS),
+        "not by the sites with items alone": not refused and lively != [] and past != by(lively, n.places),
+        "not the first ones made": some and not all(past[:count]),
+        "not in the order made": some and left != folded(sorted(gone)),
+        "not the last made first of equal timestamps": some and left != folded(sorted(gone, key=lambda k: (keys[k], -k))),
+        "not the first of two writes in a commit": some and any(len(set(items)) < len(items) for items in written),
+        "a base value that stays": some and any(value != 0 and all(x not in items for items in written) for x, value in enumerate(left)),
+        "a base value that is written over": some and any(before not in (0, after) for before, after in both),
+        "a flag without a base value": some and not any(left),
+        "a message that names a commit by another number": some and any(any(past[:k]) for k in named),
+        "a message that names a commit by the same number": some and any(not any(past[:k]) for k in named),
+        "a dummy on a line": some and len(named) < sum(map(len, n.held.values())),
+        "6": refused,
+        "6 for a message that has arrived": any(any(messages[: n.arrived[line]]) for line, messages in stale.items()),
+        "6 for messages on the way alone": refused and not any(any(messages[: n.arrived[line]]) for line, messages in stale.items()),
+        "6 for one message of many": refused and sum(map(sum, stale.values())) == 1 and len(named) > 1,
+        "6, though none is first on its line": refused and not any(messages[0] for messages in stale.values() if messages),
+    }
+
+
+def shown_by_base(w, n, number):
+    """What stands in the words of the flag and of the base values; n is the network that they hold, well shaped or not."""
+    if n is None:
+        return {}
+    flag, past = w[layout.FOLDED_AT], w[layout.BASE_AT + len(n.items) : layout.WORDS]
+    n.folded = True
+    return {
+        "no flag": number == 0 and flag == 0,
+        "a flag": number == 0 and flag == 1,
+        "a flag that is another number": number == 0 and flag > 1,
+        "a flag without base values": number == 0 and flag != 0 and not any(n.base),
+        "a negative value": number == 0 and min(n.base) < 0,
+        "words past the items, without a flag": number == 0 and flag == 0 and any(past),
+        "6 for a value without a flag": number == 6 and flag == 0 and any(n.base) and model.well_shaped(n),
+        "6 for the last value without a flag": number == 6 and flag == 0 and not any(n.base[:-1]) and n.base[-1] != 0 and model.well_shaped(n),
     }
 
 
@@ -377,10 +479,9 @@ def expect(what, library, expected):
 class Pair:
     def __init__(self):
         self.network = gevrolen.Network()
-        self.engine = model.Engine()
+        self.engine = book.Witnessed()
         self.seen = collections.Counter()  # how many calls of each name had each number
         self.shown = {what: collections.Counter() for what in SHOWN}  # how many of each showed what
-        self.reached = False  # whether calls alone led here from a set-up
 
     def words(self):
         return array.array("I", bytes(self.network))
@@ -392,14 +493,16 @@ class Pair:
     def play(self, call, thorough=True):
         """Makes a call on both and compares; the meaning of the words after an accepted step only where that is asked for."""
         name, arguments = call[0], call[1:]
-        if name in ("poke", "state", "noise", "copy"):
-            self.reached = self.reached and name == "copy"
-            return self.load(getattr(self, name)(*arguments))
+        if name == "copy":
+            self.network = self.network.copy()
+            return
+        if name in ("poke", "state", "noise"):
+            self.load(getattr(self, name)(*arguments))
+            return self.by_the_book()
         before = bytes(self.network)
         answer, expected = getattr(self, name, self.plain)(name, *arguments)
         number = 0 if name in UNNUMBERED else expected[0]
         self.seen[name, number] += 1
-        self.reached = self.reached or name == "set_up" and number == 0
         expect("answer", answer, expected)
         if name in STRUCTS:
             expect("struct", bytes(Lent.struct), struct_bytes(name, answer))
@@ -408,6 +511,17 @@ class Pair:
                 raise Difference("words: the call was refused or only looks, and changed some")
         elif thorough:
             self.compare_states()
+        self.by_the_book()
+
+    def by_the_book(self):
+        if self.engine.wrong:
+            raise Difference(self.engine.wrong[0])
+
+    def close(self):
+        """At the end of some calls."""
+        self.compare_states()
+        self.engine.close()
+        self.by_the_book()
 
     def compare_states(self):
         """What the words mean, part by part; of words that are no state nothing is asked."""
@@ -429,9 +543,6 @@ class Pair:
 
     def noise(self, seed):
         return chosen.noise(seed)
-
-    def copy(self):
-        return bytes(self.network.copy())
 
     # ---- what the library and the model answer
     def plain(self, name, *arguments):
@@ -462,6 +573,20 @@ class Pair:
             self.shown[name].update(shown_by_waiting(self.engine.network, site, answer[1]))
         return answer, expected
 
+    def collect(self, name):
+        shown = shown_by_collect(self.engine.network) if self.engine.network else {}
+        answer, expected = self.plain(name)
+        if answer == expected:
+            self.shown[name].update(shown)
+        return answer, expected
+
+    def base(self, name):
+        answer, expected = self.plain(name)
+        expect("struct", bytes(Lent.base), base_bytes(*expected[1:]))
+        words = self.words()
+        self.shown[name].update(shown_by_base(words, layout.load(words), expected[0]))
+        return answer, expected
+
     def commit(self, name, site, *given):
         n = self.engine.network
         table = list(n.tables[site]) if n and site < n.sites else []
@@ -481,15 +606,15 @@ class Pair:
         return answer, expected
 
     def trace(self, k, a, named):
-        """Notes what an origin shows. From a set-up on, the last write of the item in the commit named, in the reader's own the last before the read, has the value read,
-        and a start value read is 0.
+        """Notes what an origin shows. From a set-up on, the last write of the item in the commit named, in the reader's own the last before the read, has the value read;
+        where none is named, the base value is it, which is 0 where nothing was folded.
         """
         n = self.engine.network
         ops = n.history[k][2]
         _, item, read = ops[a]
         self.shown["origin"].update(shown_by_origin(n, k, a, named))
-        if self.reached:
-            wrote = [0] if named is None else model.values_written(item, ops[:a] if named == k else n.history[named][2])
+        if self.engine.book:
+            wrote = [n.base[item]] if named is None else model.values_written(item, ops[:a] if named == k else n.history[named][2])
             expect("value of the origin", wrote[-1:], [read])
 
     def export(self, name, room):
@@ -517,8 +642,9 @@ class Pair:
 
     def read(self, name, data):
         answer, expected = tuple(gevrolen.read(data)), files.read(data)
-        expect("places lent", bytes(Lent.places), bytes(expected[-1]))
-        self.shown["file"].update(shown_by_file(data, expected[0], expected[-1]))
+        expect("places lent", bytes(Lent.places), bytes(expected.places))
+        expect("base lent", bytes(Lent.base), base_bytes(expected.folded, expected.base))
+        self.shown["file"].update(shown_by_file(data, expected))
         return answer, expected
 
     def record(self, name, data, k):
@@ -563,6 +689,10 @@ def complaint(calls):
             pair.play(call)
         except Difference as difference:
             return "%s: %s" % (call[0], difference)
+    try:
+        pair.close()
+    except Difference as difference:
+        return "at the end: %s" % difference
     return None
 
 
@@ -650,7 +780,7 @@ def run(seed, pair, journal):
         journal.flush()
         pair.play(call, thorough=chooser.rng.random() < 0.1)
         call = chooser.next(pair.engine, pair.words)
-    pair.compare_states()
+    pair.close()
 
 
 def runs(seeds, path):
@@ -667,6 +797,7 @@ def runs(seeds, path):
         seen += pair.seen
         for what, cases in pair.shown.items():
             shown[what].update(cases)
+        shown["book"].update(pair.engine.shown)
         count += 1
     print("%d calls in %d runs: the library and the model agree" % (sum(seen.values()), count), flush=True)
     return None, seen, shown

@@ -13,7 +13,9 @@ ITEMS_AT = 3
 SITES_AT = ITEMS_AT + ITEMS * ITEM
 LINES_AT = SITES_AT + SITES * SITE
 HISTORY_AT = LINES_AT + SITES * SITES * LINE
-WORDS = HISTORY_AT + RECORDS * RECORD
+FOLDED_AT = HISTORY_AT + RECORDS * RECORD  # 0 where no record has been removed
+BASE_AT = FOLDED_AT + 1
+WORDS = BASE_AT + ITEMS
 
 DUMMY = RECORDS  # the name of a dummy: no record has this number, nor any above
 
@@ -72,6 +74,8 @@ def load(w):
             {line: held_in(w, at) for line, at in lines.items()},
             {line: w[at + 1] for line, at in lines.items()},
             [record_in(w, HISTORY_AT + RECORD * k) for k in range(records)],
+            [signed(v) for v in w[BASE_AT : BASE_AT + items]],
+            w[FOLDED_AT] != 0,
         )
     except BeyondRoom:
         return None
@@ -115,6 +119,9 @@ def words(network, w=None):
         for i, (kind, item, _) in enumerate(ops):
             lay_code(w, at + CODES, i, 2 * item + kind)
         lay(w, at + VALUES, [v for _, _, v in ops])
+    if (w[FOLDED_AT] != 0) != network.folded:
+        w[FOLDED_AT] = int(network.folded)
+    lay(w, BASE_AT, network.base)
     return w
 
 
@@ -122,7 +129,7 @@ def words(network, w=None):
 def parts(w):
     """Starts and lengths of parts that mean something, most of them small, so that one of them at random is often worth a change."""
     sites, items, records = min(w[0], SITES), min(w[1], ITEMS), min(w[2], RECORDS)
-    found = [(0, 3), (ITEMS_AT, ITEM * items)]
+    found = [(0, 3), (ITEMS_AT, ITEM * items), (FOLDED_AT, 1), (BASE_AT + max(items, 1) - 1, 1), (BASE_AT, ITEMS)]
     found += [(SITES_AT + SITE * i, 2 + 2 * min(w[SITES_AT + SITE * i + 1], SITES)) for i in range(sites)]
     found += [(SITES_AT + SITE * i + STAMP, items) for i in range(sites)]
     for k in range(SITES * SITES):

@@ -16,6 +16,15 @@ def whole(answer):
     return answer.site, answer.stamp.value(), [(one.kind, one.item, one.value) for one in answer.operations]
 
 
+def poisoned_base():
+    return gevrolen._Base(EE, EE, (ctypes.c_int32 * gevrolen.ITEMS)(*[EE] * gevrolen.ITEMS))
+
+
+def base_places(base):
+    """The flag, how many values, and all 64 places of them."""
+    return [base.folded, base.count] + list(base.values)
+
+
 class Library:
     def __init__(self):
         self.network = gevrolen.Network()
@@ -44,6 +53,16 @@ class Library:
         number = gevrolen._library.places(self.network._words, ctypes.byref(answer))
         return number, list(answer)
 
+    def collect(self):
+        removed = ctypes.c_uint32(EE)
+        number = gevrolen._library.collect(self.network._words, ctypes.byref(removed))
+        return number, removed.value
+
+    def base(self):
+        answer = poisoned_base()
+        number = gevrolen._library.base(self.network._words, ctypes.byref(answer))
+        return number, base_places(answer)
+
     def compare(self, first, second, places):
         answer = gevrolen._Compared(EE, EE)
         structs = [(ctypes.c_uint32 * len(words))(*words) for words in (first, second)]
@@ -56,9 +75,9 @@ class Library:
         return number, length.value, bytes(buffer)[:size]
 
     def read(self, data):
-        answer, places = gevrolen._File(EE, EE, EE, EE, EE), gevrolen._Places(*[EE] * gevrolen.SITES)
-        number = gevrolen._library.read(data, len(data), ctypes.byref(answer), ctypes.byref(places))
-        return number, answer.start, answer.length, answer.records, answer.sites, answer.items, list(places)
+        answer, places, base = gevrolen._File(EE, EE, EE, EE, EE), gevrolen._Places(*[EE] * gevrolen.SITES), poisoned_base()
+        number = gevrolen._library.read(data, len(data), ctypes.byref(answer), ctypes.byref(places), ctypes.byref(base))
+        return number, answer.start, answer.length, answer.records, answer.sites, answer.items, list(places), base_places(base)
 
     def record(self, data, k):
         answer = gevrolen._Record()

@@ -8,7 +8,8 @@
 tests/cases/long is the script of seed 1 with 4000 lines, tests/cases/moved that of seed 2 with 2000 lines, moved.
 
 A timestamp is (epoch, ((site, count), ..)), a record (site, timestamp, ((kind, item, value), ..)), a message a record's number or a dummy's timestamp. Places are a
-table of eight, entry k that of site k. An answer is a tuple, the number first.
+table of eight, entry k that of site k. The base has a value for each item; `folded` says whether a collect has removed a record since set-up. An answer is a tuple, the
+number first.
 """
 import collections
 import functools
@@ -101,13 +102,23 @@ def read_value(table, ops, a):
     return own[-1] if own else table[item]
 
 
+def write(table, ops):
+    """Operations write to a table, in list order."""
+    for kind, item, v in ops:
+        if kind == 1:
+            table[item] = v
+
+
 # ---- networks
 class Network:
-    """How many sites; primary and mask of each item; timestamp and table of each site; on each line the messages held and how many arrived; the history."""
+    """How many sites; primary and mask of each item; timestamp and table of each site; on each line the messages held and how many arrived; the history; what removed
+    commits left, a value for each item, and whether there are such commits.
+    """
 
-    def __init__(self, sites, items, stamps, tables, held, arrived, history):
+    def __init__(self, sites, items, stamps, tables, held, arrived, history, base, folded):
         self.sites, self.items, self.stamps, self.tables = sites, items, stamps, tables
         self.held, self.arrived, self.history = held, arrived, history
+        self.base, self.folded = base, folded
         self.lines = lines_of(items)
         self.places = places_by(site_order(sites, self.lines))
 
@@ -134,6 +145,19 @@ class Network:
 
     def full(self, site, children):
         return any(len(self.held[site, c]) >= HELD for c in children)
+
+    def rising(self):
+        """The numbers of the records by rising timestamp, equal ones in the order made."""
+        return sorted(range(len(self.history)), key=lambda k: key(self.places, self.history[k][1]))
+
+    def past(self):
+        """Of each record whether it is not later than the earliest of all site timestamps."""
+        point = min(key(self.places, stamp) for stamp in self.stamps)
+        return [key(self.places, stamp) <= point for _, stamp, _ in self.history]
+
+    def named(self):
+        """The records that messages on lines name."""
+        return [message for held in self.held.values() for message in held if not isinstance(message, tuple)]
 
     def message_stamp(self, message):
         return message if isinstance(message, tuple) else self.history[message][1]
@@ -182,6 +206,7 @@ def well_shaped(n):
         and all(made_by(i, stamp) for i, stamp in enumerate(n.stamps))
         and all(map(record_fits, n.history))
         and all(line_fits(p, c) for p, c in n.held)
+        and (n.folded or not any(n.base))
     )
 
 
@@ -219,6 +244,8 @@ class Engine:
             {line: [] for line in lines},
             {line: 0 for line in lines},
             [],
+            [0] * items,
+            False,
         )
         return ()
 
@@ -236,9 +263,7 @@ class Engine:
         refuse(13, n.full(i, due))
         refuse(14, n.own_count(i) == U32)
         done = tuple((kind, item, read_value(n.tables[i], ops, a) if kind == 0 else v) for a, (kind, item, v) in enumerate(ops))
-        for kind, item, v in done:
-            if kind == 1:
-                n.tables[i][item] = v
+        write(n.tables[i], done)
         n.raise_count(i)
         for c in due:
             n.held[i, c].append(len(n.history))
@@ -294,6 +319,22 @@ class Engine:
         n.stamps[j] = (stamp[0], stamp[1] + n.stamps[j][1][-1:])
         return best, stamp
 
+    @call(0)
+    def collect(self):
+        """Folds every commit not later than the earliest of all site timestamps into the base values, by rising timestamp, removes them and answers how many."""
+        n = self.shaped()
+        past = n.past()
+        refuse(6, any(past[k] for k in n.named()))
+        for k in n.rising():
+            if past[k]:
+                write(n.base, n.history[k][2])
+        kept = [k for k in range(len(past)) if not past[k]]
+        for line, held in n.held.items():
+            n.held[line] = [message if isinstance(message, tuple) else kept.index(message) for message in held]
+        n.history = [n.history[k] for k in kept]
+        n.folded = n.folded or any(past)
+        return (len(past) - len(kept),)
+
     # ---- calls that only look
     @call(())
     def waiting(self, j):
@@ -326,24 +367,31 @@ class Engine:
         """The place of each site; a number that is no site is its own place."""
         return (self.shaped().places,)
 
+    @call(False, ())
+    def base(self):
+        """Whether a collect has removed a record since set-up, and a base value for each item."""
+        n = self.shaped()
+        return n.folded, tuple(n.base)
+
     @call("", 0)
     def origin(self, k, a):
-        """Where the value of operation a of record k came from: "commit" and its record number, or "start" and 0."""
+        """Where the value of operation a of record k came from: "commit" and its record number; with 0 "folded" where no kept record is it and some were removed, else
+        "start".
+        """
         n = self.shaped()
         refuse(26, k >= len(n.history) or a >= len(n.history[k][2]) or n.history[k][2][a][0] != 0)
         item = n.history[k][2][a][1]
         if values_written(item, n.history[k][2][:a]):
             return "commit", k
-        # sorting leaves equal timestamps in the order made
-        rising = sorted(range(len(n.history)), key=lambda i: key(n.places, n.history[i][1]))
+        rising = n.rising()
         writers = [i for i in rising[: rising.index(k)] if values_written(item, n.history[i][2])]
-        return ("commit", writers[-1]) if writers else ("start", 0)
+        return ("commit", writers[-1]) if writers else ("folded" if n.folded else "start", 0)
 
     @call(b"")
     def export(self, room):
         """The file, for a buffer of so many bytes."""
         n = self.shaped()
-        made = files.file_bytes(n.sites, len(n.items), n.history, n.places)
+        made = files.file_bytes(n.sites, len(n.items), n.history, n.places, n.folded, n.base)
         refuse(25, len(made) > room)
         return (made,)
 

@@ -1,5 +1,5 @@
 /* The ten lines of the worked example by calls, each answer printed as a script would print it, and two of its timestamps side by side; then two sales in one commit, what
-   waits for a site after them, where two timestamps part, and copies at lower-numbered sites, which the exit status judges. */
+   waits for a site after them, where two timestamps part, copies at lower-numbered sites, and a collect, which the exit status judges. */
 #include <inttypes.h>
 #include <stdio.h>
 
@@ -149,6 +149,7 @@ static int joined_late(void)
     struct gevrolen_committed committed;
     struct gevrolen_scheduled scheduled;
     struct gevrolen_file found;
+    struct gevrolen_base base;
     struct gevrolen_record record;
     uint8_t places[GEVROLEN_SITES];
     size_t length, next;
@@ -157,10 +158,38 @@ static int joined_late(void)
         && answers(&older, &late, -1, 0, 0) && answers(&late, &heard, -1, 0, 1)
         && gevrolen_commit(state, 2, sold, 1, &committed) == GEVROLEN_ACCEPTED && gevrolen_deliver(state, 2, 0) == GEVROLEN_ACCEPTED
         && gevrolen_schedule(state, 0, &scheduled) == GEVROLEN_ACCEPTED && gevrolen_export(state, file, sizeof file, &length) == GEVROLEN_ACCEPTED
-        && gevrolen_read(file, length, &found, places) == GEVROLEN_ACCEPTED && found.start == 3 && found.records == 1
-        && places[0] == 1 && places[1] == 2 && places[2] == 0 && places[3] == 3
+        && gevrolen_read(file, length, &found, places, &base) == GEVROLEN_ACCEPTED && found.start == 3 && found.records == 1
+        && places[0] == 1 && places[1] == 2 && places[2] == 0 && places[3] == 3 && base.folded == 0 && base.count == 2 && base.values[0] == 0
         && gevrolen_record_from(file + found.start, found.length, 0, 3, 2, places, &record, &next) == GEVROLEN_ACCEPTED
         && record.site == 2 && next == found.length;
+}
+
+/* Site 1 has not heard of the sale then: a collect removes it when site 1 has, and what it left is the base value, in the state and in the file, which has no record. */
+static int collected(void)
+{
+    const struct gevrolen_operation seen[] = {{GEVROLEN_READ, 0, 0}};
+    static uint8_t file[GEVROLEN_FILE_BYTES];
+    struct gevrolen_committed committed;
+    struct gevrolen_scheduled scheduled;
+    struct gevrolen_origin origin;
+    struct gevrolen_file found;
+    struct gevrolen_base base, read;
+    uint8_t places[GEVROLEN_SITES];
+    uint32_t removed;
+    size_t length;
+    return gevrolen_collect(state, &removed) == GEVROLEN_ACCEPTED && removed == 0
+        && gevrolen_base(state, &base) == GEVROLEN_ACCEPTED && base.folded == 0 && base.count == 2 && base.values[0] == 0
+        && gevrolen_epoch(state, 2, 1) == GEVROLEN_ACCEPTED && gevrolen_dummy(state, 2, &committed.stamp) == GEVROLEN_ACCEPTED
+        && gevrolen_deliver(state, 2, 0) == GEVROLEN_ACCEPTED && gevrolen_schedule(state, 0, &scheduled) == GEVROLEN_ACCEPTED
+        && gevrolen_dummy(state, 0, &committed.stamp) == GEVROLEN_ACCEPTED && gevrolen_deliver(state, 0, 1) == GEVROLEN_ACCEPTED
+        && gevrolen_deliver(state, 2, 1) == GEVROLEN_ACCEPTED && gevrolen_schedule(state, 1, &scheduled) == GEVROLEN_ACCEPTED
+        && gevrolen_collect(state, &removed) == GEVROLEN_ACCEPTED && removed == 1
+        && gevrolen_base(state, &base) == GEVROLEN_ACCEPTED && base.folded == 1 && base.count == 2 && base.values[0] == 9 && base.values[1] == 0
+        && gevrolen_export(state, file, sizeof file, &length) == GEVROLEN_ACCEPTED && length == 3 + 8 + 16
+        && gevrolen_read(file, length, &found, places, &read) == GEVROLEN_ACCEPTED && found.start == 11 && found.records == 0
+        && read.folded == 1 && read.count == 2 && read.values[0] == 9 && read.values[1] == 0
+        && gevrolen_commit(state, 1, seen, 1, &committed) == GEVROLEN_ACCEPTED && committed.values[0] == 9
+        && gevrolen_origin(state, 0, 0, &origin) == GEVROLEN_ACCEPTED && origin.kind == GEVROLEN_FOLDED && origin.record == 0;
 }
 
 int main(void)
@@ -183,5 +212,5 @@ int main(void)
     schedule(2);
     commit(2, seen, 2);
     sites_side_by_side(1, 2);
-    return sold_twice() && waits() && parted() && joined_late() ? 0 : 1;
+    return sold_twice() && waits() && parted() && joined_late() && collected() ? 0 : 1;
 }

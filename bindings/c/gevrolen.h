@@ -5,7 +5,7 @@
    each step: nothing happens by itself, nothing is sent anywhere, and no call waits.
 
    THE STATE is an array of GEVROLEN_WORDS words that the caller owns; the library keeps nothing of its own, no memory and no file. All zeros are a state that was
-   never set up. It may be copied, saved and loaded as it is (112,204 bytes, in this machine's byte order), since every call tests it: words that are no state
+   never set up. It may be copied, saved and loaded as it is (112,464 bytes, in this machine's byte order), since every call tests it: words that are no state
    get 6. It is too large for a small stack; a static or an allocated array is better.
 
    ANSWERS. A call's result is its number: 0 where it was accepted, else the cause for which it was refused, one of the constants below. Causes are tested in the order of
@@ -17,6 +17,10 @@
    whose parents all have their place, the first at place 0. A timestamp's tuples stand in that order, and timestamps are compared by places, not by numbers. A table of
    places is eight bytes, byte k the place of site k; a number that is no site is its own place. Where every copy is at a higher-numbered site than its primary, the places
    are the numbers. A history has the places of its network.
+
+   THE BASE. The history holds 256 commits. A collect makes room: it folds those that are not later than any site's timestamp into a base value for each item, which is what
+   they left, and removes their records. The commits that are kept go on from the base values; their records are numbered anew, from 0. A history has the base of its
+   network.
 
    POINTERS. None may be NULL, not even that of an empty list, and what a call writes to (state, answer, buffer) may not overlap what else it is given. All are the
    caller's, and the library keeps none. A pointer to words is aligned as uint32_t. A pair of a pointer and a length is as many elements as the length says.
@@ -34,7 +38,7 @@ extern "C" {
 
 /* ---- sizes */
 
-#define GEVROLEN_WORDS 28051      /* the words of a state */
+#define GEVROLEN_WORDS 28116      /* the words of a state */
 #define GEVROLEN_SITES 8          /* most sites, numbered from 0 */
 #define GEVROLEN_ITEMS 64         /* most items, numbered from 0 */
 #define GEVROLEN_OPERATIONS 8     /* most operations of a commit */
@@ -42,17 +46,18 @@ extern "C" {
 #define GEVROLEN_RECORDS 256      /* most commits that the history holds */
 #define GEVROLEN_ANSWER 512       /* the bytes of the buffer for a script line's answer */
 #define GEVROLEN_ANSWER_ROOM 294  /* gevrolen_run stops where fewer bytes than this are left for answers */
-#define GEVROLEN_FILE_BYTES 34840 /* the longest history file: a buffer of this size is never refused by 25 */
+#define GEVROLEN_FILE_BYTES 35096 /* the longest history file: a buffer of this size is never refused by 25 */
 
 /* ---- kinds of operations */
 
 #define GEVROLEN_READ 0  /* gives the latest value written to the item before it in the commit, else the value from before the commit */
 #define GEVROLEN_WRITE 1 /* sets the item's value */
 
-/* ---- kinds of origins; 0, as where a call is refused, is neither */
+/* ---- kinds of origins; 0, as where a call is refused, is none of them */
 
 #define GEVROLEN_START 1  /* the start value, which is 0 */
 #define GEVROLEN_COMMIT 2 /* a commit's write */
+#define GEVROLEN_FOLDED 3 /* the base value: the write may be that of a commit which a collect removed */
 
 /* ---- numbers, and what to do about each; gevrolen_explain gives the same in words */
 
@@ -68,7 +73,7 @@ extern "C" {
 #define GEVROLEN_UNKNOWN_OPERATION 9   /* an operation's kind is not 0 or 1, or no item has its number: correct it */
 #define GEVROLEN_NO_COPY 10            /* a read of an item that is not held at this site: read it where it is held */
 #define GEVROLEN_NOT_PRIMARY 11        /* a write of an item that another site owns: commit it there */
-#define GEVROLEN_HISTORY_FULL 12       /* 256 commits since the set-up: export the history, then set up again */
+#define GEVROLEN_HISTORY_FULL 12       /* the history holds 256 commits: export it, let every site hear of them, then collect */
 #define GEVROLEN_LINE_FULL 13          /* a line to a child holds 16 messages: deliver and schedule at the child, then try again */
 #define GEVROLEN_COUNT_FULL 14         /* the site's own count is 4,294,967,295: export the history, then set up again */
 #define GEVROLEN_HAS_PARENTS 15        /* an epoch at a site with parents: raise it at the sites without; it comes with their messages */
@@ -137,7 +142,14 @@ struct gevrolen_line {
     uint32_t arrived;
 };
 
-/* Where the value of a read came from: the kind of origin, and the record number of the commit, 0 where it is the start value. */
+/* What the commits that collects have removed since set-up left: 1 where there are such commits, else 0; and a value for each of `count` items, by number; the rest are 0. */
+struct gevrolen_base {
+    uint32_t folded;
+    uint32_t count;
+    int32_t values[GEVROLEN_ITEMS];
+};
+
+/* Where the value of a read came from: the kind of origin, and the record number of the commit, 0 for the other kinds. */
 struct gevrolen_origin {
     uint32_t kind;
     uint32_t record;
@@ -213,6 +225,11 @@ uint32_t gevrolen_deliver(uint32_t state[GEVROLEN_WORDS], uint32_t parent, uint3
 /* The site takes the earliest of the oldest arrived messages of its parents and applies it. 6, 7, 19, 20. */
 uint32_t gevrolen_schedule(uint32_t state[GEVROLEN_WORDS], uint32_t site, struct gevrolen_scheduled *answer);
 
+/* Folds every commit that is not later than the earliest of all sites' timestamps into the base values, by rising timestamp, equal ones in the order made, and removes its
+   record; and how many it removed, which may be none. Their room is free then. The records kept are numbered from 0, in the order made. 6, also where a message on a line
+   names a commit to be folded, to which no steps from a set-up lead. */
+uint32_t gevrolen_collect(uint32_t state[GEVROLEN_WORDS], uint32_t *removed);
+
 /* ---- calls that only look */
 
 /* The items that messages on the lines into a site write, arrived or not, and that it has a copy of: by the timestamp of the earliest of the messages that write the item,
@@ -229,12 +246,15 @@ uint32_t gevrolen_stamp(const uint32_t state[GEVROLEN_WORDS], uint32_t site, str
 uint32_t gevrolen_line(const uint32_t state[GEVROLEN_WORDS], uint32_t parent, uint32_t child, struct gevrolen_line *answer);
 
 /* Where the value of a read in the history came from: its own commit where it follows a write of the item there; else the last commit before that in timestamp order that
-   writes the item, equal timestamps in the order made; the start value where there is none. The read is named by its commit's record number and the number of the operation
-   in it, both from 0. 6, 26. */
+   writes the item, equal timestamps in the order made. Where the history has none it is the base value if a collect has removed a record since set-up, else the start
+   value. The read is named by its commit's record number and the number of the operation in it, both from 0. 6, 26. */
 uint32_t gevrolen_origin(const uint32_t state[GEVROLEN_WORDS], uint32_t record, uint32_t operation, struct gevrolen_origin *answer);
 
 /* The places of the sites, by which the state's timestamps are compared. 6. */
 uint32_t gevrolen_places(const uint32_t state[GEVROLEN_WORDS], uint8_t places[GEVROLEN_SITES]);
+
+/* The base values, and whether a collect has removed a record since set-up; where none has, they are 0. 6. */
+uint32_t gevrolen_base(const uint32_t state[GEVROLEN_WORDS], struct gevrolen_base *answer);
 
 /* Two timestamps by a table of places: -1 where the first is earlier, 0 where they are equal, 1 where it is later; and where they part. The table is that of the network
    (gevrolen_places) or of the file (gevrolen_read) from which the timestamps come; by another they may compare otherwise. Whatever structs and table hold is compared: tuples
@@ -251,8 +271,12 @@ int32_t gevrolen_compare(
 /* The history as a file at the front of a buffer, whose rest stays as it was; and the file's length. 6, 25. */
 uint32_t gevrolen_export(const uint32_t state[GEVROLEN_WORDS], uint8_t *buffer, size_t room, size_t *length);
 
-/* Checks the file that ends a buffer; and the places of the network's sites. 21, 22, 23. */
-uint32_t gevrolen_read(const uint8_t *buffer, size_t length, struct gevrolen_file *answer, uint8_t places[GEVROLEN_SITES]);
+/* Checks the file that ends a buffer; and the places of the network's sites, and its base. 21, 22, 23. */
+uint32_t gevrolen_read(
+    const uint8_t *buffer, size_t length,
+    struct gevrolen_file *answer,
+    uint8_t places[GEVROLEN_SITES],
+    struct gevrolen_base *base);
 
 /* The record of a number, from 0, of the file that ends a buffer; the whole file is checked each time. 21, 22, 23, 24. */
 uint32_t gevrolen_record(const uint8_t *buffer, size_t length, size_t number, struct gevrolen_record *answer);
@@ -300,7 +324,7 @@ static inline const char *gevrolen_explain(uint32_t number)
         "An operation has an unknown kind or item: correct it.",
         "A read of an item that the site neither owns nor copies: read it where it is held.",
         "A write of an item that another site owns: commit it there.",
-        "The history holds 256 commits: export it, then set up again.",
+        "The history holds 256 commits: export it, let every site hear of them, then collect.",
         "A line that would get a message holds 16: deliver and schedule at the child, then try again.",
         "The site's own count is 4,294,967,295: export the history, then set up again.",
         "The site has parents: raise the epoch at the sites without; it comes with their messages.",

@@ -34,6 +34,16 @@ Timestamps are compared by the places of the sites, which the network and each h
     >>> compare(network.stamp(1).stamp, network.stamp(0).stamp, network.places().places)
     Compared(order=1, shared=1)
 
+The history holds 256 commits. A collect folds those that are not later than any site's timestamp into a base value for each item, and makes room; here site 2 has heard of
+none yet, then of the first:
+
+    >>> network.collect()
+    Collected(number=0, removed=0)
+    >>> network.deliver(0, 2).number, network.deliver(1, 2).number, network.schedule(2).number, network.collect()
+    (0, 0, 0, Collected(number=0, removed=1))
+    >>> network.base()
+    Base(number=0, folded=True, values=(5, 0))
+
 A call that can be refused returns a named tuple whose first field is `number`: 0 where the call was accepted. A refusal is an answer: where the number is not 0 the
 other fields are 0 or empty, and the state is as it was. An argument of a wrong type raises TypeError; a number that does not fit its field raises OverflowError; a table
 of places that are not eight raises ValueError.
@@ -48,13 +58,13 @@ import os
 from array import array
 from collections import namedtuple
 
-WORDS = 28051  # the words of a state, four bytes each
+WORDS = 28116  # the words of a state, four bytes each
 SITES, ITEMS, OPERATIONS, MESSAGES, RECORDS = 8, 64, 8, 16, 256
-FILE_BYTES = 34840  # the longest history file
+FILE_BYTES = 35096  # the longest history file
 READ, WRITE = 0, 1
 
 _ANSWER, _ANSWERS = 512, 65536  # the bytes lent for a line's answer, and for those of many lines
-_ORIGINS = ("", "start", "commit")  # the kinds of origins by their numbers
+_ORIGINS = ("", "start", "commit", "folded")  # the kinds of origins by their numbers
 
 _CAUSES = [
     ("ACCEPTED", "It was accepted."),
@@ -69,7 +79,7 @@ _CAUSES = [
     ("UNKNOWN_OPERATION", "An operation has an unknown kind or item: correct it."),
     ("NO_COPY", "A read of an item that the site neither owns nor copies: read it where it is held."),
     ("NOT_PRIMARY", "A write of an item that another site owns: commit it there."),
-    ("HISTORY_FULL", "The history holds 256 commits: export it, then set up again."),
+    ("HISTORY_FULL", "The history holds 256 commits: export it, let every site hear of them, then collect."),
     ("LINE_FULL", "A line that would get a message holds 16: deliver and schedule at the child, then try again."),
     ("COUNT_FULL", "The site's own count is 4,294,967,295: export the history, then set up again."),
     ("HAS_PARENTS", "The site has parents: raise the epoch at the sites without; it comes with their messages."),
@@ -119,9 +129,11 @@ Table = namedtuple("Table", "number values")
 Stamped = namedtuple("Stamped", "number stamp")
 Line = namedtuple("Line", "number held arrived")
 Places = namedtuple("Places", "number places")
+Collected = namedtuple("Collected", "number removed")
+Base = namedtuple("Base", "number folded values")
 Origin = namedtuple("Origin", "number kind record")
 Exported = namedtuple("Exported", "number data")
-File = namedtuple("File", "number start length records sites items places")
+File = namedtuple("File", "number start length records sites items places folded base")
 Record = namedtuple("Record", "number site stamp operations")
 Compared = namedtuple("Compared", "order shared")
 
@@ -157,6 +169,13 @@ class _Table(ctypes.Structure):
 
 class _Line(ctypes.Structure):
     _fields_ = [("held", ctypes.c_uint32), ("arrived", ctypes.c_uint32)]
+
+
+class _Base(ctypes.Structure):
+    _fields_ = [("folded", ctypes.c_uint32), ("count", ctypes.c_uint32), ("values", ctypes.c_int32 * ITEMS)]
+
+    def value(self):
+        return self.folded != 0, tuple(self.values[: self.count])
 
 
 class _Origin(ctypes.Structure):
@@ -198,15 +217,17 @@ _FUNCTIONS = {
     "epoch": (_U32, [_POINTER, _U32, _U32]),
     "deliver": (_U32, [_POINTER, _U32, _U32]),
     "schedule": (_U32, [_POINTER, _U32, _POINTER]),
+    "collect": (_U32, [_POINTER, _POINTER]),
     "waiting": (_U32, [_POINTER, _U32, _POINTER]),
     "table": (_U32, [_POINTER, _U32, _POINTER]),
     "stamp": (_U32, [_POINTER, _U32, _POINTER]),
     "line": (_U32, [_POINTER, _U32, _U32, _POINTER]),
     "origin": (_U32, [_POINTER, _U32, _U32, _POINTER]),
     "places": (_U32, [_POINTER, _POINTER]),
+    "base": (_U32, [_POINTER, _POINTER]),
     "compare": (ctypes.c_int32, [_POINTER, _POINTER, _POINTER, _POINTER]),
     "export": (_U32, [_POINTER] + _LIST + [_POINTER]),
-    "read": (_U32, _LIST + [_POINTER, _POINTER]),
+    "read": (_U32, _LIST + [_POINTER, _POINTER, _POINTER]),
     "record": (_U32, _LIST + [_SIZE, _POINTER]),
     "record_from": (_U32, _LIST + [_SIZE, _U32, _U32, _POINTER, _POINTER, _POINTER]),
     "script": (_SIZE, [_POINTER] + _LIST + [_POINTER]),
@@ -359,6 +380,15 @@ class Network:
         number = _library.schedule(self._words, _word(site), _byref(answer))
         return Scheduled(number, answer.parent, answer.stamp.value())
 
+    def collect(self):
+        """Folds every commit that is not later than the earliest of all sites' timestamps into the base values, by rising timestamp, equal ones in the order made, removes its
+        record and answers how many it removed, which may be none. The records kept are numbered from 0, in the order made. 6, also where a message on a line names a commit
+        to be folded, to which no steps from a set-up lead.
+        """
+        removed = ctypes.c_uint32()
+        number = _library.collect(self._words, _byref(removed))
+        return Collected(number, removed.value)
+
     def waiting(self, site):
         """The items that messages on the lines into a site write, arrived or not, and that it has a copy of, each once: by the timestamp of the earliest of the messages that
         write the item, those of equal timestamps by number. 6, 7.
@@ -391,10 +421,16 @@ class Network:
         number = _library.places(self._words, _byref(answer))
         return Places(number, tuple(answer))
 
+    def base(self):
+        """Whether a collect has removed a record since set-up, and a base value for each item: what the removed commits left, 0 where there are none. 6."""
+        answer = _Base()
+        number = _library.base(self._words, _byref(answer))
+        return Base(number, *answer.value())
+
     def origin(self, record, operation):
         """Where the value of a read in the history came from, by its commit's record number and the number of the operation in it, both from 0: 'commit' and the record
         number of its own commit where it follows a write of the item there, else of the last commit before that in timestamp order that writes the item, equal timestamps
-        in the order made; 'start' and 0 where there is none. 6, 26.
+        in the order made. Where the history has none, 'folded' and 0 if a collect has removed a record since set-up, which may be the write's, else 'start' and 0. 6, 26.
         """
         answer = _Origin()
         number = _library.origin(self._words, _word(record), _word(operation), _byref(answer))
@@ -428,13 +464,13 @@ class Network:
 
 
 def read(buffer):
-    """Checks the history file that ends a buffer: where its records stand, how many bytes they take, how many records, sites and items, and the places of the sites, by
-    which its timestamps are compared. 21 to 23.
+    """Checks the history file that ends a buffer: where its records stand, how many bytes they take, how many records, sites and items; the places of the sites, by
+    which its timestamps are compared; whether a collect had removed records, and the base values, from which the records go on. 21 to 23.
     """
     buffer = _bytes(buffer)
-    answer, places = _File(), _Places()
-    number = _library.read(buffer, len(buffer), _byref(answer), _byref(places))
-    return File(number, answer.start, answer.length, answer.records, answer.sites, answer.items, tuple(places))
+    answer, places, base = _File(), _Places(), _Base()
+    number = _library.read(buffer, len(buffer), _byref(answer), _byref(places), _byref(base))
+    return File(number, answer.start, answer.length, answer.records, answer.sites, answer.items, tuple(places), *base.value())
 
 
 def record(buffer, k):

@@ -1,7 +1,7 @@
 //! The calls of bench/speed.c, and its output: 100,000 mixed steps on an almost empty network and as many on a full
 //! one; or, with a letter as its argument, one kind of call again and again.
 use peer::file::{self, Record};
-use peer::network::{Network, Op, ITEMS};
+use peer::network::{Network, Op, Origin, ITEMS};
 use peer::{Answer, Cause};
 use std::hint::black_box;
 
@@ -47,12 +47,16 @@ fn almost_empty(state: &mut Network) -> u64 {
         .sum()
 }
 
-/// Item k has its primary at site k % 8 and a copy at every site above it; 256 records of eight writes, the last of eight reads; each line
-/// holds 16; from each of its parents one message has arrived at site 7.
-fn fill(state: &mut Network) {
+/// Item k has its primary at site k % 8 and a copy at every site above it.
+fn set_up(state: &mut Network) {
     let primaries: [u32; ITEMS] = std::array::from_fn(|k| k as u32 % 8);
     let masks: [u8; ITEMS] = std::array::from_fn(|k| [254, 252, 248, 240, 224, 192, 128, 0][k % 8]);
     let _ = state.set_up(8, 64, &primaries, &masks);
+}
+
+/// 256 records of eight writes, the last of eight reads; each line holds 16; from each of its parents one message has arrived at site 7.
+fn fill(state: &mut Network) {
+    set_up(state);
     rounds(state, b"w00w10w20w30w40w50w60w70", 16);
     rounds(state, b"w70", 127);
     rounds(state, b"r70", 1);
@@ -63,6 +67,36 @@ fn fill(state: &mut Network) {
 fn full(state: &mut Network) -> u64 {
     fill(state);
     rounds(state, b"c77c10d00e00e70s70d60l67l76s10", 10000)
+}
+
+/// 128 commits of eight writes at all eight sites, 14 messages of theirs on a line.
+fn half(state: &mut Network) {
+    rounds(state, b"w00w10w20w30w40w50w60w70", 14);
+    rounds(state, b"w70", 16);
+}
+
+/// Every site hears of all commits: a higher epoch at site 0, then each site takes what there is and sends a dummy.
+fn hear(state: &mut Network, epoch: u32) {
+    let _ = state.epoch(0, epoch);
+    for site in 0..8 {
+        for parent in 0..site {
+            while state.deliver(parent, site).is_ok() {}
+        }
+        while state.schedule(site).is_ok() {}
+        let _ = state.dummy(site);
+    }
+}
+
+/// A full network to collect, as in bench/speed.c.
+fn season(state: &mut Network, all: bool) {
+    set_up(state);
+    half(state);
+    hear(state, 1);
+    half(state);
+    if all {
+        hear(state, 2);
+    }
+    rounds(state, b"d00d10d20d30d40d50d60", 16);
 }
 
 /// Every field of a record goes into a sum.
@@ -77,13 +111,25 @@ fn ordered(items: &[u8]) -> u64 {
     items.iter().zip(1u64..).map(|(&item, place)| place * item as u64).sum()
 }
 
-fn once(letter: &str, state: &mut Network, buffer: &mut [u8]) -> u64 {
+/// A copy of a state, and its collect.
+fn collected(state: &mut Network, saved: &Network, collects: bool) -> u64 {
+    state.clone_from(black_box(saved));
+    let removed = if collects { state.collect().unwrap_or(0) } else { 0 };
+    removed as u64 + black_box(&*state).sites as u64
+}
+
+fn once(letter: &str, state: &mut Network, saved: &Network, buffer: &mut [u8]) -> u64 {
     match letter {
         "e" => almost_empty(state),
         "f" => full(state),
         "h" => black_box(&*state).well_shaped() as u64,
         "w" => black_box(&*state).waiting(7).map_or(0, |report| ordered(&report.items[..report.len])),
-        "o" => black_box(&*state).origin(255, 0).ok().flatten().unwrap_or(0) as u64,
+        "o" => match black_box(&*state).origin(255, 0) {
+            Ok(Origin::Commit(record)) => record as u64,
+            _ => 0,
+        },
+        "c" | "C" => collected(state, saved, true),
+        "m" => collected(state, saved, false),
         "x" => black_box(&*state).export(buffer).unwrap_or(0) as u64,
         "k" => file::read(black_box(&*buffer)).map_or(0, |f| f.records as u64),
         "r" => file::read(black_box(&*buffer)).map_or(0, |f| f.records().map(|r| digest(black_box(&r))).sum()),
@@ -109,9 +155,11 @@ fn main() {
         println!("{}", full(&mut state));
         return;
     };
+    season(&mut state, letter == "C");
+    let saved = state.clone();
     fill(&mut state);
     let mut buffer = [0u8; file::LONGEST];
     let length = state.export(&mut buffer).unwrap_or(0);
-    let sum: u64 = (0..times(&letter)).map(|_| once(&letter, &mut state, &mut buffer[..length])).sum();
+    let sum: u64 = (0..times(&letter)).map(|_| once(&letter, &mut state, &saved, &mut buffer[..length])).sum();
     println!("{sum}");
 }

@@ -1,12 +1,12 @@
 //! Reading a history file, from a buffer that it may end.
 use crate::raw;
 use crate::refusal::answered;
-use crate::{Places, Record, Refusal, SITES};
+use crate::{Base, Places, Record, Refusal, SITES};
 use std::fmt;
 use std::iter::FusedIterator;
 
 /// An accepted history file.
-#[derive(Clone, Copy, Debug, PartialEq, Eq)]
+#[derive(Clone, Debug, PartialEq, Eq)]
 pub struct File {
     /// Where its records start in the buffer.
     pub start: usize,
@@ -20,6 +20,8 @@ pub struct File {
     pub items: u32,
     /// The places of its sites, by which the timestamps of the records are compared.
     pub places: Places,
+    /// What commits that collects had removed left: the records go on from it.
+    pub base: Base,
 }
 
 impl fmt::Display for File {
@@ -32,10 +34,11 @@ impl fmt::Display for File {
 pub fn read(buffer: &[u8]) -> Result<File, Refusal> {
     let mut answer = raw::File::default();
     let mut places = [0; SITES];
-    // SAFETY: a list that is only read, a struct of the header and places to write to.
-    let number = unsafe { raw::gevrolen_read(buffer.as_ptr(), buffer.len(), &mut answer, &mut places) };
+    let mut base = raw::Base::default();
+    // SAFETY: a list that is only read, two structs of the header and places to write to.
+    let number = unsafe { raw::gevrolen_read(buffer.as_ptr(), buffer.len(), &mut answer, &mut places, &mut base) };
     let raw::File { start, length, records, sites, items } = answer;
-    answered(number, || File { start, length, records, sites: sites as u32, items: items as u32, places })
+    answered(number, || File { start, length, records, sites: sites as u32, items: items as u32, places, base: Base::of(&base) })
 }
 
 /// The record of a number, from 0, of the file that ends a buffer; the whole file is checked each time. 21 to 24.

@@ -34,10 +34,10 @@ mod types;
 pub use history::{read, record, records, File, Records};
 pub use network::Network;
 pub use refusal::Refusal;
-pub use types::{compare, side_by_side, Committed, Compared, Kind, Line, Operation, Origin, Places, Record, Scheduled, Stamp};
+pub use types::{compare, side_by_side, Base, Committed, Compared, Kind, Line, Operation, Origin, Places, Record, Scheduled, Stamp};
 
 /// The words of a state.
-pub const WORDS: usize = 28051;
+pub const WORDS: usize = 28116;
 /// The most sites.
 pub const SITES: usize = 8;
 /// The most items.
@@ -49,7 +49,7 @@ pub const MESSAGES: usize = 16;
 /// The most commits that a history holds.
 pub const RECORDS: usize = 256;
 /// The longest history file.
-pub const FILE_BYTES: usize = 34840;
+pub const FILE_BYTES: usize = 35096;
 
 // the bytes lent for a line's answer, and for those of many lines
 const ANSWER: usize = 512;

@@ -1,7 +1,7 @@
 //! A network that owns its state, and every call on it.
 use crate::raw;
 use crate::refusal::answered;
-use crate::{Committed, Line, Operation, Origin, Places, Refusal, Scheduled, Stamp};
+use crate::{Base, Committed, Line, Operation, Origin, Places, Refusal, Scheduled, Stamp};
 use crate::{ANSWERS, FILE_BYTES, ITEMS, SITES, WORDS};
 use std::fmt;
 
@@ -128,6 +128,32 @@ impl Network {
         answered(number, || Scheduled { parent: answer.parent, stamp: Stamp::of(&answer.stamp) })
     }
 
+    /// Folds every commit that is not later than the earliest of all sites' timestamps into the base values, by rising timestamp, equal ones in the order made, removes its
+    /// record and answers how many it removed, which may be none. Their room is free then; the records kept are numbered from 0, in the order made. 6, also where a message
+    /// on a line names a commit to be folded, to which no steps from a set-up lead.
+    ///
+    /// ```
+    /// # use gevrolen::{Network, Operation, Origin};
+    /// # fn main() -> Result<(), gevrolen::Refusal> {
+    /// let mut network = Network::new();
+    /// network.set_up(2, 1, &[0], &[0b10])?;
+    /// network.commit(0, &[Operation::write(0, 5)])?;
+    /// assert_eq!(network.collect()?, 0); // site 1 has not heard of it
+    /// network.deliver(0, 1)?;
+    /// network.schedule(1)?;
+    /// assert_eq!(network.collect()?, 1);
+    /// assert_eq!(network.base()?.values, [5]);
+    /// network.commit(1, &[Operation::read(0)])?;
+    /// assert_eq!(network.origin(0, 0)?, Origin::Folded);
+    /// # Ok(())
+    /// # }
+    /// ```
+    pub fn collect(&mut self) -> Result<u32, Refusal> {
+        let mut removed = 0;
+        let number = unsafe { raw::gevrolen_collect(&mut *self.words, &mut removed) };
+        answered(number, || removed)
+    }
+
     /// The items that messages on the lines into a site write, arrived or not, and that it has a copy of, each once: by the timestamp of the earliest of the messages that
     /// write the item, those of equal timestamps by number. 6, 7.
     ///
@@ -193,9 +219,16 @@ impl Network {
         answered(number, || answer)
     }
 
+    /// The base values, and whether a collect has removed a record since set-up; where none has, they are 0. 6.
+    pub fn base(&self) -> Result<Base, Refusal> {
+        let mut answer = raw::Base::default();
+        let number = unsafe { raw::gevrolen_base(&*self.words, &mut answer) };
+        answered(number, || Base::of(&answer))
+    }
+
     /// Where the value of a read in the history came from: its own commit where it follows a write of the item there; else the last commit before that in timestamp
-    /// order that writes the item, equal timestamps in the order made; the start value where there is none. The read is named by its commit's record number and the
-    /// number of the operation in it, both from 0. 6, 26.
+    /// order that writes the item, equal timestamps in the order made. Where the history has none it is the base value if a collect has removed a record since set-up,
+    /// else the start value. The read is named by its commit's record number and the number of the operation in it, both from 0. 6, 26.
     ///
     /// ```
     /// # use gevrolen::{Network, Operation, Origin};

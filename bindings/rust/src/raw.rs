@@ -52,6 +52,19 @@ pub struct Table {
 }
 
 #[repr(C)]
+pub struct Base {
+    pub folded: u32,
+    pub count: u32,
+    pub values: [i32; ITEMS],
+}
+
+impl Default for Base {
+    fn default() -> Base {
+        Base { folded: 0, count: 0, values: [0; ITEMS] }
+    }
+}
+
+#[repr(C)]
 #[derive(Default)]
 pub struct Line {
     pub held: u32,
@@ -121,15 +134,17 @@ extern "C" {
     pub fn gevrolen_epoch(state: *mut State, site: u32, number: u32) -> u32;
     pub fn gevrolen_deliver(state: *mut State, parent: u32, child: u32) -> u32;
     pub fn gevrolen_schedule(state: *mut State, site: u32, answer: *mut Scheduled) -> u32;
+    pub fn gevrolen_collect(state: *mut State, removed: *mut u32) -> u32;
     pub fn gevrolen_waiting(state: *const State, site: u32, answer: *mut Report) -> u32;
     pub fn gevrolen_table(state: *const State, site: u32, answer: *mut Table) -> u32;
     pub fn gevrolen_stamp(state: *const State, site: u32, answer: *mut Stamp) -> u32;
     pub fn gevrolen_line(state: *const State, parent: u32, child: u32, answer: *mut Line) -> u32;
     pub fn gevrolen_origin(state: *const State, record: u32, operation: u32, answer: *mut Origin) -> u32;
     pub fn gevrolen_places(state: *const State, places: *mut Places) -> u32;
+    pub fn gevrolen_base(state: *const State, answer: *mut Base) -> u32;
     pub fn gevrolen_compare(first: *const Stamp, second: *const Stamp, places: *const Places, answer: *mut Compared) -> i32;
     pub fn gevrolen_export(state: *const State, buffer: *mut u8, room: usize, length: *mut usize) -> u32;
-    pub fn gevrolen_read(buffer: *const u8, length: usize, answer: *mut File, places: *mut Places) -> u32;
+    pub fn gevrolen_read(buffer: *const u8, length: usize, answer: *mut File, places: *mut Places, base: *mut Base) -> u32;
     pub fn gevrolen_record(buffer: *const u8, length: usize, number: usize, answer: *mut Record) -> u32;
     pub fn gevrolen_record_from(
         part: *const u8,

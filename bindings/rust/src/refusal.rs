@@ -52,7 +52,7 @@ refusals! {
     9 UnknownOperation "An operation has an unknown kind or item: correct it."
     10 NoCopy "A read of an item that the site neither owns nor copies: read it where it is held."
     11 NotPrimary "A write of an item that another site owns: commit it there."
-    12 HistoryFull "The history holds 256 commits: export it, then set up again."
+    12 HistoryFull "The history holds 256 commits: export it, let every site hear of them, then collect."
     13 LineFull "A line that would get a message holds 16: deliver and schedule at the child, then try again."
     14 CountFull "The site's own count is 4,294,967,295: export the history, then set up again."
     15 HasParents "The site has parents: raise the epoch at the sites without; it comes with their messages."

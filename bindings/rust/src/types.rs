@@ -233,12 +233,29 @@ pub struct Line {
     pub arrived: u32,
 }
 
+/// What the commits that collects have removed since set-up left.
+#[derive(Clone, Debug, PartialEq, Eq)]
+pub struct Base {
+    /// Whether there are such commits.
+    pub folded: bool,
+    /// A value for each item; 0 where there are no such commits.
+    pub values: Vec<i32>,
+}
+
+impl Base {
+    pub(crate) fn of(raw: &raw::Base) -> Base {
+        Base { folded: raw.folded != 0, values: raw.values[..raw.count as usize].to_vec() }
+    }
+}
+
 /// Where the value of a read came from.
 #[derive(Clone, Copy, Debug, PartialEq, Eq, Hash)]
 #[non_exhaustive]
 pub enum Origin {
     /// Neither its own commit before it nor a commit before that writes the item: it is the start value.
     Start,
+    /// The history has no such commit, and a collect has removed a record since set-up, which may be the writer's: it is the base value.
+    Folded,
     /// The commit of this record number: its own where it follows a write of the item there, else the last before that which writes the item.
     Commit(u32),
 }
@@ -247,6 +264,7 @@ impl Origin {
     pub(crate) fn of(raw: &raw::Origin) -> Origin {
         match raw.kind {
             1 => Origin::Start,
+            3 => Origin::Folded,
             _ => Origin::Commit(raw.record),
         }
     }

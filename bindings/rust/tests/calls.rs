@@ -1,5 +1,5 @@
 //! Every call once accepted, and refused where it can be; what the words are then.
-use gevrolen::{compare, read, record, records, side_by_side, Compared, Kind, Line, Network, Operation, Origin, Places, Record, Refusal, Stamp, WORDS};
+use gevrolen::{compare, read, record, records, side_by_side, Base, Compared, Kind, Line, Network, Operation, Origin, Places, Record, Refusal, Stamp, WORDS};
 use std::cmp::Ordering;
 
 const NUMBERS: Places = [0, 1, 2, 3, 4, 5, 6, 7];
@@ -163,6 +163,8 @@ fn saved_and_loaded() {
     assert_eq!(Network::from_words(&words).origin(0, 0), Err(Refusal::NoState));
     assert_eq!(Network::from_words(&words).waiting(2), Err(Refusal::NoState));
     assert_eq!(Network::from_words(&words).places(), Err(Refusal::NoState));
+    assert_eq!(Network::from_words(&words).collect(), Err(Refusal::NoState));
+    assert_eq!(Network::from_words(&words).base(), Err(Refusal::NoState));
     assert_eq!(Network::from_words(&[u32::MAX; WORDS]).export(), Err(Refusal::NoState));
 }
 
@@ -284,18 +286,113 @@ fn copies_at_lower_sites() {
     assert_eq!(network.as_words(), before.as_words());
 }
 
-/// The longest file there is: eight sites in reverse, 256 records of eight tuples and eight operations, and a table.
+/// A commit is removed when every site has heard of it; what it left stays, in the state and in the file.
+#[test]
+fn collected() {
+    let mut network = worked();
+    let (read_item, write) = (Operation::read, Operation::write);
+    let none = Base { folded: false, values: vec![0, 0] };
+    assert_eq!((network.collect(), network.base()), (Ok(0), Ok(none.clone())));
+    network.commit(1, &[write(1, -7)]).unwrap();
+    network.commit(0, &[write(0, 4), write(0, 5)]).unwrap();
+    assert_eq!((network.collect(), network.base()), (Ok(0), Ok(none.clone())));
+    assert_eq!(read(&network.export().unwrap()).unwrap().base, none);
+    // site 2 takes site 1's commit, the earlier one: that goes, and record 1 is record 0, also on the lines
+    network.deliver(0, 2).unwrap();
+    network.deliver(1, 2).unwrap();
+    assert_eq!(network.schedule(2).unwrap().parent, 1);
+    network.deliver(0, 1).unwrap();
+    network.schedule(1).unwrap();
+    assert_eq!((network.collect(), network.base()), (Ok(1), Ok(Base { folded: true, values: vec![0, -7] })));
+    assert_eq!(network.waiting(2).unwrap(), [0]);
+    network.dummy(1).unwrap();
+    network.deliver(1, 2).unwrap();
+    assert_eq!(network.schedule(2).unwrap().parent, 0);
+    assert_eq!(network.table(2).unwrap(), [5, -7]);
+    let file = network.export().unwrap();
+    let found = read(&file).unwrap();
+    assert_eq!((found.start, found.length, found.records, found.base), (8, 32, 1, Base { folded: true, values: vec![0, -7] }));
+    assert_eq!(file[..8], [0, 0, 0, 0, 249, 255, 255, 255]);
+    assert_eq!(record(&file, 0).unwrap().to_string(), "0 0 0.1 w0=4 w0=5");
+    assert_eq!(network.collect(), Ok(1));
+    assert_eq!(network.base(), Ok(Base { folded: true, values: vec![5, -7] }));
+    assert_eq!(network.collect(), Ok(0));
+    // the next commit is record 0; its read came from what was folded
+    assert_eq!(network.commit(2, &[read_item(1), read_item(0)]).unwrap().values, [-7, 5]);
+    assert_eq!(network.origin(0, 0), Ok(Origin::Folded));
+    // the flag, and a distance too small for what it announces
+    let file = network.export().unwrap();
+    let end = file.len();
+    for (place, byte) in [(end - 2, 0), (end - 2, 4), (end - 8, 23)] {
+        let mut damaged = file.clone();
+        damaged[place] = byte;
+        assert_eq!(read(&damaged), Err(Refusal::InvalidFile));
+    }
+    network.set_up(3, 2, &[0, 1], &[6, 4]).unwrap();
+    assert_eq!(network.base(), Ok(none));
+}
+
+/// A base value that is not 0 where nothing was removed is no state; a line that names a commit to be folded, to which no calls lead, is one that a collect refuses.
+#[test]
+fn refused_collects() {
+    let mut network = worked();
+    network.commit(0, &[Operation::write(0, 5)]).unwrap();
+    let words = *network.as_words();
+    let with = |place: usize, word| {
+        let mut changed = words;
+        changed[place] = word;
+        Network::from_words(&changed)
+    };
+    let (flag, value) = (WORDS - gevrolen::ITEMS - 1, WORDS - gevrolen::ITEMS);
+    assert_eq!(with(value, 1).base(), Err(Refusal::NoState));
+    assert_eq!(with(value + 1, 1).dummy(0), Err(Refusal::NoState));
+    assert_eq!(with(value + 2, 1).base(), Ok(Base { folded: false, values: vec![0, 0] }));
+    assert_eq!(with(flag, 1).base(), Ok(Base { folded: true, values: vec![0, 0] }));
+    assert!(with(flag, u32::MAX).base().unwrap().folded);
+    // the epochs of sites 1 and 2
+    let mut ahead = words;
+    (ahead[213], ahead[295]) = (1, 1);
+    let mut ahead = Network::from_words(&ahead);
+    let before = ahead.clone();
+    assert_eq!(ahead.collect(), Err(Refusal::NoState));
+    assert_eq!(ahead.as_words(), before.as_words());
+    ahead.deliver(0, 1).unwrap();
+}
+
+#[test]
+fn more_than_256() {
+    let mut network = Network::new();
+    network.set_up(1, 1, &[0], &[0]).unwrap();
+    for round in 0..3 {
+        for value in 0..gevrolen::RECORDS as i32 {
+            network.commit(0, &[Operation::write(0, value + round)]).unwrap();
+        }
+        assert_eq!(network.commit(0, &[Operation::read(0)]), Err(Refusal::HistoryFull));
+        assert_eq!(network.collect(), Ok(gevrolen::RECORDS as u32));
+        assert_eq!(network.base().unwrap().values, [255 + round]);
+    }
+    assert_eq!(network.export().unwrap().len(), 20);
+}
+
+/// The longest file there is: eight sites in reverse, 256 records of eight tuples and eight operations, a table, and base values of 64 items.
 #[test]
 fn the_longest_file() {
     let mut network = Network::new();
-    network.set_up(8, 8, &[0, 7, 6, 5, 4, 3, 2, 1], &[0, 64, 32, 16, 8, 4, 2, 1]).unwrap();
+    let mut placement = vec![(0, 0); gevrolen::ITEMS];
+    placement[1..8].copy_from_slice(&[(7, 64), (6, 32), (5, 16), (4, 8), (3, 4), (2, 2), (1, 1)]);
+    let (primaries, masks): (Vec<u32>, Vec<u8>) = placement.into_iter().unzip();
+    network.set_up(8, 64, &primaries, &masks).unwrap();
     assert_eq!(network.places(), Ok([7, 6, 5, 4, 3, 2, 1, 0]));
-    for site in (1..8).rev() {
-        network.dummy(site).unwrap();
-        network.deliver(site, site - 1).unwrap();
-        network.schedule(site - 1).unwrap();
+    for _ in 0..2 {
+        for site in (1..8).rev() {
+            network.dummy(site).unwrap();
+            network.deliver(site, site - 1).unwrap();
+            network.schedule(site - 1).unwrap();
+        }
+        network.commit(0, &[Operation::write(0, 1); 8]).unwrap();
     }
-    for _ in 0..gevrolen::RECORDS {
+    assert_eq!(network.collect(), Ok(1));
+    for _ in 1..gevrolen::RECORDS {
         network.commit(0, &[Operation::write(0, -1); 8]).unwrap();
     }
     let file = network.export().unwrap();

@@ -6,6 +6,7 @@ use lib.IntN.{ℤ, pos}
 use lib.ListN.{length}
 use Rattle.limits.specs.Limits.{opsMost, itemsMost}
 use Rattle.timestamp_words.specs.InWords.{stampSize}
+use Rattle.network_layout.specs.declared.Based.{Based}
 use Rattle.network_layout.specs.declared.Committed.{Committed}
 use Rattle.network_layout.specs.declared.Tabled.{Tabled}
 use Rattle.lists.specs.Lists.{Filled, padded}
@@ -18,6 +19,13 @@ pub record ForList (w : List ℕ) (count places : ℕ) : Type 0 where
 -- a table's values, and 0 past them
 pub record ForTable (w : List ℕ) (given : Tabled) : Type 0 where
   pub sized : length w ≡ suc itemsMost
+  pub values : List ℤ
+  pub count-is : given .count ≡ length values
+  pub values-are : given .values ≡ padded itemsMost (pos 0) values
+
+-- base values, and 0 past them
+pub record ForBase (w : List ℕ) (given : Based) : Type 0 where
+  pub sized : length w ≡ suc (suc itemsMost)
   pub values : List ℤ
   pub count-is : given .count ≡ length values
   pub values-are : given .values ≡ padded itemsMost (pos 0) values

@@ -4,6 +4,7 @@ pub use c_fields::put_line;
 pub use c_fields::put_origin;
 pub use c_fields::put_scheduled;
 pub use c_fields::put_stamp;
+use network_layout::Based;
 use network_layout::Committed;
 use network_layout::Report;
 use network_layout::Tabled;
@@ -14,8 +15,8 @@ ghost use lib.ListN.{length, take};
 ghost use Rattle.limits.specs.Limits.{opsMost, itemsMost};
 ghost use Rattle.timestamp.specs.Value.{stampOf};
 ghost use Rattle.timestamp_words.specs.InWords.{stampWords};
-ghost use Rattle.c_answers.specs.Answers.{listed, valueWords, orderNumber};
-ghost use Rattle.c_answers.specs.Asked.{ForList, ForTable, ForCommitted};
+ghost use Rattle.c_answers.specs.Answers.{listed, valueWords, flagWord, orderNumber};
+ghost use Rattle.c_answers.specs.Asked.{ForList, ForBase, ForTable, ForCommitted};
 
 // Where a committed answer has how many values.
 const VALUES: usize = timestamp_words::WORDS;
@@ -49,6 +50,26 @@ pub fn put_table(w: &mut [u32], given: Tabled) -> u32
     let values = given.values;
     put_list(w, given.count, &values);
     given.number
+}
+
+// A base: whether records have been removed, how many values there are, and the values. It answers the reader's number.
+pub fn put_base(w: &mut [u32], given: Based) -> u32
+    requires { ⌜ ForBase (now w) given ⌝ }
+    ensures { λ r. ⌜ (r ≡ given .number) × (now (w .exit) ≡ flagWord (given .folded) ∷ (given .count ∷ valueWords (given .values))) ⌝ }
+{
+    let values = given.values;
+    put_list(&mut w[1..], given.count, &values);
+    words::store(w, 0, flag(given.folded));
+    given.number
+}
+
+fn flag(folded: bool) -> u32
+    ensures { λ r. ⌜ r ≡ flagWord folded ⌝ }
+{
+    if folded {
+        return 1;
+    }
+    0
 }
 
 // A waiting report's items. It answers the report's number.

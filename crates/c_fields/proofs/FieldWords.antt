@@ -7,7 +7,7 @@ use lib.ListN.{length, set, drop-of-length-le}
 use Rattle.words.specs.Words.{put, overlaid}
 use Rattle.words.proofs.Walks.{overlaid-same}
 use Rattle.network_layout.specs.declared.Origin.{Origin}
-use Rattle.network_layout.specs.declared.Origin.the-variants.{Refused, Start, Commit}
+use Rattle.network_layout.specs.declared.Origin.the-variants.{Refused, Start, Folded, Commit}
 use Rattle.network_layout.specs.Promises.{originNumber}
 use Rattle.c_fields.specs.Fields.{originWords}
 
@@ -29,4 +29,5 @@ origin-laid w out given o size e f = (ap originNumber (sym e), f ∙ overlaid-sa
     two : (x : Origin) → length (originWords x) ≡ 2
     two (Refused number) = refl
     two Start = refl
+    two Folded = refl
     two (Commit k) = refl

@@ -12,12 +12,14 @@ ghost use Rattle.timestamp_words.specs.InWords.{stampSize, stampWords};
 ghost use Rattle.network_layout.specs.Promises.{originNumber};
 ghost use Rattle.c_fields.specs.Fields.{ForLine, originWords};
 
-// The kinds of origins: none where the call is refused, the start value, a commit.
+// The kinds of origins: none where the call is refused, the start value, a commit, folded.
 const NONE: u32 = 0;
 
 const START: u32 = 1;
 
 const COMMIT: u32 = 2;
+
+const FOLDED: u32 = 3;
 
 // A small number as a word.
 pub fn few(n: usize) -> u32
@@ -56,6 +58,10 @@ pub fn put_origin(w: &mut [u32], given: Origin) -> u32
         }
         Origin::Start => {
             words::copy(w, &[START, 0]);
+            0
+        }
+        Origin::Folded => {
+            words::copy(w, &[FOLDED, 0]);
             0
         }
         Origin::Commit(k) => {

@@ -4,7 +4,7 @@ use history_file::TRAILER;
 use timestamp::Timestamp;
 ghost use mathlib.Core.Path.{_≡_};
 ghost use mathlib.Core.Bool.{cond};
-ghost use mathlib.Core.List.{_∷_, _++_};
+ghost use mathlib.Core.List.{[], _∷_, _++_};
 ghost use Prim.Native.Nat.{_+_, _-_};
 ghost use lib.ListN.{length, drop};
 ghost use lib.Dec.{eqb};
@@ -43,6 +43,19 @@ fn put_head(w: &mut [u32], site: u32, count: u32, stamp: Timestamp)
     words::lay(w, STAMP, &t);
     words::store(w, 0, site);
     words::store(w, 1, count);
+}
+
+// The fields of a file that was read.
+pub fn file_fields(start: usize, length: usize, records: u32, sites: u32, items: u32) -> [usize; 5]
+    ensures { λ r. ⌜ r ≡ start ∷ (length ∷ (records ∷ (sites ∷ (items ∷ [])))) ⌝ }
+{
+    [
+        start,
+        length,
+        words::wide(records),
+        words::wide(sites),
+        words::wide(items),
+    ]
 }
 
 // Where in a buffer the part of a file of that size starts; 0 where the file is refused.

@@ -18,11 +18,11 @@ use Rattle.protocol.specs.Calls.{Call}
 use Rattle.network_layout.specs.Promises.{Performed}
 use Rattle.history_file.specs.File.{trailerSize}
 use Rattle.history_file.specs.Bytes.{unitSize}
-use Rattle.history_file.specs.Reading.{opUnits, opsFrom, opCount, opRead, recordRead, recordValid, distanceRead, countRead, startRead, leadSize, partRead, fileNumber}
+use Rattle.history_file.specs.Reading.{opUnits, opsFrom, opCount, opRead, recordRead, recordValid, distanceRead, countRead, startRead, leadSize, partRead, fileNumber, historyRead}
 use Rattle.history_file.specs.Promises.{noStep, stepOf, stepNumbered, partAnswered, placesAnswered}
 use Rattle.history_file.proofs.Held.{valid-counts}
 use Rattle.history_file.proofs.Files.{accepted, good-parts, numbered-refused, numbered-past, numbered-there}
-use Rattle.c_answers.specs.Answers.{listed, valueWords}
+use Rattle.c_answers.specs.Answers.{listed, valueWords, baseWords}
 use Rattle.gevrolen_c.specs.Answers.{committedWords, dummiedWords, scheduledWords, Answered, startAnswered, fileWords, FileRead}
 
 -- ---- a call's answer
@@ -88,8 +88,8 @@ module _ (b : List ℕ) where
       go true e = rw e (there (eqb-true (fileNumber b) 0 e))
       go false e = rw e refl
 
-pub file-read : (b : List ℕ) (number : ℕ) (answer places : List ℕ) → number ≡ fileNumber b → answer ≡ fileWords b → places ≡ placesAnswered b → FileRead b number answer places
-file-read b number answer places n e p = record { number-is = n; answer-is = e; places-are = p; part-is = rw e (part-there b) }
+pub file-read : (b : List ℕ) (number : ℕ) (answer places base : List ℕ) → number ≡ fileNumber b → answer ≡ fileWords b → places ≡ placesAnswered b → base ≡ baseWords (historyRead b .folded) (historyRead b .base) → FileRead b number answer places base
+file-read b number answer places base n e p l = record { number-is = n; answer-is = e; places-are = p; base-is = l; part-is = rw e (part-there b) }
 
 -- ---- a record: at most eight operations
 pub step-few : (b : List ℕ) (at : ℕ) (place : ℕ → ℕ) (sites items : ℕ) → length (stepOf b at place sites items .found .ops) ≤ opsMost

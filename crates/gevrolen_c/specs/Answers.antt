@@ -12,12 +12,13 @@ use Rattle.protocol.specs.Calls.{Call, Outcome, perform}
 use Rattle.network_layout.specs.InWords.{meaning}
 use Rattle.network_waiting.specs.Report.{reportAnswer}
 use Rattle.network_readers.specs.Readers.{tableAnswer, heldAnswer, arrivedAnswer}
+use Rattle.network_base.specs.Base.{foldedAnswer, baseAnswer}
 use Rattle.network_origin.specs.Answer.{originIn}
 use Rattle.script_notation.specs.Fields.{position}
 use Rattle.console_notation.specs.Lines.{newline, used}
 use Rattle.console_lines.specs.Promises.{Walked}
 use Rattle.c_fields.specs.Fields.{originWords}
-use Rattle.c_answers.specs.Answers.{listed, valueWords}
+use Rattle.c_answers.specs.Answers.{listed, valueWords, baseWords}
 use Rattle.history_file.specs.File.{trailerSize}
 use Rattle.history_file.specs.Reading.{fileNumber, historyRead}
 use Rattle.history_file.specs.Promises.{partAnswered, placesAnswered}
@@ -52,6 +53,9 @@ lineWords parent child w = heldAnswer parent child w ∷ (arrivedAnswer parent c
 abbrev pub originLaid : ℕ → ℕ → List ℕ → List ℕ
 originLaid reader operation w = originWords (originIn (meaning w) reader operation)
 
+abbrev pub baseLaid : List ℕ → List ℕ
+baseLaid w = baseWords (foldedAnswer w) (baseAnswer w)
+
 -- ---- the history file
 -- where its part starts in the buffer: before the trailer, as far as it is long
 abbrev pub startAnswered : List ℕ → ℕ
@@ -62,11 +66,12 @@ fileWords b =
     startAnswered b
     ∷ (length (partAnswered b) ∷ (length (historyRead b .records) ∷ (historyRead b .sites ∷ (historyRead b .items ∷ []))))
 
--- the part is that of the buffer from there on, and beside it are the places of the sites
-pub record FileRead (b : List ℕ) (number : ℕ) (answer places : List ℕ) : Type 0 where
+-- the part is that of the buffer from there on, and beside it are the places of the sites and the base
+pub record FileRead (b : List ℕ) (number : ℕ) (answer places base : List ℕ) : Type 0 where
   pub number-is : number ≡ fileNumber b
   pub answer-is : answer ≡ fileWords b
   pub places-are : places ≡ placesAnswered b
+  pub base-is : base ≡ baseWords (historyRead b .folded) (historyRead b .base)
   pub part-is : part b (getD answer 0 0) (getD answer 1 0) ≡ partAnswered b
 
 -- ---- many lines

@@ -1,5 +1,6 @@
 // The engine for C and what calls C: each call under its name in the header, its answer laid into an array that the caller lends.
 use limits::SITES_WIDE;
+use network::Based;
 use network::WORDS;
 use script::ANSWER;
 ghost use mathlib.Core.Path.{_≡_};
@@ -8,8 +9,9 @@ ghost use Rattle.timestamp_words.specs.InWords.{stampIn, stampWords};
 ghost use Rattle.timestamp_order.specs.Order.{rank, orderBy};
 ghost use Rattle.timestamp_order.specs.Parting.{parting};
 ghost use Rattle.protocol.specs.Network.{noStamp};
-ghost use Rattle.protocol.specs.Questions.{waiting as waitingOf, table as tableOf, stamp as stampOf, line as lineOf, origin, places as placesQuestion};
-ghost use Rattle.protocol.specs.Calls.{setUp, commit, dummy, epoch, deliver, schedule, ask};
+ghost use Rattle.protocol.specs.Questions.{waiting as waitingOf, table as tableOf, stamp as stampOf, line as lineOf, origin, places as placesQuestion, base as baseQuestion};
+ghost use Rattle.protocol.specs.Calls.{setUp, commit, dummy, epoch, deliver, schedule, collect, ask};
+ghost use Rattle.protocol.specs.Collect.{removedBy};
 ghost use Rattle.network_layout.specs.InWords.{meaning};
 ghost use Rattle.network_layout.specs.Promises.{Performed};
 ghost use Rattle.network_operations.specs.Gathered.{operationsCall};
@@ -22,7 +24,7 @@ ghost use Rattle.c_parting.specs.Fields.{partingWords};
 ghost use Rattle.c_answers.specs.Answers.{orderNumber};
 ghost use Rattle.c_files.specs.Laid.{RecordLaid};
 ghost use Rattle.c_operations.specs.Operations.{operationOf};
-ghost use Rattle.gevrolen_c.specs.Answers.{committedWords, dummiedWords, scheduledWords, Answered, reportWords, tableWords, lineWords, originLaid, FileRead, LinesRun};
+ghost use Rattle.gevrolen_c.specs.Answers.{committedWords, dummiedWords, scheduledWords, Answered, reportWords, tableWords, lineWords, originLaid, baseLaid, FileRead, LinesRun};
 
 // The words of the header's structs.
 const STAMP: usize = timestamp_words::WORDS;
@@ -32,6 +34,8 @@ const COMMITTED: usize = STAMP + 1 + limits::OPERATIONS_WIDE;
 const SCHEDULED: usize = 1 + STAMP;
 
 const LISTED: usize = 1 + limits::ITEMS_WIDE;
+
+const BASED: usize = 1 + LISTED;
 
 const RECORD: usize = 2 + STAMP + site_operations::OPERATIONS;
 
@@ -116,6 +120,15 @@ pub extern "C" fn gevrolen_schedule(
     c_answers::put_scheduled(answer, network::schedule(state, site))
 }
 
+#[no_mangle]
+pub extern "C" fn gevrolen_collect(state: &mut [u32; WORDS], removed: &mut u32) -> u32
+    ensures { λ r. ⌜ Performed collect (now (state .entry)) (now (state .exit)) r 0 noStamp [] × (now (removed .exit) ≡ removedBy (meaning (now (state .entry)))) ⌝ }
+{
+    let given = network::collect(state);
+    *removed = given.removed;
+    given.number
+}
+
 // ---- calls that only look
 #[no_mangle]
 pub extern "C" fn gevrolen_waiting(
@@ -178,6 +191,13 @@ pub extern "C" fn gevrolen_places(state: &[u32; WORDS], places: &mut [u8; SITES_
     given.number
 }
 
+#[no_mangle]
+pub extern "C" fn gevrolen_base(state: &[u32; WORDS], answer: &mut [u32; BASED]) -> u32
+    ensures { λ r. ⌜ Performed (ask baseQuestion) (now (state .entry)) (now (state .entry)) r 0 noStamp [] × (now (answer .exit) ≡ baseLaid (now (state .entry))) ⌝ }
+{
+    c_answers::put_base(answer, network::base(state))
+}
+
 // By the places of the sites: -1, 0 or 1, where the first timestamp is earlier, the same or later; and where the two part.
 #[no_mangle]
 pub extern "C" fn gevrolen_compare(
@@ -214,20 +234,23 @@ pub extern "C" fn gevrolen_read(
     buffer: &[u8],
     answer: &mut [usize; 5],
     places: &mut [u8; SITES_WIDE],
+    base: &mut [u32; BASED],
 ) -> u32
-    ensures { λ r. ⌜ FileRead (now (buffer .entry)) r (now (answer .exit)) (now (places .exit)) ⌝ }
+    ensures { λ r. ⌜ FileRead (now (buffer .entry)) r (now (answer .exit)) (now (places .exit)) (now (base .exit)) ⌝ }
 {
     let given = history::check(buffer);
     let found = given.places;
     *places = found;
+    let values = given.base;
+    let kept = Based {
+        number: given.number,
+        folded: given.folded,
+        count: words::wide(given.items),
+        values,
+    };
+    c_answers::put_base(base, kept);
     let start = c_files::part_start(given.number, buffer.len(), given.length);
-    *answer = [
-        start,
-        given.length,
-        words::wide(given.records),
-        words::wide(given.sites),
-        words::wide(given.items),
-    ];
+    *answer = c_files::file_fields(start, given.length, given.records, given.sites, given.items);
     given.number
 }
 

@@ -6,6 +6,7 @@ pub use history_file::Found;
 use history_file::MARK;
 use history_file::TRAILER;
 pub use history_record::record_from;
+use limits::ITEMS_WIDE;
 use limits::SITES_WIDE;
 ghost use mathlib.Core.Path.{_≡_};
 ghost use Prim.Native.Nat.{_≤_};
@@ -13,11 +14,11 @@ ghost use lib.ListN.{length};
 ghost use Rattle.timestamp_order.specs.Order.{rank};
 ghost use Rattle.history_file.specs.Bytes.{same};
 ghost use Rattle.history_file.specs.File.{mark};
-ghost use Rattle.history_file.specs.Reading.{sitesRead, itemsRead, placesRead, partRead, recordsFill, tableFits, valid as validOf, fileNumber, startOf};
-ghost use Rattle.history_file.specs.Promises.{partAnswered, placesAnswered, eight, stepNumbered, Gives};
+ghost use Rattle.history_file.specs.Reading.{sitesRead, itemsRead, placesRead, baseRead, partRead, recordsFill, tableFits, valid as validOf, fileNumber, historyRead, startOf};
+ghost use Rattle.history_file.specs.Promises.{partAnswered, placesAnswered, eight, sixtyFour, baseAnswered, stepNumbered, Gives};
 ghost use Rattle.history_fields.specs.Asked.{Led};
-ghost use Rattle.history.specs.Asked.{Reached, Placed, Numbered};
-ghost use Rattle.history.specs.Answers.{Checks};
+ghost use Rattle.history.specs.Asked.{Reached, Placed, Valued, Numbered};
+ghost use Rattle.history.specs.Answers.{Checks, Says};
 
 // Whether four bytes are the mark.
 fn marked(b: &[u8]) -> bool
@@ -41,7 +42,15 @@ fn places(b: &[u8]) -> [u8; SITES_WIDE]
     requires { ⌜ Led (now b) ⌝ }
     ensures { λ r. ⌜ r ≡ eight (placesRead (now (b .entry))) ⌝ }
 {
-    history_table::table(history_fields::lead(b))
+    history_table::table(history_fields::table_of(b))
+}
+
+// The base values of the items: those behind the table, or 0.
+fn base(b: &[u8]) -> [i32; ITEMS_WIDE]
+    requires { ⌜ Valued (now b) ⌝ }
+    ensures { λ r. ⌜ r ≡ sixtyFour (baseRead (now (b .entry))) ⌝ }
+{
+    history_base::values(history_fields::base_of(b))
 }
 
 // Whether the table fits, where there is one.
@@ -52,7 +61,7 @@ fn table_fits(b: &[u8]) -> bool
     if !history_fields::has_table(b) {
         return true;
     }
-    history_table::fits(history_fields::lead(b))
+    history_table::fits(history_fields::table_of(b))
 }
 
 // Whether n records fill the part.
@@ -133,24 +142,53 @@ fn places_numbered(b: &[u8], number: u32) -> [u8; SITES_WIDE]
     places(b)
 }
 
+// Whether a collect has removed a record since set-up; not where it is refused.
+fn folded_numbered(b: &[u8], number: u32) -> bool
+    requires { ⌜ number ≡ fileNumber (now b) ⌝ }
+    ensures { λ r. ⌜ r ≡ historyRead (now (b .entry)) .folded ⌝ }
+{
+    if number != 0 {
+        return false;
+    }
+    history_fields::has_base(b)
+}
+
+// The base values of its items, with 0 behind them; all 0 where it is refused.
+fn base_numbered(b: &[u8], number: u32) -> [i32; ITEMS_WIDE]
+    requires { ⌜ number ≡ fileNumber (now b) ⌝ }
+    ensures { λ r. ⌜ r ≡ baseAnswered (now (b .entry)) ⌝ }
+{
+    if number != 0 {
+        return [0; ITEMS_WIDE];
+    }
+    base(b)
+}
+
 // What reading a file hands back: the number for which it is refused, or 0; the part of the buffer from the first record to the trailer, which
-// it excludes, empty where the file is refused; and the places of its sites, with the numbers behind them, all 0 where it is refused.
+// it excludes, empty where the file is refused; the places of its sites, with the numbers behind them; whether a collect has removed a record
+// since set-up; and the base values of its items, with 0 behind them. Where it is refused, all these are 0.
 pub struct Reading<'a> {
     pub number: u32,
     pub part: &'a [u8],
     pub places: [u8; SITES_WIDE],
+    pub folded: bool,
+    pub base: [i32; ITEMS_WIDE],
 }
 
 pub fn read<'a>(b: &'a [u8]) -> Reading<'a>
-    ensures { λ r. ⌜ (r .number ≡ fileNumber (now (b .entry))) × (now (r .part) ≡ partAnswered (now (b .entry))) × (r .places ≡ placesAnswered (now (b .entry))) ⌝ }
+    ensures { λ r. ⌜ (r .number ≡ fileNumber (now (b .entry))) × (now (r .part) ≡ partAnswered (now (b .entry))) × (r .places ≡ placesAnswered (now (b .entry))) × (r .folded ≡ historyRead (now (b .entry)) .folded) × (r .base ≡ baseAnswered (now (b .entry))) ⌝ }
 {
     let number = file_number(b);
     let part = part_numbered(b, number);
     let places = places_numbered(b, number);
+    let folded = folded_numbered(b, number);
+    let base = base_numbered(b, number);
     Reading {
         number,
         part,
         places,
+        folded,
+        base,
     }
 }
 
@@ -162,7 +200,7 @@ pub fn part(b: &[u8]) -> &[u8]
     part_numbered(b, number)
 }
 
-// The number of the file, how many records, sites and items it has, the length of its part, and the places of its sites.
+// The number of the file, how many records, sites and items it has, the length of its part, and what it says beside it.
 pub fn check(b: &[u8]) -> Checked
     ensures { λ r. ⌜ Checks (now (b .entry)) r ⌝ }
 {
@@ -175,9 +213,29 @@ pub fn check(b: &[u8]) -> Checked
             items: 0,
             length: 0,
             places: [0; SITES_WIDE],
+            folded: false,
+            base: [0; ITEMS_WIDE],
         };
     }
     accepted(b)
+}
+
+// What a file says beside its part.
+struct Beside {
+    places: [u8; SITES_WIDE],
+    folded: bool,
+    base: [i32; ITEMS_WIDE],
+}
+
+fn beside_part(b: &[u8]) -> Beside
+    requires { ⌜ fileNumber (now b) ≡ 0 ⌝ }
+    ensures { λ r. ⌜ Says (now (b .entry)) (r .places) (r .folded) (r .base) ⌝ }
+{
+    Beside {
+        places: places(b),
+        folded: history_fields::has_base(b),
+        base: base(b),
+    }
 }
 
 // The same of a file that is not refused.
@@ -186,13 +244,18 @@ fn accepted(b: &[u8]) -> Checked
     ensures { λ r. ⌜ Checks (now (b .entry)) r ⌝ }
 {
     let part = history_fields::part_of(b);
+    let beside = beside_part(b);
+    let places = beside.places;
+    let base = beside.base;
     Checked {
         number: 0,
         records: history_fields::records_said(b),
         sites: history_fields::sites_said(b),
         items: history_fields::items_said(b),
         length: part.len(),
-        places: places(b),
+        places,
+        folded: beside.folded,
+        base,
     }
 }
 

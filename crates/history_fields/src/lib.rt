@@ -6,7 +6,7 @@ ghost use lib.ListN.{length, getD};
 ghost use lib.Dec.{leb};
 ghost use Rattle.words.specs.Words.{part};
 ghost use Rattle.history_file.specs.File.{trailerSize};
-ghost use Rattle.history_file.specs.Reading.{trailerAt, countRead, distanceRead, sitesRead, itemsRead, flagRead, hasTable, startRead, leadSize, partRead, trailerFits};
+ghost use Rattle.history_file.specs.Reading.{trailerAt, countRead, distanceRead, sitesRead, itemsRead, flagRead, hasTable, hasBase, startRead, tableSize, baseSize, leadSize, partRead, trailerFits};
 ghost use Rattle.history_fields.specs.Asked.{Led};
 
 // The trailer's fields.
@@ -58,7 +58,7 @@ fn last_said(b: &[u8]) -> u32
     history_numbers::field(b, t + 15)
 }
 
-// 1 to 8 sites, 1 to 64 items, no flag but that of a table, and the last byte 0.
+// 1 to 8 sites, 1 to 64 items, no flag but those of a table and of base values, and the last byte 0.
 pub fn trailer_fits(b: &[u8]) -> bool
     requires { ⌜ trailerSize ≤ length (now b) ⌝ }
     ensures { λ r. ⌜ r ≡ trailerFits (now (b .entry)) ⌝ }
@@ -79,7 +79,7 @@ pub fn trailer_fits(b: &[u8]) -> bool
     if 64 < items {
         return false;
     }
-    if 1 < flag {
+    if 3 < flag {
         return false;
     }
     last == 0
@@ -93,15 +93,42 @@ pub fn has_table(b: &[u8]) -> bool
     flag_said(b) % 2 == 1
 }
 
-// How many bytes lead the records: one for each site where there is a table.
-fn lead_size(b: &[u8]) -> usize
+// Whether base values stand after the table.
+pub fn has_base(b: &[u8]) -> bool
     requires { ⌜ trailerSize ≤ length (now b) ⌝ }
-    ensures { λ r. ⌜ (r ≡ leadSize (now (b .entry))) × (r ≤ 255) ⌝ }
+    ensures { λ r. ⌜ r ≡ hasBase (now (b .entry)) ⌝ }
+{
+    flag_said(b) / 2 % 2 == 1
+}
+
+// How many bytes the table has: one for each site, where there is one.
+fn table_size(b: &[u8]) -> usize
+    requires { ⌜ trailerSize ≤ length (now b) ⌝ }
+    ensures { λ r. ⌜ (r ≡ tableSize (now (b .entry))) × (r ≤ 255) ⌝ }
 {
     if has_table(b) {
         return words::wide(sites_said(b));
     }
     0
+}
+
+// How many the base values have: four for each item, where they are there.
+fn base_size(b: &[u8]) -> usize
+    requires { ⌜ trailerSize ≤ length (now b) ⌝ }
+    ensures { λ r. ⌜ (r ≡ baseSize (now (b .entry))) × (r ≤ 1020) ⌝ }
+{
+    if has_base(b) {
+        return words::wide(items_said(b)) * 4;
+    }
+    0
+}
+
+// How many bytes lead the records.
+fn lead_size(b: &[u8]) -> usize
+    requires { ⌜ trailerSize ≤ length (now b) ⌝ }
+    ensures { λ r. ⌜ (r ≡ leadSize (now (b .entry))) × (r ≤ 1275) ⌝ }
+{
+    table_size(b) + base_size(b)
 }
 
 // Whether the distance reaches over them and the trailer.
@@ -113,13 +140,24 @@ pub fn reaches(b: &[u8]) -> bool
     n + TRAILER <= distance(b)
 }
 
-// What leads the records: the table, or nothing.
-pub fn lead(b: &[u8]) -> &[u8]
+// The table, or nothing.
+pub fn table_of(b: &[u8]) -> &[u8]
     requires { ⌜ Led (now b) ⌝ }
-    ensures { λ r. ⌜ now r ≡ part (now (b .entry)) (startRead (now (b .entry))) (leadSize (now (b .entry))) ⌝ }
+    ensures { λ r. ⌜ now r ≡ part (now (b .entry)) (startRead (now (b .entry))) (tableSize (now (b .entry))) ⌝ }
 {
     let a = b.len() - distance(b);
-    let e = a + lead_size(b);
+    let e = a + table_size(b);
+    &b[a..e]
+}
+
+// The base values, or nothing.
+pub fn base_of(b: &[u8]) -> &[u8]
+    requires { ⌜ Led (now b) ⌝ }
+    ensures { λ r. ⌜ now r ≡ part (now (b .entry)) (startRead (now (b .entry)) + tableSize (now (b .entry))) (baseSize (now (b .entry))) ⌝ }
+{
+    let t = table_size(b);
+    let a = b.len() - distance(b) + t;
+    let e = a + base_size(b);
     &b[a..e]
 }
 

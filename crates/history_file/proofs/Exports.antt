@@ -1,16 +1,15 @@
 -- The records of a state written one after another, what leads them and the trailer behind them, and what an export answers.
 use mathlib.Core.Path.{_≡_, refl, sym, ap, ap₂, _∙_}
-use mathlib.Core.Bool.{Bool, true, false, cond}
-use mathlib.Core.List.{List, [], _∷_, _++_, map, append-assoc, append-nil}
+use mathlib.Core.Bool.{true, false}
+use mathlib.Core.List.{List, [], _∷_, _++_, append-assoc, append-nil}
 use Prim.Native.Nat.{ℕ, _+_, _-_, _/_, _≤_, _<_}
 use native.Mathlib.Omega.{arith}
-use lib.ListN.{length, getD, take, drop, length-append, length-map, drop-of-length-le, take-append-drop}
-use lib.Dec.{eqb}
-use borrow.Author.Tests.{lt-ltb, le-ltb, ne-eqb}
+use lib.ListN.{length, getD, take, drop, length-append, drop-of-length-le, take-append-drop}
+use borrow.Author.Tests.{lt-ltb, le-ltb}
 use Rattle.words.specs.Words.{put}
 use Rattle.words.proofs.Parts.{put-length}
 use Rattle.limits.specs.Limits.{sitesMost, recordsMost}
-use Rattle.placement.specs.Places.{placesOf, InGroup}
+use Rattle.placement.specs.Places.{InGroup}
 use Rattle.placement.proofs.Groups.{group-places}
 use Rattle.records.specs.Records.{Record}
 use Rattle.protocol.specs.Network.{Network, noRecord}
@@ -19,9 +18,8 @@ use Rattle.network_layout.specs.InWords.{networkIn, shaped, meaning}
 use Rattle.network_layout.proofs.Assembled.{partsOf, range-parts}
 use Rattle.network_layout.proofs.Performs.{sites-count, records-count, shaped-range, shaped-well}
 use Rattle.history_file.specs.Bytes.{byte, joined}
-use Rattle.history_file.specs.File.{History, historyOf, recordBytes, isNumbers, lead, flag, trailer, trailerSize, body, fileOf}
+use Rattle.history_file.specs.File.{History, historyOf, recordBytes, lead, flag, trailer, trailerSize, body, fileOf}
 use Rattle.history_file.specs.Promises.{exportOf}
-use Rattle.history_file.proofs.Tables.{bytes-back, table-length, table-low}
 use Rattle.history_file.proofs.Written.{put-next, joined-append, joined-next, joined-all}
 
 -- ---- the records
@@ -131,42 +129,6 @@ module _ (w : List ℕ) (e : shaped w ≡ true) where
 
   pub state-places : InGroup (length (group .sites)) (group .items)
   state-places = group-places (length (group .sites)) (group .items) state-few (shape-parts group (shaped-well w e) .placed)
-
-  -- ---- what leads its file
-  abbrev own : History
-  own = historyOf group
-
-  module _ (n : ℕ) (ns : n ≡ cond (isNumbers (own .places)) 0 (own .sites)) where
-    pub lead-size : n ≡ length (lead own)
-    unfolding lead
-    lead-size = ns ∙ go (isNumbers (own .places))
-      where
-        go : (t : Bool) → cond t 0 (own .sites) ≡ length (cond t [] (map byte (own .places)))
-        go true = refl
-        go false = sym (length-map (own .places) byte ∙ table-length (own .sites) (group .items) state-few state-places)
-
-    pub lead-flag : cond (eqb n 0) 0 1 ≡ flag own
-    unfolding flag
-    lead-flag = ap (λ (k : ℕ). cond (eqb k 0) 0 1) ns ∙ go (isNumbers (own .places))
-      where
-        go : (t : Bool) → _≡_ {A = ℕ} (cond (eqb (cond t 0 (own .sites)) 0) 0 1) (cond t 0 1)
-        go true = refl
-        go false = ap (λ (t : Bool). cond t 0 1) (ne-eqb (own .sites) 0 (λ z. omega (arith, state-some)))
-
-    pub lead-few : n ≤ sitesMost
-    lead-few = go (isNumbers (own .places)) ns
-      where
-        go : (t : Bool) → n ≡ cond t 0 (own .sites) → n ≤ sitesMost
-        go true z = omega arith
-        go false z = omega (arith, state-few)
-
-    pub lead-taken : take n (placesOf (group .items)) ≡ lead own
-    unfolding lead
-    lead-taken = ap (λ (k : ℕ). take k (placesOf (group .items))) ns ∙ go (isNumbers (own .places))
-      where
-        go : (t : Bool) → take (cond t 0 (own .sites)) (placesOf (group .items)) ≡ cond t [] (map byte (own .places))
-        go true = refl
-        go false = sym (bytes-back (own .places) (table-low (own .sites) (group .items) state-few state-places))
 
   pub few-records : length (group .history) ≤ recordsMost
   unfolding partsOf

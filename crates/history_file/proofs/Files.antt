@@ -1,22 +1,24 @@
 -- The file that ends some bytes: its number, its part, and where each record starts.
 use mathlib.Core.Path.{_≡_, refl, sym, ap, ap₂, subst, _∙_}
-use mathlib.Core.Bool.{Bool, true, false, _&&_}
-use mathlib.Core.List.{List, [], _∷_}
+use mathlib.Core.Bool.{Bool, true, false, cond, _&&_}
+use mathlib.Core.List.{List, [], _∷_, map}
 use Prim.Native.Nat.{ℕ, zero, suc, _+_, _-_, _≤_, _<_}
 use native.Mathlib.Omega.{arith}
-use lib.ListN.{length, getD, drop, replicate, length-drop}
+use lib.IntN.{pos}
+use lib.ListN.{length, getD, drop, replicate, length-map, length-drop, length-replicate}
 use lib.Seq.{drop-drop}
 use lib.Dec.{eqb, ltb, leb}
-use borrow.Author.Tests.{lt-ltb, le-ltb, le-leb, lt-leb, eq-eqb, ne-eqb, ltb-false, leb-true, eqb-true}
-use Rattle.words.specs.Words.{part}
-use Rattle.limits.specs.Limits.{sitesMost}
+use borrow.Author.Tests.{lt-ltb, le-ltb, le-leb, lt-leb, eq-eqb, ne-eqb, ltb-false, leb-true, eqb-true, eqb-false}
+use Rattle.words.specs.Words.{part, chunks}
+use Rattle.words.proofs.Chunks.{chunks-length}
+use Rattle.limits.specs.Limits.{sitesMost, itemsMost}
 use Rattle.lists.proofs.Every.{and-true}
 use Rattle.timestamp_order.specs.Order.{rank}
 use Rattle.records.specs.Records.{Record}
 use Rattle.protocol.specs.Network.{noRecord}
-use Rattle.history_file.specs.Bytes.{same}
+use Rattle.history_file.specs.Bytes.{same, valueSize, valueRead}
 use Rattle.history_file.specs.File.{History, mark, trailerSize}
-use Rattle.history_file.specs.Reading.{recordRead, sizeRead, recordValid, recordsRead, recordsFill, startOf, trailerAt, marked, countRead, distanceRead, sitesRead, itemsRead, flagRead, leadSize, placesRead, partRead, within, tableFits, trailerFits, valid, fileNumber, noHistory, historyRead}
+use Rattle.history_file.specs.Reading.{recordRead, sizeRead, recordValid, recordsRead, recordsFill, startOf, trailerAt, marked, countRead, distanceRead, sitesRead, itemsRead, flagRead, hasBase, startRead, tableSize, baseSize, leadSize, placesRead, baseRead, partRead, within, tableFits, trailerFits, valid, fileNumber, noHistory, historyRead}
 use Rattle.history_file.specs.Promises.{partAnswered, eight, placesAnswered, Step, noStep, stepOf, recordNumber, stepNumbered}
 use Rattle.history_file.proofs.Tables.{read-few, eight-ranks}
 use Rattle.history_file.proofs.Units.{rest-part}
@@ -52,8 +54,8 @@ module _ (b : List ℕ) (size : length b ≡ 4) where
 
 -- ---- the trailer's fields
 module _ (b : List ℕ) (s t f z : ℕ) (ss : s ≡ sitesRead b) (ts : t ≡ itemsRead b) (fs : f ≡ flagRead b) (zs : z ≡ getD b (trailerAt b + 15) 0) where
-  trailer-is : trailerFits b ≡ (within 1 8 s && (within 1 64 t && (leb f 1 && eqb z 0)))
-  trailer-is = sym (λ i. within 1 8 (ss i) && (within 1 64 (ts i) && (leb (fs i) 1 && eqb (zs i) 0)))
+  trailer-is : trailerFits b ≡ (within 1 8 s && (within 1 64 t && (leb f 3 && eqb z 0)))
+  trailer-is = sym (λ i. within 1 8 (ss i) && (within 1 64 (ts i) && (leb (fs i) 3 && eqb (zs i) 0)))
 
   pub no-sites : s < 1 → false ≡ trailerFits b
   no-sites h = sym (trailer-is ∙ rw (lt-leb 1 s h))
@@ -71,11 +73,11 @@ module _ (b : List ℕ) (s t f z : ℕ) (ss : s ≡ sitesRead b) (ts : t ≡ ite
         many-items l = sym (trailer-is ∙ rw (le-leb 1 s h, le-leb s 8 g, le-leb 1 t k, lt-leb t 64 l))
 
         module _ (l : t ≤ 64) where
-          pub other-flag : 1 < f → false ≡ trailerFits b
-          other-flag m = sym (trailer-is ∙ rw (le-leb 1 s h, le-leb s 8 g, le-leb 1 t k, le-leb t 64 l, lt-leb f 1 m))
+          pub other-flag : 3 < f → false ≡ trailerFits b
+          other-flag m = sym (trailer-is ∙ rw (le-leb 1 s h, le-leb s 8 g, le-leb 1 t k, le-leb t 64 l, lt-leb f 3 m))
 
-          pub trailer-last : f ≤ 1 → eqb z 0 ≡ trailerFits b
-          trailer-last m = sym (trailer-is ∙ rw (le-leb 1 s h, le-leb s 8 g, le-leb 1 t k, le-leb t 64 l, le-leb f 1 m))
+          pub trailer-last : f ≤ 3 → eqb z 0 ≡ trailerFits b
+          trailer-last m = sym (trailer-is ∙ rw (le-leb 1 s h, le-leb s 8 g, le-leb 1 t k, le-leb t 64 l, le-leb f 3 m))
 
 -- ---- the part
 pub part-is : (b : List ℕ) (d n : ℕ) → d ≡ distanceRead b → n ≡ leadSize b → n + trailerSize ≤ d → d ≤ length b
@@ -217,19 +219,21 @@ good-parts b a =
 -- ---- the trailer of an accepted file
 pub record Trailed (b : List ℕ) : Type 0 where
   pub few-sites : sitesRead b ≤ sitesMost
-  pub flag-low : flagRead b ≤ 1
+  pub few-items : itemsRead b ≤ itemsMost
+  pub flag-low : flagRead b ≤ 3
   pub last-zero : getD b (trailerAt b + 15) 0 ≡ 0
 
 pub trailed : (b : List ℕ) → trailerFits b ≡ true → Trailed b
 trailed b e =
     let last = eqb (getD b (trailerAt b + 15) 0) 0 in
-    let low = leb (flagRead b) 1 in
-    let p = and-true (within 1 sitesMost (sitesRead b)) (within 1 64 (itemsRead b) && (low && last)) e in
-    let q = and-true (within 1 64 (itemsRead b)) (low && last) (p .1) in
+    let low = leb (flagRead b) 3 in
+    let p = and-true (within 1 sitesMost (sitesRead b)) (within 1 itemsMost (itemsRead b) && (low && last)) e in
+    let q = and-true (within 1 itemsMost (itemsRead b)) (low && last) (p .1) in
     let r = and-true low last (q .1) in
     record {
       few-sites = leb-true (sitesRead b) sitesMost (and-true (leb 1 (sitesRead b)) (leb (sitesRead b) sitesMost) (p .0) .1);
-      flag-low = leb-true (flagRead b) 1 (r .0);
+      few-items = leb-true (itemsRead b) itemsMost (and-true (leb 1 (itemsRead b)) (leb (itemsRead b) itemsMost) (q .0) .1);
+      flag-low = leb-true (flagRead b) 3 (r .0);
       last-zero = eqb-true (getD b (trailerAt b + 15) 0) 0 (r .1);
     }
 
@@ -245,7 +249,7 @@ records-length (suc n) b = ap suc (records-length n (drop (sizeRead b) b))
 module _ (b : List ℕ) where
   abbrev pub historyOfBytes : History
   historyOfBytes =
-      record { sites = sitesRead b; items = itemsRead b; places = placesRead b; records = recordsRead (countRead b) (partRead b) }
+      record { sites = sitesRead b; items = itemsRead b; places = placesRead b; folded = hasBase b; base = baseRead b; records = recordsRead (countRead b) (partRead b) }
 
   pub history-read : fileNumber b ≡ 0 → historyRead b ≡ historyOfBytes
   unfolding historyRead
@@ -270,6 +274,29 @@ module _ (b : List ℕ) where
   pub places-none : (fileNumber b ≡ 0 → ⊥) → replicate sitesMost 0 ≡ placesAnswered b
   unfolding placesAnswered
   places-none n = sym (rw (ne-eqb (fileNumber b) 0 n))
+
+-- a base value for each item
+module _ (b : List ℕ) where
+  base-length : length (baseRead b) ≡ itemsRead b
+  unfolding baseRead
+  base-length = go (hasBase b)
+    where
+      bytes : List ℕ
+      bytes = part b (startRead b + tableSize b) (baseSize b)
+
+      go : (t : Bool) → length (cond t (map valueRead (chunks valueSize (itemsRead b) bytes)) (replicate (itemsRead b) (pos 0))) ≡ itemsRead b
+      go true = length-map (chunks valueSize (itemsRead b) bytes) valueRead ∙ chunks-length valueSize (itemsRead b) bytes
+      go false = length-replicate (itemsRead b) (pos 0)
+
+  pub base-count : length (historyRead b .base) ≡ historyRead b .items
+  base-count = go (eqb (fileNumber b) 0) refl
+    where
+      by : (h : History) → historyRead b ≡ h → length (h .base) ≡ h .items → length (historyRead b .base) ≡ historyRead b .items
+      by h e s = ap (λ (x : History). length (x .base)) e ∙ s ∙ sym (ap (λ (x : History). x .items) e)
+
+      go : (ok : Bool) → eqb (fileNumber b) 0 ≡ ok → length (historyRead b .base) ≡ historyRead b .items
+      go true e = by (historyOfBytes b) (history-read b (eqb-true (fileNumber b) 0 e)) base-length
+      go false e = by noHistory (history-none b (eqb-false (fileNumber b) 0 e)) refl
 
 -- ---- where a record starts
 module _ (k : ℕ) (b : List ℕ) (i at : ℕ) (e : startOf k b ≡ at + startOf (k - i) (drop at b)) where

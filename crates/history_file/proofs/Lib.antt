@@ -4,6 +4,7 @@ pub mod Validity
 pub mod Held
 pub mod Files
 pub mod Written
+pub mod Bases
 pub mod Exports
 pub mod OnlyFile
 pub mod RoundTrip

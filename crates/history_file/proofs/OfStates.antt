@@ -9,33 +9,36 @@ use lib.ListN.{length, getD, take, drop}
 use lib.Seq.{take-append-seam}
 use lib.Dec.{eqb, ltb, leb}
 use borrow.Author.Tests.{leb-true, ltb-true, ltb-false}
+use mir.Val.{toZ, SFits}
 use mir.ValLaws.{toZ-fits}
 use mir.Syntax.{w32}
 use Rattle.words.specs.Words.{part, chunks}
 use Rattle.lists.specs.Lists.{every, everyFrom}
-use Rattle.lists.proofs.Every.{and-true}
+use Rattle.lists.proofs.Every.{and-true, every-take}
 use Rattle.timestamp_order.specs.Timestamp.{Pair, Stamp, lastPair, room}
 use Rattle.timestamp_words.specs.InWords.{pairsAt, stampIn, stampSize, stampRange}
 use Rattle.timestamp_order.specs.Made.{rising as risingOf, madeBy}
 use Rattle.timestamp_order.proofs.Made.{made-parts, made-length}
 use Rattle.site_operations.specs.Operations.{Op}
+use Rattle.site_operations.specs.InWords.{tableIn}
 use Rattle.limits.specs.Limits.{opsMost}
 use Rattle.placement.specs.Places.{placementNumber}
 use Rattle.record_codes.specs.Codes.{codesMost, valuesAt, opOfCode, opsOf, codesIn, placesIn}
 use Rattle.records.specs.Records.{opFits, recordFits}
 use Rattle.records.specs.InWords.{recordIn, recordRange, recordSize, countIn}
 use Rattle.records.proofs.Laws.{count-law}
-use Rattle.network_layout.specs.Layout.{historyAt, historySize}
-use Rattle.protocol.specs.Network.{placeOf, lineFits, wellShaped}
-use Rattle.network_layout.specs.InWords.{recordWords, networkIn, shaped, meaning}
+use Rattle.network_layout.specs.Layout.{itemCount, historyAt, historySize, baseAt, baseSize, stateSize}
+use Rattle.protocol.specs.Network.{placeOf, lineFits, baseFits, wellShaped}
+use Rattle.network_layout.specs.InWords.{recordWords, baseIn, networkIn, shaped, meaning}
 use Rattle.network_layout.proofs.Assembled.{partsOf, range-parts}
 use Rattle.network_layout.proofs.Performs.{items-count, records-count, shaped-range, shaped-well}
 use Rattle.history_file.specs.File.{historyOf, fileOf}
 use Rattle.history_file.specs.Reading.{fileNumber, historyRead}
 use Rattle.history_file.specs.Promises.{exportOf}
 use Rattle.history_file.proofs.Tables.{table-length, table-ranks, table-holds-each, table-low}
+use Rattle.history_file.proofs.Bases.{values-count, values-zero}
 use Rattle.history_file.proofs.Exports.{state-few, state-some, state-places}
-use Rattle.history_file.proofs.OnlyFile.{every-drop, every-take}
+use Rattle.history_file.proofs.OnlyFile.{every-drop}
 use Rattle.history_file.proofs.RoundTrip.{All, none as no-more, more, PairFits, OpFits, RecordFits, HistoryFits, reads-back}
 
 -- ---- words of 32 bits
@@ -145,10 +148,20 @@ module _ (place : ℕ → ℕ) (sites items : ℕ) (few-sites : sites ≤ 8) (fe
       let q = and-true (recordFits place sites items (recordIn w)) (every (recordFits place sites items) (map recordIn ws)) f in
       more (record-fits w e (p .0) (q .0)) (records-fit ws a (p .1) (q .1))
 
+-- ---- the base values
+all-fit : (ws : List ℕ) → Words ws → All (SFits w32) (tableIn ws)
+all-fit [] e = no-more
+all-fit (v ∷ ws) e =
+    let q = and-true (isWord v) (every isWord ws) e in
+    more {x = toZ w32 v} (toZ-fits w32 v (record { fits = ltb-true v 4294967296 (q .0) })) (all-fit ws (q .1))
+
+values-fit : (items : ℕ) (w : List ℕ) → Words w → All (SFits w32) (baseIn items w .values)
+values-fit items w e = all-fit (part w 1 items) (words-part w 1 items e)
+
 -- ---- a state
-pub history-fits : (w : List ℕ) → Words w → shaped w ≡ true → HistoryFits (historyOf (networkIn w))
+pub history-fits : (w : List ℕ) → Words w → length w ≡ stateSize → shaped w ≡ true → HistoryFits (historyOf (networkIn w))
 unfolding partsOf networkIn wellShaped
-history-fits w e s =
+history-fits w e sized s =
     let r = range-parts w (shaped-range w s) in
     let n = networkIn w in
     let place = placeOf (n .items) in
@@ -157,9 +170,10 @@ history-fits w e s =
     let stamps = everyFrom (λ i x. madeBy place i (x .stamp)) 0 (n .sites) in
     let records = every (recordFits place sites items) (n .history) in
     let lines = everyFrom (lineFits (n .items) (n .history)) 0 (n .lines) in
-    let a = and-true (eqb (placementNumber sites (n .items)) 0) (stamps && (records && lines)) (shaped-well w s) .1 in
-    let b = and-true stamps (records && lines) a .1 in
-    let c = and-true records lines b .0 in
+    let base = baseFits (n .base) in
+    let a = and-true (eqb (placementNumber sites (n .items)) 0) (stamps && (records && (lines && base))) (shaped-well w s) .1 in
+    let b = and-true stamps (records && (lines && base)) a .1 in
+    let c = and-true records (lines && base) b .0 in
     let few-sites : sites ≤ 8 = state-few w s in
     let few-items : items ≤ 64 = omega (arith, items-count w 0, r .few-items) in
     let g = state-places w s in
@@ -174,13 +188,16 @@ history-fits w e s =
       as-many = table-length sites (n .items) few-sites g;
       each = table-holds-each sites (n .items) few-sites g;
       low = table-low sites (n .items) few-sites g;
+      each-item = values-count w sized s;
+      values = values-fit (itemCount w) (part w baseAt baseSize) (words-part w baseAt baseSize e);
+      none-folded = values-zero w sized s;
       records = subst (λ (f : ℕ → ℕ). All (RecordFits f sites items) (n .history)) (sym (table-ranks sites (n .items) few-sites g)) fits;
     }
 
 -- the file of a well-shaped state, alone or at the end of any longer buffer, reads back to its history
-pub state-reads-back : (w : List ℕ) → Words w → shaped w ≡ true → (before : List ℕ)
+pub state-reads-back : (w : List ℕ) → Words w → length w ≡ stateSize → shaped w ≡ true → (before : List ℕ)
     → (fileNumber (before ++ fileOf (historyOf (networkIn w))) ≡ 0) × (historyRead (before ++ fileOf (historyOf (networkIn w))) ≡ historyOf (networkIn w))
-state-reads-back w e s before = reads-back (historyOf (networkIn w)) (history-fits w e s) before
+state-reads-back w e sized s before = reads-back (historyOf (networkIn w)) (history-fits w e sized s) before
 
 -- what an accepted export wrote is that file
 pub export-wrote : (w b : List ℕ) → exportOf (meaning w) b .number ≡ 0 → (shaped w ≡ true) × (take (exportOf (meaning w) b .size) (exportOf (meaning w) b .buffer) ≡ fileOf (historyOf (networkIn w)))
@@ -195,8 +212,8 @@ export-wrote w b e = one (shaped w) refl
     one true s = two s (ltb (length b) (length (fileOf (historyOf (networkIn w))))) refl
     one false s = absurd (let z : _≡_ {A = ℕ} 6 0 = rw s at e in omega arith)
 
-pub export-reads-back : (w b : List ℕ) → Words w → exportOf (meaning w) b .number ≡ 0 → (before : List ℕ)
+pub export-reads-back : (w b : List ℕ) → Words w → length w ≡ stateSize → exportOf (meaning w) b .number ≡ 0 → (before : List ℕ)
     → (fileNumber (before ++ take (exportOf (meaning w) b .size) (exportOf (meaning w) b .buffer)) ≡ 0) × (historyRead (before ++ take (exportOf (meaning w) b .size) (exportOf (meaning w) b .buffer)) ≡ historyOf (networkIn w))
-export-reads-back w b e n before =
+export-reads-back w b e sized n before =
     let x = export-wrote w b n in
-    subst (λ (f : List ℕ). (fileNumber (before ++ f) ≡ 0) × (historyRead (before ++ f) ≡ historyOf (networkIn w))) (sym (x .1)) (state-reads-back w e (x .0) before)
+    subst (λ (f : List ℕ). (fileNumber (before ++ f) ≡ 0) × (historyRead (before ++ f) ≡ historyOf (networkIn w))) (sym (x .1)) (state-reads-back w e sized (x .0) before)

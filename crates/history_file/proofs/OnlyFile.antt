@@ -4,6 +4,7 @@ use mathlib.Core.Bool.{Bool, true, false, not, _&&_}
 use mathlib.Core.List.{List, [], _∷_, _++_, map, append-assoc, append-nil}
 use Prim.Native.Nat.{ℕ, zero, suc, _+_, _-_, _*_, _/_, _%_, _≤_, _<_}
 use native.Mathlib.Omega.{arith}
+use native.Mathlib.Nat.{zero-mul, suc-mul}
 use lib.ListN.{length, getD, take, drop, length-map, length-drop, take-append-drop, drop-of-length-le}
 use lib.Seq.{take-add, take-all, drop-drop, length-take-le}
 use lib.Dec.{eqb}
@@ -14,12 +15,12 @@ use Rattle.words.specs.Words.{part, chunks}
 use Rattle.lists.specs.Lists.{every, isEmpty}
 use Rattle.words.proofs.Parts.{part-length, part-getD}
 use Rattle.words.proofs.Chunks.{chunks-length}
-use Rattle.lists.proofs.Every.{and-true, every-at}
+use Rattle.lists.proofs.Every.{and-true, every-take, every-at}
 use Rattle.lists.proofs.Numbers.{flip-true}
 use Rattle.timestamp_order.specs.Order.{rank}
-use Rattle.history_file.specs.Bytes.{isByte, byte, little, unitSize, unit, joined, numberAt, padded}
-use Rattle.history_file.specs.File.{History, pairBytes, opBytes, recordBytes, isNumbers, lead, flag, mark, trailer, trailerSize, body, fileOf}
-use Rattle.history_file.specs.Reading.{pairRead, opRead, tupleCount, opCount, tupleUnits, opUnits, opsFrom, recordRead, sizeRead, recordValid, recordsRead, recordsFill, trailerAt, countRead, distanceRead, sitesRead, itemsRead, flagRead, hasTable, startRead, leadSize, placesRead, partRead, fileRead, holdsEach, tableFits, fileNumber, historyRead}
+use Rattle.history_file.specs.Bytes.{isByte, byte, little, valueSize, valueBytes, unitSize, unit, joined, numberAt, valueRead, padded}
+use Rattle.history_file.specs.File.{History, pairBytes, opBytes, recordBytes, isNumbers, tableLead, baseLead, lead, tableFlag, baseFlag, flag, mark, trailer, trailerSize, body, fileOf}
+use Rattle.history_file.specs.Reading.{pairRead, opRead, tupleCount, opCount, tupleUnits, opUnits, opsFrom, recordRead, sizeRead, recordValid, recordsRead, recordsFill, trailerAt, countRead, distanceRead, sitesRead, itemsRead, flagRead, hasTable, hasBase, startRead, tableSize, baseSize, leadSize, placesRead, baseRead, partRead, fileRead, holdsEach, tableFits, fileNumber, historyRead}
 use Rattle.history_file.proofs.Tables.{same-lists, numbers-same}
 use Rattle.history_file.proofs.Validity.{valid-parts}
 use Rattle.history_file.proofs.Files.{Accepted, accepted, accepts, Good, good-parts, Trailed, trailed, historyOfBytes, history-read, records-length}
@@ -30,11 +31,6 @@ module _ (p : ℕ → Bool) where
   every-drop zero l e = e
   every-drop (suc n) [] e = refl
   every-drop (suc n) (x ∷ l) e = every-drop n l (and-true (p x) (every p l) e .1)
-
-  pub every-take : (n : ℕ) (l : List ℕ) → every p l ≡ true → every p (take n l) ≡ true
-  every-take zero l e = refl
-  every-take (suc n) [] e = refl
-  every-take (suc n) (x ∷ l) e = let q = and-true (p x) (every p l) e in rw (q .0) (every-take n l (q .1))
 
 abbrev pub Bytes : List ℕ → Type 0
 Bytes l = every isByte l ≡ true
@@ -175,19 +171,32 @@ op-back u n e p =
     let value = ofZ-toZ w32 (numberAt u 4) (record { fits = part-small u 4 (omega arith) e }) in
     (λ t. unit (getD u 0 0) (getD u 1 0) (sym second t) (value t)) ∙ unit-back u (omega arith) e (pad-at 2 3 u p (omega arith) (omega arith) (omega arith)) ∙ whole u n
 
--- ---- eights of bytes, one after another
-units-back : {A : Type 0} (f : A → List ℕ) (g : List ℕ → A) (good : List ℕ → Bool) → ((u : List ℕ) → length u ≡ unitSize → Bytes u → good u ≡ true → f (g u) ≡ u)
-    → (n : ℕ) (b : List ℕ) → n * unitSize ≤ length b → Bytes b → every good (chunks unitSize n b) ≡ true → joined f (map g (chunks unitSize n b)) ≡ take (n * unitSize) b
+-- ---- as many bytes each, one after another
+units-back : {A : Type 0} (size : ℕ) (f : A → List ℕ) (g : List ℕ → A) (good : List ℕ → Bool) → ((u : List ℕ) → length u ≡ size → Bytes u → good u ≡ true → f (g u) ≡ u)
+    → (n : ℕ) (b : List ℕ) → n * size ≤ length b → Bytes b → every good (chunks size n b) ≡ true → joined f (map g (chunks size n b)) ≡ take (n * size) b
 unfolding chunks
-units-back f g good back zero b h e p = refl
-units-back f g good back (suc n) b h e p =
-    let q = and-true (good (take unitSize b)) (every good (chunks unitSize n (drop unitSize b))) p in
-    let m : unitSize + n * unitSize ≡ suc n * unitSize = omega arith in
+units-back size f g good back zero b h e p = sym (ap (λ (k : ℕ). take k b) (zero-mul size))
+units-back size f g good back (suc n) b h e p =
+    let q = and-true (good (take size b)) (every good (chunks size n (drop size b))) p in
+    let m : size + n * size ≡ suc n * size = simp suc-mul (omega arith) in
+    let room : n * size + size ≤ length b = simp suc-mul at h in
     ap₂ (λ (x y : List ℕ). x ++ y)
-    (back (take unitSize b) (length-take-le unitSize b (omega arith)) (every-take isByte unitSize b e) (q .0))
-    (units-back f g good back n (drop unitSize b) (omega (arith, length-drop unitSize b)) (every-drop isByte unitSize b e) (q .1))
-    ∙ sym (take-add unitSize (n * unitSize) b)
+    (back (take size b) (length-take-le size b (omega arith)) (every-take isByte size b e) (q .0))
+    (units-back size f g good back n (drop size b) (omega (arith, length-drop size b)) (every-drop isByte size b e) (q .1))
+    ∙ sym (take-add size (n * size) b)
     ∙ ap (λ (k : ℕ). take k b) m
+
+-- values, each in any four bytes
+value-back : (u : List ℕ) → length u ≡ valueSize → Bytes u → valueBytes (valueRead u) ≡ u
+unfolding valueBytes
+value-back u n e = ap little (ofZ-toZ w32 (numberAt u 0) (record { fits = number-small u n e })) ∙ four-back u n e
+
+any-bytes : (us : List (List ℕ)) → every (λ u. true) us ≡ true
+any-bytes [] = refl
+any-bytes (u ∷ us) = any-bytes us
+
+values-back : (n : ℕ) (b : List ℕ) → n * valueSize ≤ length b → Bytes b → joined valueBytes (map valueRead (chunks valueSize n b)) ≡ take (n * valueSize) b
+values-back n b h e = units-back valueSize valueBytes valueRead (λ u. true) (λ u s bs t. value-back u s bs) n b h e (any-bytes (chunks valueSize n b))
 
 -- ---- a record
 module _ (place : ℕ → ℕ) (sites items : ℕ) (b : List ℕ) (v : recordValid place sites items b ≡ true) (e : Bytes b) where
@@ -203,8 +212,8 @@ module _ (place : ℕ → ℕ) (sites items : ℕ) (b : List ℕ) (v : recordVal
       let tuples = length-map (tupleUnits b) pairRead ∙ chunks-length unitSize (tupleCount b) (drop unitSize b) in
       let ops = length-map (opUnits b) opRead ∙ chunks-length unitSize (opCount b) (drop (opsFrom b) b) in
       let head = unit-back b (omega arith) e (eqb-true (getD b 3 0) 0 (p .0)) in
-      let pairs = units-back pairBytes pairRead (padded 1) pair-back (tupleCount b) (drop unitSize b) (omega (arith, length-drop unitSize b)) (every-drop isByte unitSize b e) (q .0) ∙ ap (λ (k : ℕ). take k (drop unitSize b)) t in
-      let written = units-back opBytes opRead (padded 2) op-back (opCount b) (drop (opsFrom b) b) (omega (arith, length-drop (opsFrom b) b)) (every-drop isByte (opsFrom b) b e) (q .1) ∙ ap (λ (k : ℕ). take k (drop (opsFrom b) b)) o in
+      let pairs = units-back unitSize pairBytes pairRead (padded 1) pair-back (tupleCount b) (drop unitSize b) (omega (arith, length-drop unitSize b)) (every-drop isByte unitSize b e) (q .0) ∙ ap (λ (k : ℕ). take k (drop unitSize b)) t in
+      let written = units-back unitSize opBytes opRead (padded 2) op-back (opCount b) (drop (opsFrom b) b) (omega (arith, length-drop (opsFrom b) b)) (every-drop isByte (opsFrom b) b e) (q .1) ∙ ap (λ (k : ℕ). take k (drop (opsFrom b) b)) o in
       (λ i. unit (getD b 0 0) (tuples i) (ops i) (numberAt b 4) ++ (pairs i ++ written i))
       ∙ ap (λ (x : List ℕ). x ++ (take (unitSize * tupleCount b) (drop unitSize b) ++ take (unitSize * opCount b) (drop (opsFrom b) b))) head
       ∙ sym (append-assoc (take unitSize b) (take (unitSize * tupleCount b) (drop unitSize b)) (take (unitSize * opCount b) (drop (opsFrom b) b)))
@@ -265,29 +274,62 @@ module _ (b : List ℕ) (a : Accepted b) (e : Bytes b) where
       ∙ cut 0 4 (omega arith)
       ∙ ap (λ (k : ℕ). drop k b) z
 
-  -- ---- what leads the records follows from the places: a table of the numbers is refused
+  -- ---- what leads the records follows from the history
   abbrev held : History
   held = historyOfBytes b
 
-  record Led : Type 0 where
-    lead-is : lead held ≡ part b (startRead b) (leadSize b)
-    flag-is : flag held ≡ flagRead b
+  -- from the places: a table of the numbers is refused
+  record Tabled : Type 0 where
+    table-is : tableLead held ≡ part b (startRead b) (tableSize b)
+    flag-is : tableFlag held ≡ flagRead b % 2
 
-  led : Led
-  unfolding lead flag placesRead tableFits
-  led = go (hasTable b) refl
+  tabled : Tabled
+  unfolding placesRead tableFits
+  tabled = go (hasTable b) refl
     where
-      go : (t : Bool) → hasTable b ≡ t → Led
+      go : (t : Bool) → hasTable b ≡ t → Tabled
       go true h =
           let table = part b (startRead b) (sitesRead b) in
           let fits : (holdsEach table && not (isNumbers table)) ≡ true = rw h at (good .table-fits) in
           let other : isNumbers table ≡ false = flip-true (not (isNumbers table)) (isNumbers table) refl (and-true (holdsEach table) (not (isNumbers table)) fits .1) in
-          let one : flagRead b ≡ 1 = omega (arith, end .flag-low, eqb-true (flagRead b % 2) 1 h) in
-          record { lead-is = rw (h, other) (bytes-same table (bytes-part b (startRead b) (sitesRead b) e)); flag-is = rw (h, other) (sym one) }
+          record { table-is = rw (h, other) (bytes-same table (bytes-part b (startRead b) (sitesRead b) e)); flag-is = rw (h, other) (sym (eqb-true (flagRead b % 2) 1 h)) }
       go false h =
-          let none : flagRead b ≡ 0 = omega (arith, end .flag-low, eqb-false (flagRead b % 2) 1 h) in
+          let none : flagRead b % 2 ≡ 0 = omega (arith, eqb-false (flagRead b % 2) 1 h) in
           let numbers = numbers-same (sitesRead b) in
-          record { lead-is = rw (h, numbers); flag-is = rw (h, numbers) (sym none) }
+          record { table-is = rw (h, numbers); flag-is = rw (h, numbers) (sym none) }
+
+  -- from what was removed and the base values
+  record Based : Type 0 where
+    base-is : baseLead held ≡ part b (startRead b + tableSize b) (baseSize b)
+    flag-is : baseFlag held ≡ flagRead b / 2 % 2 * 2
+
+  based : Based
+  unfolding baseRead
+  based = go (hasBase b) refl
+    where
+      go : (t : Bool) → hasBase b ≡ t → Based
+      go true h =
+          let at = startRead b + tableSize b in
+          let n = itemsRead b * valueSize in
+          let u = part b at n in
+          let all : baseSize b ≡ n = rw h in
+          let there : length u ≡ n = part-length b at n (omega (arith, all, good .room, a .high)) in
+          record { base-is = rw h (values-back (itemsRead b) u (omega (arith, there)) (bytes-part b at n e) ∙ take-all n u (omega (arith, there))); flag-is = rw h (omega (arith, eqb-true (flagRead b / 2 % 2) 1 h)) }
+      go false h =
+          let none : flagRead b / 2 % 2 ≡ 0 = omega (arith, eqb-false (flagRead b / 2 % 2) 1 h) in
+          record { base-is = rw h; flag-is = rw h (omega (arith, none)) }
+
+  lead-is : lead held ≡ part b (startRead b) (leadSize b)
+  unfolding lead
+  lead-is =
+      let s = startRead b in
+      let n = tableSize b in
+      ap₂ (λ (x y : List ℕ). x ++ y) (tabled .table-is) (based .base-is ∙ ap (take (baseSize b)) (sym (drop-drop n s b)))
+      ∙ sym (take-add n (baseSize b) (drop s b))
+
+  flag-is : flag held ≡ flagRead b
+  unfolding flag
+  flag-is = omega (arith, tabled .flag-is, based .flag-is, end .flag-low)
 
   -- an accepted file is what its history is written as
   pub file-is : fileOf (historyRead b) ≡ fileRead b
@@ -301,10 +343,10 @@ module _ (b : List ℕ) (a : Accepted b) (e : Bytes b) where
       let high = a .high in
       let long = a .long in
       let body-is : body held ≡ partRead b = records-back (rank (placesRead b)) (sitesRead b) (itemsRead b) (countRead b) (partRead b) (good .fills) (bytes-part b (s + l) (d - (l + trailerSize)) e) in
-      let size : length (lead held) + (length (body held) + trailerSize) ≡ d = (let z : length (lead held) + (length (body held) + trailerSize) ≡ d = omega (arith, ap length (led .lead-is), part-length b s l (omega arith), ap length body-is, part-length b (s + l) (d - (l + trailerSize)) (omega arith)) in z) in
+      let size : length (lead held) + (length (body held) + trailerSize) ≡ d = (let z : length (lead held) + (length (body held) + trailerSize) ≡ d = omega (arith, ap length lead-is, part-length b s l (omega arith), ap length body-is, part-length b (s + l) (d - (l + trailerSize)) (omega arith)) in z) in
       let rest : drop (d - (l + trailerSize)) (drop (s + l) b) ≡ drop (trailerAt b) b = drop-drop (d - (l + trailerSize)) (s + l) b ∙ (let z : s + l + (d - (l + trailerSize)) ≡ trailerAt b = omega arith in ap (λ (k : ℕ). drop k b) z) in
       ap fileOf (history-read b (accepts b a))
-      ∙ (λ i. led .lead-is i ++ (body-is i ++ trailer (records-length (countRead b) (partRead b) i) (size i) (sitesRead b) (itemsRead b) (led .flag-is i)))
+      ∙ (λ i. lead-is i ++ (body-is i ++ trailer (records-length (countRead b) (partRead b) i) (size i) (sitesRead b) (itemsRead b) (flag-is i)))
       ∙ ap (λ (x : List ℕ). part b s l ++ (partRead b ++ x)) (trailer-back ∙ sym rest)
       ∙ ap (λ (x : List ℕ). part b s l ++ x) (take-append-drop (d - (l + trailerSize)) (drop (s + l) b) ∙ sym (drop-drop l s b))
       ∙ take-append-drop l (drop s b)

@@ -1,10 +1,11 @@
 -- What a history is written as reads back to the same history, alone or at the end of any longer buffer.
 use mathlib.Core.Path.{_≡_, refl, sym, ap, ap₂, _∙_}
 use mathlib.Core.Bool.{Bool, true, false, not, cond, _&&_, _||_}
-use mathlib.Core.List.{List, [], _∷_, _++_, map, append-assoc}
+use mathlib.Core.List.{List, [], _∷_, _++_, map, append-assoc, append-nil}
 use Prim.Native.Nat.{ℕ, _+_, _-_, _*_, _/_, _%_, _≤_, _<_}
 use native.Mathlib.Omega.{arith}
-use lib.ListN.{length, getD, take, drop, length-append, length-map}
+use lib.IntN.{ℤ, pos}
+use lib.ListN.{length, getD, take, drop, replicate, length-append, length-map}
 use lib.Seq.{take-at, drop-at, drop-drop, take-append-seam, drop-append-seam, getD-append-add}
 use lib.Dec.{eqb, leb}
 use borrow.Author.Tests.{le-leb, eq-eqb}
@@ -19,10 +20,10 @@ use Rattle.timestamp_order.specs.Order.{rank}
 use Rattle.site_operations.specs.Operations.{Op}
 use Rattle.limits.specs.Limits.{opsMost}
 use Rattle.records.specs.Records.{Record, recordFits}
-use Rattle.history_file.specs.Bytes.{byte, unitSize, unit, joined, numberAt, padded, same}
-use Rattle.history_file.specs.File.{History, pairBytes, opBytes, recordBytes, isNumbers, lead, flag, mark, trailer, trailerSize, body, fileOf}
-use Rattle.history_file.specs.Reading.{pairRead, opRead, tupleCount, opCount, tupleUnits, opUnits, opsFrom, recordRead, sizeRead, recordValid, recordsRead, recordsFill, trailerAt, marked, countRead, distanceRead, sitesRead, itemsRead, flagRead, hasTable, startRead, leadSize, placesRead, partRead, holdsEach, tableFits, valid, fileNumber, historyRead}
-use Rattle.history_file.proofs.Written.{unit-length, pair-size, op-size, pairs-size, record-size}
+use Rattle.history_file.specs.Bytes.{byte, valueSize, valueBytes, unitSize, unit, joined, numberAt, valueRead, padded, same}
+use Rattle.history_file.specs.File.{History, pairBytes, opBytes, recordBytes, isNumbers, tableLead, baseLead, lead, flag, mark, trailer, trailerSize, body, fileOf}
+use Rattle.history_file.specs.Reading.{pairRead, opRead, tupleCount, opCount, tupleUnits, opUnits, opsFrom, recordRead, sizeRead, recordValid, recordsRead, recordsFill, trailerAt, marked, countRead, distanceRead, sitesRead, itemsRead, flagRead, hasTable, hasBase, startRead, tableSize, baseSize, leadSize, placesRead, baseRead, partRead, holdsEach, tableFits, valid, fileNumber, historyRead}
+use Rattle.history_file.proofs.Written.{value-size, values-size, unit-length, pair-size, op-size, pairs-size, record-size}
 use Rattle.history_file.proofs.Exports.{trailerOf, file-length}
 use Rattle.history_file.proofs.Tables.{numbers-are, bytes-back}
 use Rattle.history_file.proofs.Files.{Accepted, accepts, history-read}
@@ -61,6 +62,9 @@ pub record HistoryFits (h : History) : Type 0 where
   pub as-many : length (h .places) ≡ h .sites
   pub each : holdsEach (h .places) ≡ true
   pub low : Each (λ (q : ℕ). q < 256) (h .places)
+  pub each-item : length (h .base) ≡ h .items
+  pub values : All (SFits w32) (h .base)
+  pub none-folded : h .folded ≡ false → h .base ≡ replicate (h .items) (pos 0)
   pub records : All (RecordFits (rank (h .places)) (h .sites) (h .items)) (h .records)
 
 -- ---- numbers
@@ -75,15 +79,15 @@ module _ (x y z n : ℕ) (r : List ℕ) where
   unfolding unit numberAt
   unit-number h = number-of n h
 
--- ---- eights of bytes
-module _ {A : Type 0} (P : A → Type 0) (f : A → List ℕ) (g : List ℕ → A) (size : (x : A) → length (f x) ≡ unitSize) where
-  chunks-joined : (xs : List A) (r : List ℕ) → chunks unitSize (length xs) (joined f xs ++ r) ≡ map f xs
+-- ---- as many bytes each
+module _ {A : Type 0} (P : A → Type 0) (f : A → List ℕ) (g : List ℕ → A) (n : ℕ) (size : (x : A) → length (f x) ≡ n) where
+  chunks-joined : (xs : List A) (r : List ℕ) → chunks n (length xs) (joined f xs ++ r) ≡ map f xs
   unfolding chunks
   chunks-joined [] r = refl
   chunks-joined (x ∷ xs) r =
       let s = append-assoc (f x) (joined f xs) r in
-      ap₂ {C = List (List ℕ)} (λ a l. a ∷ l) (ap (take unitSize) s ∙ take-at (f x) (joined f xs ++ r) unitSize (size x))
-      (ap (λ (l : List ℕ). chunks unitSize (length xs) l) (ap (drop unitSize) s ∙ drop-at (f x) (joined f xs ++ r) unitSize (size x)) ∙ chunks-joined xs r)
+      ap₂ {C = List (List ℕ)} (λ a l. a ∷ l) (ap (take n) s ∙ take-at (f x) (joined f xs ++ r) n (size x))
+      (ap (λ (l : List ℕ). chunks n (length xs) l) (ap (drop n) s ∙ drop-at (f x) (joined f xs ++ r) n (size x)) ∙ chunks-joined xs r)
 
   map-back : ((x : A) → P x → g (f x) ≡ x) → (xs : List A) → All P xs → map g (map f xs) ≡ xs
   map-back back [] a = refl
@@ -108,6 +112,10 @@ op-read o h =
     let f = ofZ-fits w32 (o .value) (h .value) in
     let v = ap (toZ w32) (number-of (ofZ w32 (o .value)) (f .fits)) ∙ toZ-ofZ w32 (o .value) (h .value) in
     λ t. record { kind = k t; item = i t; value = v t }
+
+value-read : (v : ℤ) → SFits w32 v → valueRead (valueBytes v) ≡ v
+unfolding valueBytes numberAt
+value-read v h = ap (toZ w32) (number-of (ofZ w32 v) (ofZ-fits w32 v h .fits)) ∙ toZ-ofZ w32 v h
 
 pair-padded : (p : Pair) → padded 1 (pairBytes p) ≡ true
 unfolding unit
@@ -163,16 +171,16 @@ module _ (place : ℕ → ℕ) (sites items : ℕ) (r : Record) (h : RecordFits 
       sym (drop-drop (unitSize * tupleCount there) unitSize there) ∙ ap (drop (unitSize * tupleCount there)) from-tuples ∙ drop-at tuples (ops ++ rest) (unitSize * tupleCount there) s
 
   tuple-units : tupleUnits there ≡ map pairBytes (r .stamp .tuples)
-  tuple-units = ap₂ (λ (k : ℕ) (l : List ℕ). chunks unitSize k l) tuples-there from-tuples ∙ chunks-joined PairFits pairBytes pairRead pair-size (r .stamp .tuples) (ops ++ rest)
+  tuple-units = ap₂ (λ (k : ℕ) (l : List ℕ). chunks unitSize k l) tuples-there from-tuples ∙ chunks-joined PairFits pairBytes pairRead unitSize pair-size (r .stamp .tuples) (ops ++ rest)
 
   op-units : opUnits there ≡ map opBytes (r .ops)
-  op-units = ap₂ (λ (k : ℕ) (l : List ℕ). chunks unitSize k l) ops-there from-ops ∙ chunks-joined OpFits opBytes opRead op-size (r .ops) rest
+  op-units = ap₂ (λ (k : ℕ) (l : List ℕ). chunks unitSize k l) ops-there from-ops ∙ chunks-joined OpFits opBytes opRead unitSize op-size (r .ops) rest
 
   pub record-reads : recordRead there ≡ r
   unfolding recordRead
   record-reads =
-      let ps = ap (map pairRead) tuple-units ∙ map-back PairFits pairBytes pairRead pair-size pair-read (r .stamp .tuples) (h .tuples) in
-      let os = ap (map opRead) op-units ∙ map-back OpFits opBytes opRead op-size op-read (r .ops) (h .ops) in
+      let ps = ap (map pairRead) tuple-units ∙ map-back PairFits pairBytes pairRead unitSize pair-size pair-read (r .stamp .tuples) (h .tuples) in
+      let os = ap (map opRead) op-units ∙ map-back OpFits opBytes opRead unitSize op-size op-read (r .ops) (h .ops) in
       λ t. record { site = site-there t; stamp = record { epoch = epoch-there t; tuples = ps t }; ops = os t }
 
   pub size-reads : sizeRead there ≡ length (recordBytes r)
@@ -188,8 +196,8 @@ module _ (place : ℕ → ℕ) (sites items : ℕ) (r : Record) (h : RecordFits 
       let o1 : leb 1 (opCount there) ≡ true = le-leb 1 (opCount there) (omega (arith, ops-there, h .some-ops)) in
       let o2 : leb (opCount there) opsMost ≡ true = le-leb (opCount there) opsMost (omega (arith, ops-there, h .few-ops)) in
       let z : eqb (getD there 3 0) 0 ≡ true = eq-eqb (getD there 3 0) 0 zero-there in
-      let p : every (padded 1) (tupleUnits there) ≡ true = ap (every (padded 1)) tuple-units ∙ every-good PairFits pairBytes pairRead pair-size (padded 1) pair-padded (r .stamp .tuples) in
-      let q : every (padded 2) (opUnits there) ≡ true = ap (every (padded 2)) op-units ∙ every-good OpFits opBytes opRead op-size (padded 2) op-padded (r .ops) in
+      let p : every (padded 1) (tupleUnits there) ≡ true = ap (every (padded 1)) tuple-units ∙ every-good PairFits pairBytes pairRead unitSize pair-size (padded 1) pair-padded (r .stamp .tuples) in
+      let q : every (padded 2) (opUnits there) ≡ true = ap (every (padded 2)) op-units ∙ every-good OpFits opBytes opRead unitSize op-size (padded 2) op-padded (r .ops) in
       let f : recordFits place sites items (recordRead there) ≡ true = ap (recordFits place sites items) record-reads ∙ h .fits in
       λ i. long i && (((t1 i && t2 i) && (o1 i && o2 i)) && ((z i && (p i && q i)) && f i))
 
@@ -215,6 +223,15 @@ module _ (place : ℕ → ℕ) (sites items : ℕ) where
   pub records-short : (rs : List Record) → All (RecordFits place sites items) rs → length (joined recordBytes rs) ≤ 136 * length rs
   records-short [] a = omega arith
   records-short (r ∷ rs) (more h a) = omega (arith, length-append (recordBytes r) (joined recordBytes rs), record-size r, h .few-tuples, h .few-ops, records-short rs a)
+
+-- ---- one of two numbers
+either : (t : Bool) (x y n : ℕ) → x ≤ n → y ≤ n → cond t x y ≤ n
+either true x y n p q = p
+either false x y n p q = q
+
+turned : (t : Bool) (x y : ℕ) → cond (not t) x y ≡ cond t y x
+turned true x y = refl
+turned false x y = refl
 
 -- ---- the file at the end of other bytes
 number-append : (xs ys : List ℕ) (i : ℕ) → numberAt (xs ++ ys) (length xs + i) ≡ numberAt ys i
@@ -253,13 +270,27 @@ module _ (h : History) (f : HistoryFits h) (before : List ℕ) where
       let e : trailerAt whole ≡ length (before ++ lead h) + length (body h) = omega (arith, whole-length, length-append before (lead h)) in
       e ∙ sym (length-append (before ++ lead h) (body h))
 
-  lead-short : length (lead h) ≤ 8
-  unfolding lead
-  lead-short = go (isNumbers (h .places))
+  -- how many bytes lead the records
+  table-long : length (tableLead h) ≡ cond (isNumbers (h .places)) 0 (h .sites)
+  table-long = go (isNumbers (h .places))
     where
-      go : (t : Bool) → length (cond t [] (map byte (h .places))) ≤ 8
-      go true = omega arith
-      go false = omega (arith, length-map (h .places) byte, f .as-many, f .few-sites)
+      go : (t : Bool) → length (cond t [] (map byte (h .places))) ≡ cond t 0 (h .sites)
+      go true = refl
+      go false = length-map (h .places) byte ∙ f .as-many
+
+  base-long : length (baseLead h) ≡ cond (h .folded) (h .items * valueSize) 0
+  base-long = go (h .folded)
+    where
+      go : (t : Bool) → length (cond t (joined valueBytes (h .base)) []) ≡ cond t (h .items * valueSize) 0
+      go true = values-size (h .base) ∙ ap (λ (k : ℕ). k * valueSize) (f .each-item)
+      go false = refl
+
+  lead-long : length (lead h) ≡ length (tableLead h) + length (baseLead h)
+  unfolding lead
+  lead-long = length-append (tableLead h) (baseLead h)
+
+  lead-short : length (lead h) ≤ 264
+  lead-short = omega (arith, lead-long, table-long, base-long, either (isNumbers (h .places)) 0 (h .sites) 8 (omega arith) (f .few-sites), either (h .folded) (h .items * valueSize) 0 256 (omega (arith, f .few-items)) (omega arith))
 
   short : distance < 4294967296
   short = omega (arith, lead-short, records-short (rank (h .places)) (h .sites) (h .items) (h .records) (f .records), f .few-records)
@@ -293,13 +324,9 @@ module _ (h : History) (f : HistoryFits h) (before : List ℕ) where
   unfolding trailer
   items-there = end-getD 13 ∙ small (h .items) (omega (arith, f .few-items))
 
-  flag-low : flag h ≤ 1
+  flag-low : flag h ≤ 3
   unfolding flag
-  flag-low = go (isNumbers (h .places))
-    where
-      go : (t : Bool) → cond t 0 1 ≤ 1
-      go true = omega arith
-      go false = omega arith
+  flag-low = omega (arith, either (isNumbers (h .places)) 0 1 1 (omega arith) (omega arith), either (h .folded) 2 0 2 (omega arith) (omega arith))
 
   flag-there : flagRead whole ≡ flag h
   unfolding trailer
@@ -315,19 +342,33 @@ module _ (h : History) (f : HistoryFits h) (before : List ℕ) where
   -- the table is there where the places are not the numbers
   table-there : hasTable whole ≡ not (isNumbers (h .places))
   unfolding flag
-  table-there = ap (λ (k : ℕ). eqb (k % 2) 1) flag-there ∙ go (isNumbers (h .places))
+  table-there = ap (λ (k : ℕ). eqb (k % 2) 1) flag-there ∙ go (isNumbers (h .places)) (h .folded)
     where
-      go : (t : Bool) → eqb (cond t 0 1 % 2) 1 ≡ not t
-      go true = refl
-      go false = refl
+      go : (t u : Bool) → eqb ((cond t 0 1 + cond u 2 0) % 2) 1 ≡ not t
+      go true true = refl
+      go true false = refl
+      go false true = refl
+      go false false = refl
+
+  -- and the base values where a record was removed
+  base-there : hasBase whole ≡ h .folded
+  unfolding flag
+  base-there = ap (λ (k : ℕ). eqb (k / 2 % 2) 1) flag-there ∙ go (isNumbers (h .places)) (h .folded)
+    where
+      go : (t u : Bool) → eqb ((cond t 0 1 + cond u 2 0) / 2 % 2) 1 ≡ u
+      go true true = refl
+      go true false = refl
+      go false true = refl
+      go false false = refl
+
+  table-size-there : tableSize whole ≡ length (tableLead h)
+  table-size-there = ap₂ (λ (t : Bool) (k : ℕ). cond t k 0) table-there sites-there ∙ turned (isNumbers (h .places)) (h .sites) 0 ∙ sym table-long
+
+  base-size-there : baseSize whole ≡ length (baseLead h)
+  base-size-there = ap₂ (λ (t : Bool) (k : ℕ). cond t (k * valueSize) 0) base-there items-there ∙ sym base-long
 
   lead-there : leadSize whole ≡ length (lead h)
-  unfolding lead
-  lead-there = ap₂ (λ (t : Bool) (k : ℕ). cond t k 0) table-there sites-there ∙ go (isNumbers (h .places))
-    where
-      go : (t : Bool) → cond (not t) (h .sites) 0 ≡ length (cond t [] (map byte (h .places)))
-      go true = refl
-      go false = sym (length-map (h .places) byte ∙ f .as-many)
+  lead-there = ap₂ (λ (k n : ℕ). k + n) table-size-there base-size-there ∙ sym lead-long
 
   places-there : placesRead whole ≡ h .places
   unfolding placesRead fileOf lead
@@ -339,9 +380,35 @@ module _ (h : History) (f : HistoryFits h) (before : List ℕ) where
       go : (t : Bool) → isNumbers (h .places) ≡ t → cond (not t) (take (h .sites) (fileOf h)) (upTo 0 (h .sites)) ≡ h .places
       go true e = ap (upTo 0) (sym (f .as-many)) ∙ numbers-are (h .places) e
       go false e =
-          let table : lead h ≡ h .places = rw e (bytes-back (h .places) (f .low)) in
-          let size : length (lead h) ≡ h .sites = ap length table ∙ f .as-many in
-          take-at (lead h) (body h ++ end) (h .sites) size ∙ table
+          let table : tableLead h ≡ h .places = rw e (bytes-back (h .places) (f .low)) in
+          let size : length (tableLead h) ≡ h .sites = ap length table ∙ f .as-many in
+          ap (take (h .sites)) (append-assoc (tableLead h) (baseLead h) (body h ++ end))
+          ∙ take-at (tableLead h) (baseLead h ++ (body h ++ end)) (h .sites) size
+          ∙ table
+
+  base-part : part whole (startRead whole + tableSize whole) (baseSize whole) ≡ baseLead h
+  unfolding fileOf lead
+  base-part =
+      ap₂ (λ (n : ℕ) (l : List ℕ). take n l) base-size-there
+      (sym (drop-drop (tableSize whole) (startRead whole) whole)
+      ∙ ap₂ (λ (n k : ℕ). drop n (drop k whole)) table-size-there start-there
+      ∙ ap (drop (length (tableLead h))) (drop-append-seam before (fileOf h) ∙ append-assoc (tableLead h) (baseLead h) (body h ++ end))
+      ∙ drop-append-seam (tableLead h) (baseLead h ++ (body h ++ end)))
+      ∙ take-append-seam (baseLead h) (body h ++ end)
+
+  values-there : baseRead whole ≡ h .base
+  unfolding baseRead
+  values-there =
+      (λ i. cond (base-there i) (map valueRead (chunks valueSize (items-there i) (base-part i))) (replicate (items-there i) (pos 0)))
+      ∙ go (h .folded) refl
+    where
+      go : (t : Bool) → h .folded ≡ t
+          → cond t (map valueRead (chunks valueSize (h .items) (cond t (joined valueBytes (h .base)) []))) (replicate (h .items) (pos 0)) ≡ h .base
+      go true e =
+          ap₂ (λ (k : ℕ) (l : List ℕ). map valueRead (chunks valueSize k l)) (sym (f .each-item)) (sym (append-nil (joined valueBytes (h .base))))
+          ∙ ap (map valueRead) (chunks-joined (SFits w32) valueBytes valueRead valueSize value-size (h .base) [])
+          ∙ map-back (SFits w32) valueBytes valueRead valueSize value-size value-read (h .base) (f .values)
+      go false e = sym (f .none-folded e)
 
   part-there : partRead whole ≡ body h
   unfolding partRead
@@ -368,7 +435,7 @@ module _ (h : History) (f : HistoryFits h) (before : List ℕ) where
       let s2 : leb (sitesRead whole) 8 ≡ true = le-leb (sitesRead whole) 8 (omega (arith, sites-there, f .few-sites)) in
       let i1 : leb 1 (itemsRead whole) ≡ true = le-leb 1 (itemsRead whole) (omega (arith, items-there, f .some-items)) in
       let i2 : leb (itemsRead whole) 64 ≡ true = le-leb (itemsRead whole) 64 (omega (arith, items-there, f .few-items)) in
-      let f1 : leb (flagRead whole) 1 ≡ true = le-leb (flagRead whole) 1 (omega (arith, flag-there, flag-low)) in
+      let f1 : leb (flagRead whole) 3 ≡ true = le-leb (flagRead whole) 3 (omega (arith, flag-there, flag-low)) in
       let z : eqb (getD whole (trailerAt whole + 15) 0) 0 ≡ true = eq-eqb (getD whole (trailerAt whole + 15) 0) 0 zero-last in
       let far : leb (leadSize whole + trailerSize) (distanceRead whole) ≡ true = le-leb (leadSize whole + trailerSize) (distanceRead whole) (omega (arith, lead-there, distance-there)) in
       let few : leb (countRead whole) 256 ≡ true = le-leb (countRead whole) 256 (omega (arith, count-there, f .few-records)) in
@@ -382,9 +449,9 @@ module _ (h : History) (f : HistoryFits h) (before : List ℕ) where
         good = λ t. ((s1 t && s2 t) && ((i1 t && i2 t) && (f1 t && z t))) && (far t && (table-fits t && (few t && fills t)));
       }
 
-  -- what was written reads back to the same history: its numbers of sites and items, its places, its records
+  -- what was written reads back to the same history: its numbers of sites and items, its places, its base values, its records
   pub reads-back : (fileNumber whole ≡ 0) × (historyRead whole ≡ h)
   reads-back =
       let z : fileNumber whole ≡ 0 = accepts whole file-accepted in
       let records = ap₂ (λ (n : ℕ) (l : List ℕ). recordsRead n l) count-there part-there ∙ records-read (rank (h .places)) (h .sites) (h .items) (h .records) (f .records) in
-      (z, history-read whole z ∙ (λ t. record { sites = sites-there t; items = items-there t; places = places-there t; records = records t }))
+      (z, history-read whole z ∙ (λ t. record { sites = sites-there t; items = items-there t; places = places-there t; folded = base-there t; base = values-there t; records = records t }))

@@ -15,7 +15,7 @@ use Rattle.words.proofs.Chunks.{chunks-length, chunks-at}
 use Rattle.lists.proofs.Every.{every-false, every-next, every-done}
 use Rattle.timestamp_order.specs.Timestamp.{Pair, noPair, lastPair}
 use Rattle.timestamp_order.proofs.Timestamp.{last-at}
-use Rattle.history_file.specs.Bytes.{unitSize, byte, unit, numberAt, padded, allZero}
+use Rattle.history_file.specs.Bytes.{valueSize, unitSize, byte, little, unit, numberAt, padded, allZero}
 use Rattle.history_file.specs.Reading.{pairRead, countsFit}
 
 -- ---- the counts of a record
@@ -103,6 +103,14 @@ module _ (b : List ℕ) (n : ℕ) where
 pub every-map : {A B : Type 0} (q : B → Bool) (f : A → B) (l : List A) → every q (map f l) ≡ every (λ x. q (f x)) l
 every-map q f [] = refl
 every-map q f (x ∷ l) = ap (λ (t : Bool). q (f x) && t) (every-map q f l)
+
+-- ---- four bytes copied over four
+pub number-copied : (d out : List ℕ) (n p q r s : ℕ) → length d ≡ valueSize → out ≡ (p ∷ (q ∷ (r ∷ (s ∷ [])))) ++ drop valueSize d
+    → p ≡ byte n → q ≡ byte (n / 256) → r ≡ byte (n / 256 / 256) → s ≡ byte (n / 256 / 256 / 256) → out ≡ little n
+number-copied d out n p q r s size e ep eq er es =
+    e
+    ∙ ap (λ (l : List ℕ). (p ∷ (q ∷ (r ∷ (s ∷ [])))) ++ l) (drop-of-length-le d {i = valueSize} (omega arith))
+    ∙ (λ t. ep t ∷ (eq t ∷ (er t ∷ (es t ∷ []))))
 
 -- ---- eight bytes copied over eight
 pub unit-copied : (d out : List ℕ) (x y z n a b c p q r s : ℕ) → length d ≡ unitSize

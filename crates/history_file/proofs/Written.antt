@@ -4,7 +4,8 @@ use mathlib.Core.List.{List, [], _∷_, _++_, append-assoc, append-nil}
 use Prim.Native.Nat.{ℕ, suc, _+_, _-_, _*_, _≤_, _<_}
 use native.Mathlib.Omega.{arith}
 use native.Mathlib.Numerals.{add-one}
-use native.Mathlib.Nat.{zero-mul, suc-mul}
+use native.Mathlib.Nat.{zero-mul, suc-mul, mul-le-mul-right}
+use lib.IntN.{ℤ}
 use lib.ListN.{length, getD, take, drop, length-append, length-drop, drop-of-length-le}
 use lib.Seq.{take-at, drop-at, drop-drop, take-suc, take-all, length-take-le}
 use Rattle.words.specs.Words.{put}
@@ -12,12 +13,13 @@ use mir.Val.{toZ, ofZ}
 use mir.ValLaws.{ofZ-toZ}
 use mir.Syntax.{w32}
 use Rattle.words.proofs.Parts.{lent-length}
+use Rattle.words.proofs.Chunks.{mul-room}
 use Rattle.timestamp_order.specs.Timestamp.{Pair}
 use Rattle.site_operations.specs.Operations.{Op}
 use Rattle.site_operations.specs.InWords.{opIn, opsIn}
 use Rattle.site_operations.proofs.Laws.{op-word, ops-at}
 use Rattle.records.specs.Records.{Record}
-use Rattle.history_file.specs.Bytes.{unitSize, unit, joined}
+use Rattle.history_file.specs.Bytes.{valueSize, valueBytes, unitSize, unit, joined}
 use Rattle.history_file.specs.File.{pairBytes, opBytes, recordBytes}
 
 -- n bytes behind those that are written
@@ -65,28 +67,36 @@ module _ {A : Type 0} (f : A → List ℕ) where
     joined-length [] = sym (zero-mul n)
     joined-length (x ∷ xs) = length-append (f x) (joined f xs) ∙ (let e : length (f x) + length (joined f xs) ≡ suc (length xs) * n = ap₂ (λ (a b : ℕ). a + b) (size x) (joined-length xs) ∙ (let g : n + length xs * n ≡ suc (length xs) * n = simp suc-mul (omega arith) in g) in e)
 
--- ---- eights of bytes
-module _ {A : Type 0} (f : A → List ℕ) (size : (x : A) → length (f x) ≡ unitSize) (d : A) (xs : List A) (b : List ℕ) (long : length b ≡ length xs * unitSize) where
+-- ---- n bytes each, one after another
+module _ {A : Type 0} (f : A → List ℕ) (n : ℕ) (size : (x : A) → length (f x) ≡ n) (d : A) (xs : List A) (b : List ℕ) (long : length b ≡ length xs * n) where
   abbrev pub units : ℕ → List ℕ
-  units i = joined f (take i xs) ++ drop (i * unitSize) b
+  units i = joined f (take i xs) ++ drop (i * n) b
 
-  pub units-next : (i : ℕ) → i < length xs → (w ys : List ℕ) → w ≡ units i → ys ≡ f (getD xs i d) → put w (i * unitSize) (i * unitSize + unitSize - i * unitSize) ys ≡ units (i + 1)
+  pub units-next : (i : ℕ) → i < length xs → (w ys : List ℕ) → w ≡ units i → ys ≡ f (getD xs i d) → put w (i * n) (i * n + n - i * n) ys ≡ units (i + 1)
   units-next i h w ys e is =
-      let wide : length (joined f (take i xs)) ≡ i * unitSize
-      = joined-length f unitSize size (take i xs) ∙ ap (λ (k : ℕ). k * unitSize) (length-take-le i xs (omega arith)) in
-      let same : i * unitSize + unitSize - i * unitSize ≡ unitSize = omega arith in
-      let next : i * unitSize + unitSize ≡ (i + 1) * unitSize = omega arith in
-      put-next b (joined f (take i xs)) ys w (i * unitSize) unitSize (i * unitSize + unitSize - i * unitSize) e wide same
+      let wide : length (joined f (take i xs)) ≡ i * n
+      = joined-length f n size (take i xs) ∙ ap (λ (k : ℕ). k * n) (length-take-le i xs (omega arith)) in
+      let same : i * n + n - i * n ≡ n = omega arith in
+      let next : i * n + n ≡ (i + 1) * n = omega arith in
+      put-next b (joined f (take i xs)) ys w (i * n) n (i * n + n - i * n) e wide same
       ∙ ap₂ (λ (x : List ℕ) (k : ℕ). x ++ drop k b) (ap (λ (y : List ℕ). joined f (take i xs) ++ y) is ∙ sym (joined-next f xs i d h)) next
 
-  pub units-length : (i : ℕ) → i < length xs → (w ys : List ℕ) → length w ≡ length b → ys ≡ f (getD xs i d) → length (put w (i * unitSize) (i * unitSize + unitSize - i * unitSize) ys) ≡ length b
-  units-length i h w ys e is = lent-length w (i * unitSize) unitSize ys (omega arith) (ap length is ∙ size (getD xs i d)) ∙ e
+  pub units-length : (i : ℕ) → i < length xs → (w ys : List ℕ) → length w ≡ length b → ys ≡ f (getD xs i d) → length (put w (i * n) (i * n + n - i * n) ys) ≡ length b
+  units-length i h w ys e is = lent-length w (i * n) n ys (omega (arith, mul-room i (length xs) n h)) (ap length is ∙ size (getD xs i d)) ∙ e
 
   pub units-all : (i : ℕ) → length xs ≤ i → (w : List ℕ) → w ≡ units i → w ≡ joined f xs
   units-all i h w e =
       e
-      ∙ ap₂ (λ (x y : List ℕ). x ++ y) (joined-all f xs i h) (drop-of-length-le b {i = i * unitSize} (omega arith))
+      ∙ ap₂ (λ (x y : List ℕ). x ++ y) (joined-all f xs i h) (drop-of-length-le b {i = i * n} (omega (arith, mul-le-mul-right n h)))
       ∙ append-nil (joined f xs)
+
+-- ---- values
+pub value-size : (v : ℤ) → length (valueBytes v) ≡ valueSize
+unfolding valueBytes
+value-size v = refl
+
+pub values-size : (vs : List ℤ) → length (joined valueBytes vs) ≡ length vs * valueSize
+values-size vs = joined-length valueBytes valueSize value-size vs
 
 -- ---- a record
 pub unit-length : (x y z n : ℕ) → length (unit x y z n) ≡ unitSize

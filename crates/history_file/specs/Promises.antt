@@ -4,13 +4,14 @@ use mathlib.Core.Bool.{cond}
 use mathlib.Core.List.{List, [], _∷_, _++_, map}
 use mathlib.Core.Option.{Option, none, some}
 use Prim.Native.Nat.{ℕ, zero, suc, _+_}
+use lib.IntN.{ℤ, pos}
 use lib.ListN.{length, getD, drop, replicate}
 use lib.Dec.{eqb, ltb, leb}
 use Rattle.timestamp_order.specs.Order.{rank}
 use Rattle.timestamp.specs.Value.{PlainValue}
 use Rattle.site_operations.specs.Operations.{Op, noOp}
-use Rattle.limits.specs.Limits.{opsMost, sitesMost}
-use Rattle.lists.specs.Lists.{upTo}
+use Rattle.limits.specs.Limits.{opsMost, sitesMost, itemsMost}
+use Rattle.lists.specs.Lists.{upTo, padded}
 use Rattle.lists.specs.Numbers.{firstNumber, numberIf}
 use Rattle.records.specs.Records.{Record}
 use Rattle.protocol.specs.Network.{Network, noRecord}
@@ -43,6 +44,13 @@ eight ps = map (rank ps) (upTo 0 sitesMost)
 
 unfoldable pub placesAnswered : List ℕ → List ℕ
 placesAnswered b = cond (eqb (fileNumber b) 0) (eight (placesRead b)) (replicate sitesMost 0)
+
+-- and the history's base values, 0 in the places past them; all 0 where refused
+abbrev pub sixtyFour : List ℤ → List ℤ
+sixtyFour vs = padded itemsMost (pos 0) vs
+
+abbrev pub baseAnswered : List ℕ → List ℤ
+baseAnswered b = sixtyFour (historyRead b .base)
 
 -- ---- read one record
 -- a field of n operations from number i on, that of no operation past the last

@@ -1,8 +1,9 @@
 -- What a list of bytes means: whether it ends with a history file, and the history in it.
-use mathlib.Core.Bool.{Bool, not, cond, _&&_, _||_}
+use mathlib.Core.Bool.{Bool, false, not, cond, _&&_, _||_}
 use mathlib.Core.List.{List, [], _∷_, map}
-use Prim.Native.Nat.{ℕ, zero, suc, _+_, _*_, _-_, _%_}
-use lib.ListN.{length, getD, drop}
+use Prim.Native.Nat.{ℕ, zero, suc, _+_, _*_, _-_, _/_, _%_}
+use lib.IntN.{ℤ, pos}
+use lib.ListN.{length, getD, drop, replicate}
 use lib.Dec.{eqb, ltb, leb}
 use mir.Val.{toZ}
 use mir.Syntax.{w32}
@@ -14,7 +15,7 @@ use Rattle.site_operations.specs.Operations.{Op}
 use Rattle.limits.specs.Limits.{opsMost, sitesMost, itemsMost, recordsMost}
 use Rattle.lists.specs.Numbers.{firstNumber, numberIf, outside}
 use Rattle.records.specs.Records.{Record, recordFits}
-use Rattle.history_file.specs.Bytes.{unitSize, numberAt, padded, same}
+use Rattle.history_file.specs.Bytes.{valueSize, unitSize, numberAt, valueRead, padded, same}
 use Rattle.history_file.specs.File.{History, isNumbers, mark, trailerSize}
 
 -- ---- a record at the front of some bytes
@@ -109,18 +110,33 @@ flagRead b = getD b (trailerAt b + 14) 0
 abbrev pub hasTable : List ℕ → Bool
 hasTable b = eqb (flagRead b % 2) 1
 
+-- the flag of weight 2: the base values stand after the table
+abbrev pub hasBase : List ℕ → Bool
+hasBase b = eqb (flagRead b / 2 % 2) 1
+
 -- ---- the file that ends the bytes
 -- where it starts, found by the distance
 abbrev pub startRead : List ℕ → ℕ
 startRead b = length b - distanceRead b
 
--- how many bytes lead the records
+-- how many bytes lead the records: a table, and base values
+abbrev pub tableSize : List ℕ → ℕ
+tableSize b = cond (hasTable b) (sitesRead b) 0
+
+abbrev pub baseSize : List ℕ → ℕ
+baseSize b = cond (hasBase b) (itemsRead b * valueSize) 0
+
 abbrev pub leadSize : List ℕ → ℕ
-leadSize b = cond (hasTable b) (sitesRead b) 0
+leadSize b = tableSize b + baseSize b
 
 -- the place of each site: its number where there is no table
 unfoldable pub placesRead : List ℕ → List ℕ
 placesRead b = cond (hasTable b) (part b (startRead b) (sitesRead b)) (upTo 0 (sitesRead b))
+
+-- the base value of each item: 0 where no base values are there
+unfoldable pub baseRead : List ℕ → List ℤ
+baseRead b =
+    cond (hasBase b) (map valueRead (chunks valueSize (itemsRead b) (part b (startRead b + tableSize b) (baseSize b)))) (replicate (itemsRead b) (pos 0))
 
 -- the part from the first record to the trailer
 unfoldable pub partRead : List ℕ → List ℕ
@@ -130,11 +146,11 @@ partRead b = part b (startRead b + leadSize b) (distanceRead b - (leadSize b + t
 unfoldable pub fileRead : List ℕ → List ℕ
 fileRead b = drop (startRead b) b
 
--- the trailer's sites and items in range, no flag but that of weight 1, its last byte zero
+-- the trailer's sites and items in range, no flag but those of weight 1 and 2, its last byte zero
 abbrev pub trailerFits : List ℕ → Bool
 trailerFits b =
     within 1 sitesMost (sitesRead b)
-    && (within 1 itemsMost (itemsRead b) && (leb (flagRead b) 1 && eqb (getD b (trailerAt b + 15) 0) 0))
+    && (within 1 itemsMost (itemsRead b) && (leb (flagRead b) 3 && eqb (getD b (trailerAt b + 15) 0) 0))
 
 -- every place from 0 on stands in it, once
 unfoldable pub holdsEach : List ℕ → Bool
@@ -162,7 +178,7 @@ fileNumber b =
     ∷ [])
 
 abbrev pub noHistory : History
-noHistory = record { sites = 0; items = 0; places = []; records = [] }
+noHistory = record { sites = 0; items = 0; places = []; folded = false; base = []; records = [] }
 
 -- the history in the bytes, and nothing where they are refused
 unfoldable pub historyRead : List ℕ → History
@@ -172,6 +188,8 @@ historyRead b =
       sites = sitesRead b;
       items = itemsRead b;
       places = placesRead b;
+      folded = hasBase b;
+      base = baseRead b;
       records = recordsRead (countRead b) (partRead b);
     })
     noHistory

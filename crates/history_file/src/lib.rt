@@ -13,8 +13,9 @@ pub struct Exported {
     pub length: usize,
 }
 
-// What a file holds: the number for which it is refused, or 0; how many records, sites and items, how many bytes its records take, and the
-// places of its sites, with the numbers behind them. Where it is refused, all but the number is 0.
+// What a file holds: the number for which it is refused, or 0; how many records, sites and items, how many bytes its records take, the
+// places of its sites, with the numbers behind them, whether a collect has removed a record since set-up, and the base values of its items,
+// with 0 behind them. Where it is refused, all but the number is 0.
 pub struct Checked {
     pub number: u32,
     pub records: u32,
@@ -22,6 +23,8 @@ pub struct Checked {
     pub items: u32,
     pub length: usize,
     pub places: [u8; 8],
+    pub folded: bool,
+    pub base: [i32; 64],
 }
 
 // A record that was read: the number for which it was refused, or 0; its site, its timestamp, and its operations, which are the first

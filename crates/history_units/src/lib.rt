@@ -1,8 +1,8 @@
-// What a file is written of: eights of bytes, and a trailer.
+// What a file is written of: values in four bytes, eights of bytes, and a trailer.
 use history_file::MARK;
 ghost use mathlib.Core.Path.{_≡_};
 ghost use lib.ListN.{length};
-ghost use Rattle.history_file.specs.Bytes.{byte, unit, unitSize};
+ghost use Rattle.history_file.specs.Bytes.{byte, little, valueSize, unit, unitSize};
 ghost use Rattle.history_file.specs.File.{trailer, trailerSize};
 ghost use Rattle.history_units.specs.Asked.{InFile};
 
@@ -11,6 +11,20 @@ fn low(n: u32) -> u8
     ensures { λ r. ⌜ r ≡ byte n ⌝ }
 {
     (n % 256) as u8
+}
+
+// Four bytes: a number.
+pub fn put_number(b: &mut [u8], n: u32)
+    requires { ⌜ length (now b) ≡ valueSize ⌝ }
+    ensures { λ r. ⌜ now (b .exit) ≡ little n ⌝ }
+{
+    let u = [
+        low(n),
+        low(n / 256),
+        low(n / 256 / 256),
+        low(n / 256 / 256 / 256),
+    ];
+    bytes::copy(&u, b);
 }
 
 // Eight bytes: three fields, 0, and a number in four bytes.

@@ -13,9 +13,9 @@ fn main() {
     }
 }
 
-// The buffer holds a full history: 256 records of 136 bytes and a trailer of 16. A refused export prints its number on standard error.
+// The buffer holds the longest file: a table of 8 bytes, 64 base values of 4, 256 records of 136 and a trailer of 16. A refused export prints its number on standard error.
 fn save(state: &[u32; WORDS]) {
-    let mut file = [0u8; 34840];
+    let mut file = [0u8; 35096];
     let answer = history::export(state, &mut file);
     if answer.number != 0 {
         refused(answer.number);

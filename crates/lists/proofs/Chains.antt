@@ -1,11 +1,11 @@
 -- What holds of each element of a list, and of each with those after it; by places, of those that pass a test, and of numbers in turn too.
-use mathlib.Core.Path.{_≡_, refl, ap, _∙_}
-use mathlib.Core.Bool.{Bool, true, false, cond}
+use mathlib.Core.Path.{_≡_, refl, sym, ap, ap₂, _∙_}
+use mathlib.Core.Bool.{Bool, true, false, not, cond, false≢true}
 use mathlib.Core.List.{List, [], _∷_, _++_, map}
 use Prim.Native.Nat.{ℕ, zero, suc, _+_, _≤_, _<_}
 use native.Mathlib.Omega.{arith}
 use lib.ListN.{length, getD}
-use Rattle.lists.specs.Lists.{keep, upTo}
+use Rattle.lists.specs.Lists.{any, keep, upTo}
 
 -- ---- what holds of each element, and of each with those after it
 abbrev pub Each : {A : Type 0} → (A → Type 0) → List A → Type 0
@@ -112,3 +112,28 @@ cond-more false x xs ys = refl
 pub keep-more : {A : Type 0} (p : A → Bool) (xs ys : List A) → keep p (xs ++ ys) ≡ keep p xs ++ keep p ys
 keep-more p [] ys = refl
 keep-more {A = A} p (x ∷ xs) ys = ap (λ (zs : List A). cond (p x) (x ∷ zs) zs) (keep-more p xs ys) ∙ cond-more (p x) x (keep p xs) (keep p ys)
+
+-- where none that fails stands before one that passes, first those that pass, then the others
+pub chain-split : {A : Type 0} (p : A → Bool) (xs : List A) → Chain (λ x y. p y ≡ true → p x ≡ true) xs → xs ≡ keep p xs ++ keep (λ x. not (p x)) xs
+chain-split p [] h = refl
+chain-split {A = A} p (x ∷ xs) h = go (p x) refl (chain-split p xs (h .1))
+  where
+    fails : p x ≡ false → (y : A) → (p y ≡ true → p x ≡ true) → (b : Bool) → p y ≡ b → p y ≡ false
+    fails e y f true q = absurd (false≢true (sym e ∙ f q))
+    fails e y f false q = q
+
+    go : (b : Bool) → p x ≡ b → xs ≡ keep p xs ++ keep (λ y. not (p y)) xs → x ∷ xs ≡ cond b (x ∷ keep p xs) (keep p xs) ++ cond (not b) (x ∷ keep (λ y. not (p y)) xs) (keep (λ y. not (p y)) xs)
+    go true e r = ap {B = List A} (λ l. x ∷ l) r
+    go false e r =
+        let none : keep p xs ≡ [] = keep-none p xs (each-implied (λ y. p y ≡ true → p x ≡ true) (λ y. p y ≡ false) (λ y f. fails e y f (p y) refl) xs (h .0)) in
+        rw none (ap {B = List A} (λ l. x ∷ l) (rw none at r))
+
+-- two functions that agree on the elements
+pub map-same : {A B : Type 0} (f g : A → B) (xs : List A) → Each (λ x. f x ≡ g x) xs → map f xs ≡ map g xs
+map-same f g [] h = refl
+map-same {B = B} f g (x ∷ xs) h = ap₂ {C = List B} (λ y ys. y ∷ ys) (h .0) (map-same f g xs (h .1))
+
+-- none of what a function gives passes a test
+pub map-none : {A B : Type 0} (f : A → B) (p : B → Bool) (xs : List A) → Each (λ x. p (f x) ≡ false) xs → any p (map f xs) ≡ false
+map-none f p [] h = refl
+map-none f p (x ∷ xs) h = rw (h .0) (map-none f p xs (h .1))

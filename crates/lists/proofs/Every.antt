@@ -5,7 +5,7 @@ use mathlib.Core.List.{List, [], _∷_, _++_}
 use Prim.Native.Nat.{ℕ, zero, suc, _+_, _≤_, _<_}
 use native.Mathlib.Omega.{arith}
 use native.Mathlib.Numerals.{add-one}
-use lib.ListN.{length, getD, set, drop, drop-of-length-le}
+use lib.ListN.{length, getD, set, take, drop, drop-of-length-le}
 use lib.Seq.{drop-cons}
 use Rattle.lists.specs.Lists.{every, everyFrom}
 
@@ -37,6 +37,11 @@ module _ {A : Type 0} (p : A → Bool) where
   pub every-rest : (xs : List A) → every p xs ≡ true → every p (drop 1 xs) ≡ true
   every-rest [] e = refl
   every-rest (x ∷ xs) e = and-true (p x) (every p xs) e .1
+
+  pub every-take : (n : ℕ) (xs : List A) → every p xs ≡ true → every p (take n xs) ≡ true
+  every-take zero xs e = refl
+  every-take (suc n) [] e = refl
+  every-take (suc n) (x ∷ xs) e = let q = and-true (p x) (every p xs) e in rw (q .0) (every-take n xs (q .1))
 
   pub every-at : (xs : List A) (i : ℕ) (d : A) → every p xs ≡ true → i < length xs → p (getD xs i d) ≡ true
   every-at [] i d e h = absurd (omega arith)

@@ -1,7 +1,7 @@
 -- Laws of the last element that passes a test, and of the elements before the first that does.
-use mathlib.Core.Path.{_≡_, refl, sym, _∙_}
+use mathlib.Core.Path.{_≡_, refl, ap, sym, _∙_}
 use mathlib.Core.Bool.{Bool, true, false, cond, _||_, true≢false, false≢true}
-use mathlib.Core.List.{List, [], _∷_}
+use mathlib.Core.List.{List, [], _∷_, _++_}
 use mathlib.Core.Logic.{_⊎_, inl, inr}
 use mathlib.Core.Option.{Option, none, some, Option·some-ne-none}
 use lib.Dec.{ltb}
@@ -31,6 +31,15 @@ module _ {A : Type 0} (p : A → Bool) where
           pick : (b : Bool) → OfSome P (cond b (some x) none)
           pick true = h .0
           pick false = tt
+
+  -- one element more
+  pub last-more : (xs : List A) (y : A) → lastOf p (xs ++ (y ∷ [])) ≡ cond (p y) (some y) (lastOf p xs)
+  last-more [] y = refl
+  last-more (x ∷ xs) y = ap (λ (o : Option A). orElse o (cond (p x) (some x) none)) (last-more xs y) ∙ go (p y)
+    where
+      go : (b : Bool) → orElse (cond b (some y) (lastOf p xs)) (cond (p x) (some x) none) ≡ cond b (some y) (orElse (lastOf p xs) (cond (p x) (some x) none))
+      go true = refl
+      go false = refl
 
   -- where some element passes there is one
   pub some-last : (xs : List A) → any p xs ≡ true → lastOf p xs ≡ none → ⊥

@@ -10,3 +10,5 @@ pub mod First
 pub mod Occurrences
 pub mod Folds
 pub mod Matched
+pub mod Renumber
+pub mod KeptFrom

@@ -1,11 +1,12 @@
--- Laws of lists: the first elements, one replaced, a function of each, a list of known length written out.
-use mathlib.Core.Path.{_≡_, refl, sym, ap, _∙_}
-use mathlib.Core.List.{List, [], _∷_, map}
+-- Laws of lists: the first elements, one replaced, a function of each, by a walk too, a list of known length written out.
+use mathlib.Core.Path.{_≡_, refl, sym, ap, ap₂, _∙_}
+use mathlib.Core.List.{List, [], _∷_, _++_, map, append-nil}
 use Prim.Native.Nat.{ℕ, zero, suc, _+_, _-_, _≤_, _<_, min}
 use native.Mathlib.Omega.{arith}
+use native.Mathlib.Numerals.{add-one}
 use native.Mathlib.Nat.{zero-min, suc-min-suc}
-use lib.ListN.{length, getD, set, take, drop, drop-of-length-le}
-use lib.Seq.{drop-cons, take-nil, drop-nil}
+use lib.ListN.{length, getD, set, take, drop, drop-of-length-le, length-map, List·getD-map}
+use lib.Seq.{drop-cons, take-nil, drop-nil, take-suc, take-all, length-take-le, set-at, getD-at, append-snoc}
 use Rattle.lists.specs.Lists.{spell}
 
 module _ {A : Type 0} where
@@ -45,6 +46,31 @@ module _ {A B : Type 0} (f : A → B) where
   map-set [] i v = refl
   map-set (x ∷ xs) zero v = refl
   map-set (x ∷ xs) (suc i) v = ap {B = List B} (λ r. f x ∷ r) (map-set xs i v)
+
+-- ---- the first i of s before the rest of d, and one more of s
+pub front-next : {A : Type 0} (z : A) (s d : List A) (i : ℕ) → i < length s → i < length d → set (take i s ++ drop i d) i (getD s i z) ≡ take (i + 1) s ++ drop (i + 1) d
+front-next {A} z s d i hs hd =
+    ap (λ (l : List A). set (take i s ++ l) i (getD s i z)) (drop-cons d i z hd)
+    ∙ set-at (take i s) (getD d i z) (drop (suc i) d) (getD s i z) i (length-take-le i s (omega arith))
+    ∙ sym (append-snoc (take i s) (getD s i z) (drop (suc i) d))
+    ∙ ap (λ (l : List A). l ++ drop (suc i) d) (sym (take-suc s i z hs))
+    ∙ ap (λ (k : ℕ). take k s ++ drop k d) (sym (add-one i))
+
+-- ---- a list of which the first i have been replaced by a function of each
+module _ {A : Type 0} (f : A → A) (l : List A) (i : ℕ) where
+  abbrev pub mapped : List A
+  mapped = take i (map f l) ++ drop i l
+
+  pub mapped-at : (z : A) → i < length l → getD mapped i z ≡ getD l i z
+  mapped-at z h =
+      let front : length (take i (map f l)) ≡ i = length-take-le i (map f l) (omega (arith, length-map l f)) in
+      ap (λ (r : List A). getD (take i (map f l) ++ r) i z) (drop-cons l i z h) ∙ getD-at (take i (map f l)) (getD l i z) (drop (suc i) l) z i front
+
+  pub mapped-next : (z : A) → i < length l → set mapped i (f (getD l i z)) ≡ take (i + 1) (map f l) ++ drop (i + 1) l
+  mapped-next z h = ap (set mapped i) (sym (List·getD-map f l i z)) ∙ front-next (f z) (map f l) l i (omega (arith, length-map l f)) h
+
+  pub mapped-all : length l ≤ i → mapped ≡ map f l
+  mapped-all h = ap₂ (λ (x y : List A). x ++ y) (take-all i (map f l) (omega (arith, length-map l f))) (drop-of-length-le l {i = i} h) ∙ append-nil (map f l)
 
 -- ---- a list of a known length, written out
 module _ {A : Type 0} (d : A) where

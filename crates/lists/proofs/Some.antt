@@ -34,6 +34,11 @@ module _ {A : Type 0} (p : A → Bool) where
   some-at (x ∷ xs) zero d h q = ap (λ (b : Bool). b || any p xs) q
   some-at (x ∷ xs) (suc i) d h q = ap (λ (b : Bool). p x || b) (some-at xs i d (omega arith) q) ∙ or-true (p x)
 
+  pub none-at : (xs : List A) (i : ℕ) (d : A) → any p xs ≡ false → i < length xs → p (getD xs i d) ≡ false
+  none-at [] i d e h = absurd (not-suc-le-zero h)
+  none-at (x ∷ xs) zero d e h = or-false (p x) (any p xs) e .0
+  none-at (x ∷ xs) (suc i) d e h = none-at xs i d (or-false (p x) (any p xs) e .1) (omega arith)
+
   pub some-index : (xs : List A) (d : A) → any p xs ≡ true → (i : ℕ) × (i < length xs) × (p (getD xs i d) ≡ true)
   some-index [] d e = absurd (false≢true e)
   some-index (x ∷ xs) d e = go (p x) refl e (some-index xs d)
@@ -66,6 +71,37 @@ module _ (f : ℕ → Bool) where
 pub some-below-same : (f g : ℕ → Bool) (k : ℕ) → ((c : ℕ) → c < k → f c ≡ g c) → someBelow f k ≡ someBelow g k
 some-below-same f g zero h = refl
 some-below-same f g (suc k) h = rw (h k (omega arith), some-below-same f g k (λ c b. h c (omega arith)))
+
+-- one of two tests
+pub some-below-or : (f g : ℕ → Bool) (k : ℕ) → (someBelow f k || someBelow g k) ≡ someBelow (λ c. f c || g c) k
+some-below-or f g zero = refl
+some-below-or f g (suc k) = turn (f k) (g k) (someBelow f k) (someBelow g k) ∙ ap (λ (b : Bool). (f k || g k) || b) (some-below-or f g k)
+  where
+    turn : (a b s t : Bool) → ((a || s) || (b || t)) ≡ ((a || b) || (s || t))
+    turn true b s t = refl
+    turn false true s t = or-true s
+    turn false false s t = refl
+
+-- 0 first, then the numbers after it
+some-below-front : (f : ℕ → Bool) (k : ℕ) → someBelow f (suc k) ≡ (f 0 || someBelow (λ c. f (suc c)) k)
+some-below-front f zero = refl
+some-below-front f (suc k) = ap (λ (b : Bool). f (suc k) || b) (some-below-front f k) ∙ turn (f 0) (f (suc k)) (someBelow (λ c. f (suc c)) k)
+  where
+    turn : (a b s : Bool) → (b || (a || s)) ≡ (a || (b || s))
+    turn true b s = or-true b
+    turn false b s = refl
+
+-- some mark of a list, which are all among the first k
+pub some-marked : (marks : List Bool) (k : ℕ) → ((c : ℕ) → k ≤ c → getD marks c false ≡ false) → any (λ (b : Bool). b) marks ≡ someBelow (λ c. getD marks c false) k
+some-marked [] zero few = refl
+some-marked [] (suc k) few = some-marked [] k (λ c l. refl)
+some-marked (b ∷ bs) zero few = rw (few 0 (omega arith)) (some-marked bs 0 (λ c l. few (suc c) (omega arith)))
+some-marked (b ∷ bs) (suc k) few = ap (λ (t : Bool). b || t) (some-marked bs k (λ c l. few (suc c) (omega arith))) ∙ sym (some-below-front (λ c. getD (b ∷ bs) c false) k)
+
+pub none-marked : (marks : List Bool) (c : ℕ) → any (λ (b : Bool). b) marks ≡ false → getD marks c false ≡ false
+none-marked [] c e = refl
+none-marked (b ∷ bs) zero e = or-false b (any (λ (t : Bool). t) bs) e .0
+none-marked (b ∷ bs) (suc c) e = none-marked bs c (or-false b (any (λ (t : Bool). t) bs) e .1)
 
 -- ---- no number below k passes a test
 pub none-below : (f : ℕ → Bool) (k c : ℕ) → someBelow f k ≡ false → c < k → f c ≡ false

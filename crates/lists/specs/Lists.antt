@@ -1,4 +1,4 @@
--- Tests over the elements of a list, the elements that pass one, how often a number stands in it, a value changed by each; and places of which the first are used.
+-- Tests over the elements of a list and their numbers, those that pass one, how often a number stands in it, a value changed by each; and places of which the first are used.
 use mathlib.Core.Path.{_≡_}
 use mathlib.Core.Bool.{Bool, true, false, cond, _&&_, _||_}
 use mathlib.Core.List.{List, [], _∷_, _++_}
@@ -35,6 +35,16 @@ someBelow f (suc k) = f k || someBelow f k
 abbrev pub keep : {A : Type 0} → (A → Bool) → List A → List A
 keep p [] = []
 keep p (x ∷ xs) = cond (p x) (x ∷ keep p xs) (keep p xs)
+
+-- the elements whose numbers pass the test, counted from k on
+abbrev pub keepFrom : {A : Type 0} → (ℕ → Bool) → ℕ → List A → List A
+keepFrom p k [] = []
+keepFrom p k (x ∷ xs) = cond (p k) (x ∷ keepFrom p (suc k) xs) (keepFrom p (suc k) xs)
+
+-- how many numbers below k pass the test
+abbrev pub countBelow : (ℕ → Bool) → ℕ → ℕ
+countBelow p zero = 0
+countBelow p (suc k) = countBelow p k + cond (p k) 1 0
 
 -- the elements before the first that passes the test
 abbrev pub beforeFirst : {A : Type 0} → (A → Bool) → List A → List A

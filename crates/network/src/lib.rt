@@ -1,8 +1,12 @@
-// A network of sites in one lent array of words: set-up, commit, dummy, epoch, deliver, schedule, waiting report, readers, the order of the sites, the origin of a read; and what else is read of a state.
+// A network of sites in one lent array of words: set-up, commit, dummy, epoch, deliver, schedule, collect, waiting report, readers, the order of the sites, the base, the origin of a read; and what else is read of a state.
+pub use network_base::base;
+pub use network_collect::collect;
 pub use network_commit::commit;
 pub use network_deliver::deliver;
 pub use network_dummy::dummy;
 pub use network_epoch::epoch;
+pub use network_layout::Based;
+pub use network_layout::Collected;
 pub use network_layout::Committed;
 pub use network_layout::Dummied;
 pub use network_layout::Entry;

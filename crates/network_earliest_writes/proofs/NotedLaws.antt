@@ -1,13 +1,13 @@
 -- The walk over the messages finds the earliest write of each item.
 use mathlib.Core.Path.{_≡_, refl, sym, ap, _∙_}
-use mathlib.Core.Bool.{Bool, true, false, cond, _&&_, _||_, true≢false}
+use mathlib.Core.Bool.{Bool, true, false, cond, true≢false}
 use mathlib.Core.List.{List, [], _∷_, map}
 use Prim.Native.Nat.{ℕ, _≤_, _<_}
 use native.Mathlib.Omega.{arith}
-use lib.ListN.{length, getD, set, replicate, length-set, length-replicate, getD-replicate, List·getD-eq-default}
-use lib.Seq.{set-out, set-getD, getD-set-same, getD-set-other}
-use lib.Dec.{eqb, ltb}
-use borrow.Author.Tests.{lt-ltb, le-ltb, ltb-true, ltb-false, eqb-true, eqb-false}
+use lib.ListN.{length, getD, set, replicate, length-replicate, getD-replicate, List·getD-eq-default}
+use lib.Seq.{set-out, set-getD}
+use lib.Dec.{ltb}
+use borrow.Author.Tests.{lt-ltb, le-ltb, ltb-true, ltb-false}
 use Rattle.limits.specs.Limits.{itemsMost, recordsMost}
 use Rattle.lists.specs.Lists.{any, keep, fold}
 use Rattle.lists.specs.Sorting.{sorted}
@@ -15,12 +15,10 @@ use Rattle.lists.proofs.Chains.{Each, each-all, each-keep}
 use Rattle.lists.proofs.Some.{some-kept, none-kept}
 use Rattle.lists.proofs.First.{former, first-sorted}
 use Rattle.timestamp_order.specs.Timestamp.{Stamp}
-use Rattle.site_operations.specs.Operations.{Op, noOp, writes, writesItem, writtenItem, touches}
+use Rattle.site_operations.specs.Operations.{touches}
+use Rattle.site_operations.proofs.ChangedItems.{changed-length, written-changed}
 use Rattle.messages.specs.Messages.{Message, commit, dummy, nameOf}
-use Rattle.record_codes.specs.Codes.{placesIn}
 use Rattle.records.specs.Records.{Record}
-use Rattle.records.specs.InWords.{recordIn}
-use Rattle.records.proofs.Laws.{op-at}
 use Rattle.protocol.specs.Network.{Network, noRecord, recordAt, noStamp, messageOps, messageStamp}
 use Rattle.protocol.specs.Waiting.{into, carries, noLater, earliestWrite}
 use Rattle.protocol.proofs.Places.{timesAt}
@@ -58,10 +56,6 @@ module _ (w : List ℕ) (at : AtState w) (m : Message) (x : ℕ) (is : x ≡ nam
   pub none-noted : length h ≤ x → (vs : List ℕ) → vs ≡ noteMessage (networkIn w) vs m
   none-noted high vs = sym (ap (λ (r : Record). noteOps (networkIn w) x vs (r .ops)) (List·getD-eq-default h noRecord {n = x} high)) ∙ message-noted vs
 
--- an operation of a record, in its words
-pub op-there : (ws : List ℕ) (q : Record) → recordIn ws ≡ q → (a : ℕ) → a < length (recordIn ws .ops) → getD (placesIn ws) a noOp ≡ getD (q .ops) a noOp
-op-there ws q meant a h = sym (op-at ws a h) ∙ ap (λ (p : Record). getD (p .ops) a noOp) meant
-
 module _ (n : Network) (r : ℕ) (vs : List ℕ) (item x : ℕ) (at : x ≡ item) where
   write-noted : (ws : List ℕ) → ws ≡ noteItem n r vs x → ws ≡ noteItem n r vs item
   write-noted ws e = e ∙ ap (noteItem n r vs) at
@@ -86,6 +80,9 @@ module _ (n : Network) where
   not-sooner r = sym (test-fails (stampAt n r) (stampAt n r) (upto-self (stampAt n r)))
 
   -- ---- what is noted of one item, where record r writes items
+  abbrev noting : ℕ → ℕ → ℕ
+  noting r noted = sooner n noted r
+
   module _ (r : ℕ) where
     sooner-self : sooner n r r ≡ r
     sooner-self = go (ltb r (length (n .history))) (isSooner n r r)
@@ -103,39 +100,9 @@ module _ (n : Network) where
         go true d false e = rw (d, e)
         go false d b e = sooner-self
 
-    module _ (x : ℕ) (few : x < itemsMost) where
-      item-noted : (vs : List ℕ) (o : Op) → x < length vs → getD (noteItem n r vs (writtenItem o)) x 0 ≡ cond (writesItem x o) (sooner n (getD vs x 0) r) (getD vs x 0)
-      item-noted vs o l = go (writes o) refl (eqb (o .item) x) refl
-        where
-          other : (y : ℕ) → (y ≡ x → ⊥) → getD (noteItem n r vs y) x 0 ≡ getD vs x 0
-          other y apart = getD-set-other vs y x (sooner n (getD vs y 0) r) 0 (λ e. apart (sym e))
-
-          go : (a : Bool) → writes o ≡ a → (b : Bool) → eqb (o .item) x ≡ b → getD (noteItem n r vs (cond a (o .item) itemsMost)) x 0 ≡ cond (a && b) (sooner n (getD vs x 0) r) (getD vs x 0)
-          go true d true e =
-              let same : o .item ≡ x = eqb-true (o .item) x e in
-              ap (λ (y : ℕ). getD (noteItem n r vs y) x 0) same ∙ getD-set-same vs x (sooner n (getD vs x 0) r) 0 l
-          go true d false e = other (o .item) (eqb-false (o .item) x e)
-          go false d b e = other itemsMost (λ z. omega (arith, z))
-
-      ops-noted : (vs : List ℕ) (os : List Op) → x < length vs → getD (noteOps n r vs os) x 0 ≡ cond (touches x os) (sooner n (getD vs x 0) r) (getD vs x 0)
-      ops-noted vs [] l = refl
-      ops-noted vs (o ∷ os) l =
-          ops-noted (noteItem n r vs (writtenItem o)) os (omega (arith, length-set vs (writtenItem o) (sooner n (getD vs (writtenItem o) 0) r)))
-          ∙ ap (λ (f : ℕ). cond (touches x os) (sooner n f r) f) (item-noted vs o l)
-          ∙ both (writesItem x o) (touches x os)
-        where
-          both : (a b : Bool) → let f = cond a (sooner n (getD vs x 0) r) (getD vs x 0) in cond b (sooner n f r) f ≡ cond (a || b) (sooner n (getD vs x 0) r) (getD vs x 0)
-          both true true = sooner-twice (getD vs x 0)
-          both true false = refl
-          both false b = refl
-
-  ops-length : (r : ℕ) (vs : List ℕ) (os : List Op) → length (noteOps n r vs os) ≡ length vs
-  ops-length r vs [] = refl
-  ops-length r vs (o ∷ os) = ops-length r (noteItem n r vs (writtenItem o)) os ∙ length-set vs (writtenItem o) (sooner n (getD vs (writtenItem o) 0) r)
-
   messages-length : (vs : List ℕ) (ms : List Message) → length (noteMessages n vs ms) ≡ length vs
   messages-length vs [] = refl
-  messages-length vs (m ∷ ms) = messages-length (noteMessage n vs m) ms ∙ ops-length (nameOf m) vs (messageOps (n .history) m)
+  messages-length vs (m ∷ ms) = messages-length (noteMessage n vs m) ms ∙ changed-length (noting (nameOf m)) vs (messageOps (n .history) m)
 
   -- ---- the records that messages name, one after another
   abbrev soonest : ℕ → List Message → ℕ
@@ -144,8 +111,8 @@ module _ (n : Network) where
   messages-noted : (x : ℕ) → x < itemsMost → (vs : List ℕ) (ms : List Message) → x < length vs → getD (noteMessages n vs ms) x 0 ≡ soonest (getD vs x 0) (keep (carries n x) ms)
   messages-noted x few vs [] l = refl
   messages-noted x few vs (m ∷ ms) l =
-      messages-noted x few (noteMessage n vs m) ms (omega (arith, ops-length (nameOf m) vs (messageOps (n .history) m)))
-      ∙ ap (λ (f : ℕ). soonest f (keep (carries n x) ms)) (ops-noted (nameOf m) x few vs (messageOps (n .history) m) l)
+      messages-noted x few (noteMessage n vs m) ms (omega (arith, changed-length (noting (nameOf m)) vs (messageOps (n .history) m)))
+      ∙ ap (λ (f : ℕ). soonest f (keep (carries n x) ms)) (written-changed (noting (nameOf m)) x few (sooner-twice (nameOf m)) vs (messageOps (n .history) m) l)
       ∙ go (carries n x m)
     where
       go : (b : Bool) → soonest (cond b (sooner n (getD vs x 0) (nameOf m)) (getD vs x 0)) (keep (carries n x) ms) ≡ soonest (getD vs x 0) (cond b (m ∷ keep (carries n x) ms) (keep (carries n x) ms))

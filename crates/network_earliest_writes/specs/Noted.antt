@@ -3,13 +3,14 @@ use mathlib.Core.Path.{_≡_}
 use mathlib.Core.Bool.{Bool, cond}
 use mathlib.Core.List.{List}
 use Prim.Native.Nat.{ℕ, _<_}
-use lib.ListN.{length, getD, set, replicate}
+use lib.ListN.{length, getD, replicate}
 use lib.Dec.{ltb}
 use Rattle.limits.specs.Limits.{itemsMost, recordsMost}
 use Rattle.lists.specs.Lists.{any, fold}
 use Rattle.timestamp_order.specs.Timestamp.{Stamp}
 use Rattle.timestamp_order.specs.Order.{orderBy, isEarlier}
-use Rattle.site_operations.specs.Operations.{Op, writtenItem}
+use Rattle.site_operations.specs.Operations.{Op}
+use Rattle.site_operations.specs.ChangedItems.{changeItem, changeWritten}
 use Rattle.lines.specs.Lines.{noLine}
 use Rattle.messages.specs.Messages.{Message, nameOf}
 use Rattle.protocol.specs.Network.{Network, nthRecord, messageOps, placeOf}
@@ -30,11 +31,11 @@ sooner n noted r = cond (ltb noted (length (n .history))) (cond (isSooner n r no
 
 -- r noted for item x
 abbrev pub noteItem : Network → ℕ → List ℕ → ℕ → List ℕ
-noteItem n r vs x = set vs x (sooner n (getD vs x 0) r)
+noteItem n r vs x = changeItem (λ noted. sooner n noted r) vs x
 
--- r noted for each item that operations write: of a read, `writtenItem` is no item's place
+-- r noted for each item that operations write
 abbrev pub noteOps : Network → ℕ → List ℕ → List Op → List ℕ
-noteOps n r vs os = fold (λ ws o. noteItem n r ws (writtenItem o)) vs os
+noteOps n r vs os = changeWritten (λ noted. sooner n noted r) vs os
 
 -- for each item that a message writes, that messages write one after another
 abbrev pub noteMessage : Network → List ℕ → Message → List ℕ

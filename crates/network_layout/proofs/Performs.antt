@@ -9,7 +9,10 @@ use lib.IntN.{ℤ}
 use lib.ListN.{length, getD, length-map, length-set, List·getD-eq-default}
 use lib.Dec.{ltb}
 use borrow.Author.Tests.{eq-eqb, ne-eqb, le-leb, lt-leb, leb-false, ltb-true, ltb-false}
+use mir.Val.{toZ}
+use mir.Syntax.{w32}
 use Rattle.words.specs.Words.{part}
+use Rattle.words.proofs.Parts.{part-length}
 use Rattle.words.proofs.Chunks.{chunks-length}
 use Rattle.lists.proofs.Every.{and-true}
 use Rattle.timestamp_order.specs.Timestamp.{Stamp}
@@ -22,7 +25,7 @@ use Rattle.limits.specs.Limits.{itemsMost, sitesMost}
 use Rattle.placement.proofs.Items.{items-length, items-at}
 use Rattle.lines.specs.InWords.{lineIn, lineSize}
 use Rattle.records.specs.InWords.{recordIn, recordSize}
-use Rattle.network_layout.specs.Layout.{itemsAt, itemsSize, sitesAt, sitesSize, linesAt, linesSize, historyAt, historySize}
+use Rattle.network_layout.specs.Layout.{itemsAt, itemsSize, sitesAt, sitesSize, linesAt, linesSize, historyAt, historySize, baseAt, baseSize, stateSize}
 use Rattle.protocol.specs.Network.{linesMost, Network, noStamp, siteAt, wellShaped}
 use Rattle.protocol.specs.Steps.{noSuchSite}
 use Rattle.protocol.specs.Calls.{Call, Outcome, refused, judged, perform}
@@ -150,6 +153,13 @@ few-sites w e = omega (arith, sites-count w, range-parts w e .few-sites)
 pub site-step-below : (w v : List ℕ) (i : ℕ) (step : Site → Site) → SiteStep w v i step → getD v 0 0 ≡ getD w 0 0
 site-step-below w v i step s =
     sym (sites-count v) ∙ ap (λ (n : Network). length (n .sites)) (s .meant) ∙ length-set (networkIn w .sites) i (step (siteAt (networkIn w) i)) ∙ sites-count w
+
+-- ---- a base value for each item
+pub values-count : (w : List ℕ) → length w ≡ stateSize → inRange w ≡ true → length (networkIn w .base .values) ≡ getD w 1 0
+unfolding networkIn partsOf
+values-count w size e =
+    let base = part w baseAt baseSize in
+    length-map (part base 1 (getD w 1 0)) (toZ w32) ∙ part-length base 1 (getD w 1 0) (omega (arith, part-length w baseAt baseSize (omega arith), range-parts w e .few-items))
 
 -- ---- one item of the placement
 module _ (w : List ℕ) (k : ℕ) where

@@ -8,10 +8,10 @@ use Rattle.protocol.specs.Network.{Network}
 use Rattle.protocol.specs.Calls.{Call, setUp, Outcome, perform}
 use Rattle.network_layout.specs.InWords.{inRange, shaped, meaning}
 use Rattle.network_layout.specs.Promises.{Performed}
-use Rattle.protocol.specs.Agreement.{Known, nothingKnown, witnessed, learnedAll, Always, Agreement, AgreedOrUnset, OneCopyAgreement, FromNothing}
-use Rattle.network_layout.specs.Played.{Event, Played, seenOf, witnessedAll, leftAfter, PlayedAlways, PlayedAgreement, PlayedFromNothing}
-use Rattle.protocol.proofs.Theorem.{one-copy-agreement}
-use Rattle.protocol.proofs.Beside.{from-nothing}
+use Rattle.protocol.specs.Agreement.{Known, nothingKnown, witnessed, learnedAll, Always, Agreement, AgreedOrUnset, OneCopyAgreement, FromNothing, No6, Never6, LaterStay, NoneAtOrBefore, KeptRuns, KeptRun}
+use Rattle.network_layout.specs.Played.{Event, Played, seenOf, witnessedAll, leftAfter, PlayedAlways, PlayedAgreement, PlayedBeside, PlayedFromNothing}
+use Rattle.protocol.proofs.Theorem.{one-copy-agreement, kept-run}
+use Rattle.protocol.proofs.Beside.{from-nothing, never-6, none-at-or-before}
 use Rattle.network_layout.specs.Layout.{stateSize}
 
 abbrev calls : List Event → List Call
@@ -40,6 +40,15 @@ played-always holdsOf theorem w e es sites items primaries masks c z (p, ps) =
 pub one-copy-played : PlayedAgreement
 unfolding OneCopyAgreement PlayedAgreement
 one-copy-played = played-always Agreement one-copy-agreement
+
+pub beside-played : PlayedBeside
+unfolding Never6 NoneAtOrBefore KeptRun
+beside-played =
+    record {
+      never-6 = played-always No6 never-6;
+      none-at-or-before = played-always LaterStay none-at-or-before;
+      kept-run = played-always KeptRuns kept-run;
+    }
 
 -- the state that is known then is what the words left mean
 pub state-left : (w : List ℕ) (k : Known) (es : List Event) → k .state ≡ meaning w → witnessedAll k es .state ≡ meaning (leftAfter w es)

@@ -1,4 +1,4 @@
--- The layout of a state in words: its head, the placement, the sites, the lines, the history.
+-- The layout of a state in words: its head, the placement, the sites, the lines, the history, the base.
 use mathlib.Core.List.{List}
 use Prim.Native.Nat.{ℕ, _+_, _*_}
 use lib.ListN.{getD}
@@ -46,5 +46,12 @@ historyAt = linesAt + linesSize
 abbrev pub historySize : ℕ
 historySize = recordsMost * recordSize
 
+abbrev pub baseAt : ℕ
+baseAt = historyAt + historySize
+
+-- whether commits have been removed, and a value for each item
+abbrev pub baseSize : ℕ
+baseSize = 1 + itemsMost
+
 abbrev pub stateSize : ℕ
-stateSize = historyAt + historySize
+stateSize = baseAt + baseSize

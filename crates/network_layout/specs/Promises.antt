@@ -13,7 +13,7 @@ use Rattle.network_layout.specs.declared.Committed.{Committed}
 use Rattle.network_layout.specs.declared.Dummied.{Dummied}
 use Rattle.network_layout.specs.declared.Scheduled.{Scheduled}
 use Rattle.network_layout.specs.declared.Origin.{Origin}
-use Rattle.network_layout.specs.declared.Origin.the-variants.{Refused, Start, Commit}
+use Rattle.network_layout.specs.declared.Origin.the-variants.{Refused, Start, Folded, Commit}
 use Rattle.network_layout.specs.InWords.{meaning}
 
 pub record Performed (call : Call) (entry exit : List ℕ) (number parent : ℕ) (stamp : Stamp) (values : List ℤ) : Type 0 where
@@ -44,4 +44,5 @@ pub record ScheduleAnswered (site : ℕ) (entry exit : List ℕ) (r : Scheduled)
 abbrev pub originNumber : Origin → ℕ
 originNumber (Refused number) = number
 originNumber Start = 0
+originNumber Folded = 0
 originNumber (Commit k) = 0

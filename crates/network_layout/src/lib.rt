@@ -60,10 +60,11 @@ pub struct Lined {
     pub arrived: usize,
 }
 
-// Where the value of a read came from: the write of a commit, named by its record number, or the start value; or the number for which the call is refused.
+// Where the value of a read came from: the write of a commit, named by its record number; the start value, or a base value where commits have been removed and the writer may be among them; or the number for which the call is refused.
 pub enum Origin {
     Refused(u32),
     Start,
+    Folded,
     Commit(u32),
 }
 
@@ -71,6 +72,20 @@ pub enum Origin {
 pub struct Ordered {
     pub number: u32,
     pub places: [u8; SITES_WIDE],
+}
+
+// What a collect answers: its number, and how many records it removed; 0 where refused.
+pub struct Collected {
+    pub number: u32,
+    pub removed: u32,
+}
+
+// What the base answers: its number, whether a collect has removed a record since set-up, and a value for each of `count` items; all zero where refused.
+pub struct Based {
+    pub number: u32,
+    pub folded: bool,
+    pub count: usize,
+    pub values: [i32; ITEMS_WIDE],
 }
 
 // How many sites, items and records a state holds.
@@ -113,5 +128,10 @@ pub const HISTORY: usize = LINES + LINES_MOST * LINE;
 
 pub const RECORD: usize = records::WORDS;
 
+// Where the base has whether a collect has removed a record since set-up, and the value of each item.
+pub const FOLDED: usize = HISTORY + RECORDS_WIDE * RECORD;
+
+pub const BASE: usize = FOLDED + 1;
+
 // The words of a state.
-pub const WORDS: usize = HISTORY + RECORDS_WIDE * RECORD;
+pub const WORDS: usize = BASE + ITEMS_WIDE;

@@ -2,15 +2,14 @@
 use mathlib.Core.Path.{_≡_, refl, sym, ap, _∙_}
 use mathlib.Core.Bool.{Bool, true, false, _&&_, _||_, and-false, false≢true}
 use mathlib.Core.List.{List, [], _∷_, map}
-use Prim.Native.Nat.{ℕ, zero, suc, _*_, _/_, _%_, _≤_, _<_}
+use Prim.Native.Nat.{ℕ, _*_, _/_, _%_, _≤_, _<_}
 use native.Mathlib.Omega.{arith}
-use native.Mathlib.Nat.{not-suc-le-zero}
-use lib.ListN.{length, getD, take, drop, length-map, List·getD-map}
+use lib.ListN.{length, getD, length-map, List·getD-map}
 use lib.Dec.{leb, eqb}
 use borrow.Author.Tests.{lt-ltb, le-ltb, le-leb, lt-leb, leb-true, leb-false, eq-eqb, ne-eqb}
 use Rattle.words.specs.Words.{part, chunks}
 use Rattle.lists.specs.Lists.{every, isEmpty}
-use Rattle.words.proofs.Chunks.{chunks-length, chunks-at}
+use Rattle.words.proofs.Chunks.{chunks-length, chunks-at, chunks-take}
 use Rattle.lists.proofs.Every.{and-true}
 use Rattle.timestamp_order.specs.Order.{rank}
 use Rattle.timestamp_words.specs.InWords.{stampSize, stampShaped}
@@ -50,12 +49,6 @@ module _ (place : ℕ → ℕ) (w : List ℕ) (p : ℕ) (h : List Record) (name 
   message-named g r e = e ∙ sym (rw (← is, lt-ltb name recordsMost g))
 
 -- ---- one line
-chunks-take : (m n k : ℕ) (w : List ℕ) → n ≤ k → take n (chunks m k w) ≡ chunks m n w
-unfolding chunks
-chunks-take m zero k w h = refl
-chunks-take m (suc n) zero w h = absurd (not-suc-le-zero h)
-chunks-take m (suc n) (suc k) w h = ap (λ (cs : List (List ℕ)). take m w ∷ cs) (chunks-take m n k (drop m w) (omega arith))
-
 some-held : {A : Type 0} (l : List A) → 0 < length l → isEmpty l ≡ false
 some-held [] h = absurd (omega arith)
 some-held (x ∷ xs) h = refl

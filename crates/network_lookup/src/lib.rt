@@ -1,4 +1,4 @@
-// What a reader answers where nothing refuses it: the table of a site and the two counts of a line, by number.
+// What a reader answers where nothing refuses it: the table of a site and the two counts of a line, by number; and values in words.
 use limits::ITEMS_WIDE;
 use network_layout::Lined;
 use network_layout::Tabled;
@@ -30,7 +30,7 @@ pub fn table_at(state: &[u32], i: usize) -> Tabled
 }
 
 // The values of the first n words; the places past them are 0.
-fn values(w: &[u32], n: usize) -> [i32; ITEMS_WIDE]
+pub fn values(w: &[u32], n: usize) -> [i32; ITEMS_WIDE]
     requires { ⌜ Values (now w) n ⌝ }
     ensures { λ r. ⌜ r ≡ padded itemsMost (pos 0) (take n (tableIn (now (w .entry)))) ⌝ }
 {

@@ -10,14 +10,14 @@ use Rattle.limits.specs.Limits.{sitesMost, itemsMost}
 use Rattle.site.specs.InWords.{siteIn, siteRange, siteSize}
 use Rattle.placement.specs.Placement.{Item}
 use Rattle.lines.specs.Lines.{noLine}
-use Rattle.protocol.specs.Network.{linesMost, Network}
+use Rattle.protocol.specs.Network.{linesMost, Network, startBase}
 use Rattle.protocol.specs.Steps.{startSites}
 use Rattle.network_layout.specs.Layout.{stateSize, itemsSize, sitesSize}
 use Rattle.network_layout.specs.InWords.{networkIn, inRange}
 
--- so many sites at their start, these items, nothing on the lines and nothing recorded
+-- so many sites at their start, these items, nothing on the lines, nothing recorded and no base value but 0
 abbrev pub newNetwork : ℕ → List Item → Network
-newNetwork sites xs = record { sites = startSites 0 sites; items = xs; lines = replicate linesMost noLine; history = [] }
+newNetwork sites xs = record { sites = startSites 0 sites; items = xs; lines = replicate linesMost noLine; history = []; base = startBase (length xs) }
 
 -- its words
 pub record Begun (w : List ℕ) (sites : ℕ) (xs : List Item) : Type 0 where

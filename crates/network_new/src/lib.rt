@@ -1,5 +1,6 @@
-// The words of a new network: its counts, its placement, its sites at their start and its lines empty. What means nothing stays as it was.
+// The words of a new network: its counts, its placement, its sites at their start, its lines empty and no base value but 0. What else means nothing stays as it was.
 use limits::SITES_WIDE;
+use network_layout::FOLDED;
 use network_layout::ITEM_COUNT;
 use network_layout::ITEMS;
 use network_layout::LINES;
@@ -7,6 +8,7 @@ use network_layout::RECORD_COUNT;
 use network_layout::SITE;
 use network_layout::SITE_COUNT;
 use network_layout::SITES;
+use network_layout::WORDS;
 ghost use Prim.Native.Nat.{_+_};
 ghost use Rattle.placement.specs.InWords.{itemsIn};
 ghost use Rattle.network_layout.specs.Layout.{sitesSize};
@@ -15,6 +17,9 @@ ghost use Rattle.network_new.specs.New.{Begun, Started, LayingOut, Start
 
 // How many words the sites take.
 const SITES_WORDS: usize = SITES_WIDE * SITE;
+
+// How many words the base takes.
+const BASE_WORDS: usize = WORDS - FOLDED;
 
 // The words of a new network of these sites and items.
 pub fn lay_out(state: &mut [u32], sites: u32, items: u32, placed: &[u32])
@@ -27,6 +32,8 @@ pub fn lay_out(state: &mut [u32], sites: u32, items: u32, placed: &[u32])
     words::lay(state, ITEMS, placed);
     start_at(state, SITES, sites);
     network_new_lines::clear_at(state, LINES);
+    let zeros = [0u32; BASE_WORDS];
+    words::lay(state, FOLDED, &zeros);
 }
 
 // ---- the sites

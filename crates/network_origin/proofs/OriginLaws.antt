@@ -1,6 +1,6 @@
 -- The origin of a read: refused, or what was found.
 use mathlib.Core.Path.{_≡_, refl, sym, ap, _∙_}
-use mathlib.Core.Bool.{true, false, true≢false}
+use mathlib.Core.Bool.{Bool, true, false, true≢false}
 use mathlib.Core.List.{List}
 use mathlib.Core.Option.{Option, none, some}
 use Prim.Native.Nat.{ℕ}
@@ -17,13 +17,14 @@ use Rattle.network_layout.specs.At.{AtNetwork}
 use Rattle.network_layout.specs.Promises.{originNumber}
 use Rattle.network_layout.proofs.Performs.{number-unshaped, number-shaped}
 use Rattle.network_layout.proofs.Questions.{asked}
-use Rattle.network_writers.specs.Writers.{OnRecord, writerOf, LastSoFar}
+use Rattle.network_writers.specs.Writers.{OnRecord, writerOf, LastSoFar, isWriter}
 use Rattle.network_origin.specs.Answer.{named, originIn, OriginAnswered}
 
 -- what is named is not refused
-named-accepted : (o : Option ℕ) → originNumber (named o) ≡ 0
-named-accepted none = refl
-named-accepted (some m) = refl
+named-accepted : (folded : Bool) (o : Option ℕ) → originNumber (named folded o) ≡ 0
+named-accepted true none = refl
+named-accepted false none = refl
+named-accepted folded (some m) = refl
 
 module _ (w : List ℕ) (k a : ℕ) where
   pub origin-unshaped : shaped w ≡ false → OriginAnswered k a w (Refused 6)
@@ -46,14 +47,16 @@ module _ (w : List ℕ) (k a : ℕ) where
       reader-there = record { net = net; there = read-there (networkIn w) k a z .commit }
 
       -- an origin that is right for the read is what is answered
-      by-origin : (o : Option ℕ) → FoundFor (networkIn w) k a o → OriginAnswered k a w (named o)
+      by-origin : (o : Option ℕ) → FoundFor (networkIn w) k a o → OriginAnswered k a w (named (networkIn w .base .folded) o)
       unfolding meaning questionNumber OriginLast
       by-origin o f =
           let is : o ≡ originOf (networkIn w) k a = origin-last (networkIn w) k a z .alone o f in
-          by-number (named o) 0 (sym z) (named-accepted o) (rw (net .formed, z) (ap named is))
+          let folded = networkIn w .base .folded in
+          by-number (named folded o) 0 (sym z) (named-accepted folded o) (rw (net .formed, z) (ap (named folded) is))
 
       pub origin-own : ownWrite (networkIn w) k a ≡ true → OriginAnswered k a w (Commit k)
       origin-own e = by-origin (some k) (record { own = λ t. refl; other = λ t. absurd (true≢false (sym e ∙ t)) })
 
-      pub origin-found : ownWrite (networkIn w) k a ≡ false → (b : ℕ) → LastSoFar (networkIn w) k (nthOp (networkIn w) k a .item) (length (networkIn w .history)) b → OriginAnswered k a w (named (writerOf b))
+      pub origin-found : ownWrite (networkIn w) k a ≡ false → (b : ℕ) → LastSoFar (networkIn w) (isWriter (networkIn w) k (nthOp (networkIn w) k a .item)) (length (networkIn w .history)) b
+          → OriginAnswered k a w (named (networkIn w .base .folded) (writerOf b))
       origin-found e b f = by-origin (writerOf b) (record { own = λ t. absurd (true≢false (sym t ∙ e)); other = λ t. f .found })

@@ -13,7 +13,7 @@ use Rattle.protocol.specs.Agreement.{nothingKnown, Agreement}
 use Rattle.origins.specs.Origin.{originOf}
 use Rattle.origins.specs.Statements.{Traced, AllTraced, OriginTrue}
 use Rattle.origins.proofs.Traced.{origin-true}
-use Rattle.network_layout.specs.declared.Origin.the-variants.{Refused}
+use Rattle.network_layout.specs.declared.Origin.the-variants.{Refused, Start, Folded}
 use Rattle.network_layout.specs.InWords.{meaning}
 use Rattle.network_layout.specs.Played.{witnessedAll, leftAfter, PlayedAgreement}
 use Rattle.network_layout.proofs.Played.{played-always, one-copy-played, state-left}
@@ -22,9 +22,13 @@ use Rattle.network_origin.specs.Played.{Told, PlayedOrigins}
 
 -- ---- what is answered of one network
 module _ (n : Network) (k a : ℕ) where
-  named-told : (o : Option ℕ) → Traced n k a o → Told n k a (named o)
-  named-told none t = t
+  named-told : (o : Option ℕ) → Traced n k a o → Told n k a (named (n .base .folded) o)
   named-told (some m) t = t
+  named-told none t = go (n .base .folded) refl
+    where
+      go : (b : Bool) → n .base .folded ≡ b → Told n k a (cond b Folded Start)
+      go true e = (e, t .0)
+      go false e = t .1 e
 
   refused-26 : (b : Bool) → eqb (numberIf b 26) 0 ≡ false → numberIf b 26 ≡ 26
   refused-26 true e = refl
@@ -34,7 +38,7 @@ module _ (n : Network) (k a : ℕ) where
   unfolding questionNumber
   answer-told true-of = go (eqb (questionNumber n (origin k a)) 0) refl
     where
-      go : (b : Bool) → eqb (questionNumber n (origin k a)) 0 ≡ b → Told n k a (cond b (named (originOf n k a)) (Refused (questionNumber n (origin k a))))
+      go : (b : Bool) → eqb (questionNumber n (origin k a)) 0 ≡ b → Told n k a (cond b (named (n .base .folded) (originOf n k a)) (Refused (questionNumber n (origin k a))))
       go true e = named-told (originOf n k a) (true-of (eqb-true (questionNumber n (origin k a)) 0 e))
       go false e = refused-26 (noSuchRead n k a) e
 

@@ -10,7 +10,7 @@ ghost use Rattle.network_writers.specs.Writers.{writerOf};
 ghost use Rattle.network_origin.specs.Answer.{named as namedIn, OriginAnswered};
 
 // The origin of a read, by the number of its record and of the operation in it. It answers the record's own number where an operation before the read writes the
-// item; else that of the last commit before the reader in timestamp order that writes it, or that the value is the start value.
+// item; else that of the last commit before the reader in timestamp order that writes it; else that the value is the start value, or folded where records have been removed.
 pub fn origin(state: &[u32; WORDS], reader: u32, operation: u32) -> Origin
     ensures { λ r. ⌜ OriginAnswered reader operation (now (state .entry)) r ⌝ }
 {
@@ -39,15 +39,19 @@ fn origin_on(state: &[u32], reader: u32, operation: u32) -> Origin
     if network_writers::own_write(state, reader, read.item, operation) {
         return Origin::Commit(reader);
     }
-    named(network_writers::last_writer(state, reader, read.item))
+    let writer = network_writers::last_writer(state, reader, read.item);
+    named(network_records::is_folded(state), writer)
 }
 
-// A record's number, or the start value where no record has it.
-fn named(writer: u32) -> Origin
-    ensures { λ r. ⌜ r ≡ namedIn (writerOf writer) ⌝ }
+// A record's number; where no record has it the start value, or folded where records have been removed.
+fn named(folded: bool, writer: u32) -> Origin
+    ensures { λ r. ⌜ r ≡ namedIn folded (writerOf writer) ⌝ }
 {
     if writer < RECORDS {
         return Origin::Commit(writer);
+    }
+    if folded {
+        return Origin::Folded;
     }
     Origin::Start
 }

@@ -1,5 +1,6 @@
 // The records of a state by their numbers.
 use limits::SITES_WIDE;
+use network_layout::FOLDED;
 use network_layout::HISTORY;
 use network_layout::RECORD;
 use network_layout::RECORD_COUNT;
@@ -32,6 +33,14 @@ pub fn record_count(state: &[u32]) -> u32
     ensures { λ r. ⌜ r ≡ recordCount (now (state .entry)) ⌝ }
 {
     state[RECORD_COUNT]
+}
+
+// Whether some have been removed since set-up.
+pub fn is_folded(state: &[u32]) -> bool
+    requires { ⌜ length (now state) ≡ stateSize ⌝ }
+    ensures { λ r. ⌜ r ≡ networkIn (now (state .entry)) .base .folded ⌝ }
+{
+    state[FOLDED] != 0
 }
 
 // The words of record k.

@@ -4,12 +4,15 @@ use mathlib.Core.Bool.{Bool, true, false, not, _&&_, and-comm}
 use mathlib.Core.List.{List, [], _∷_, map}
 use Prim.Native.Nat.{ℕ, zero, suc, _+_, _-_, _*_, _≤_, _<_, min}
 use native.Mathlib.Omega.{arith}
-use lib.ListN.{length, length-map}
+use lib.ListN.{length, getD, length-map}
 use lib.Dec.{leb, eqb, ltb}
-use borrow.Author.Tests.{leb-true, ltb-true, ltb-false, eq-eqb, eqb-true}
+use borrow.Author.Tests.{leb-true, ltb-true, ltb-false, eq-eqb, ne-eqb, eqb-true}
+use mir.Val.{toZ}
+use mir.Syntax.{w32}
 use Rattle.words.specs.Words.{part, chunks}
 use Rattle.lists.specs.Lists.{any, every, everyFrom}
 use Rattle.lists.specs.Numbers.{firstNumber, numberIf}
+use Rattle.words.proofs.Parts.{part-getD, part-part}
 use Rattle.words.proofs.Chunks.{chunks-length}
 use Rattle.lists.proofs.Every.{and-true}
 use Rattle.timestamp_order.specs.Timestamp.{Stamp}
@@ -19,6 +22,7 @@ use Rattle.timestamp_order.specs.Made.{madeBy}
 use Rattle.site.specs.Site.{Site}
 use Rattle.site.specs.InWords.{siteIn, siteRange, siteSize}
 use Rattle.site.proofs.Laws.{stamp-law}
+use Rattle.site_operations.specs.InWords.{tableIn}
 use Rattle.placement.specs.Placement.{Item, itemsNumber, LineBits}
 use Rattle.placement.specs.Places.{cyclic, placementNumber}
 use Rattle.placement.specs.InWords.{itemSize, itemIn, itemsIn}
@@ -28,14 +32,14 @@ use Rattle.limits.specs.Limits.{itemsMost, sitesMost, recordsMost}
 use Rattle.lines.specs.InWords.{lineIn, lineSize, lineRange}
 use Rattle.records.specs.Records.{Record, recordFits}
 use Rattle.records.specs.InWords.{recordIn, recordRange, recordSize}
-use Rattle.network_layout.specs.Layout.{siteCount, itemCount, recordCount, itemsAt, itemsSize, sitesAt, sitesSize, linesAt, linesSize, historyAt, historySize, stateSize}
-use Rattle.protocol.specs.Network.{linesMost, placeOf, lineFits, wellShaped}
-use Rattle.network_layout.specs.InWords.{siteWords, lineWords, recordWords, networkIn, inRange, shaped}
+use Rattle.network_layout.specs.Layout.{siteCount, itemCount, recordCount, itemsAt, itemsSize, sitesAt, sitesSize, linesAt, linesSize, historyAt, historySize, baseAt, baseSize, stateSize}
+use Rattle.protocol.specs.Network.{linesMost, placeOf, lineFits, isZero, baseFits, wellShaped}
+use Rattle.network_layout.specs.InWords.{siteWords, lineWords, recordWords, baseIn, networkIn, inRange, shaped}
 use Rattle.network_counts.specs.Counts.{countsFit}
 use Rattle.network_line_shape.specs.LineTests.{lineTest, historyIn}
 use Rattle.network_line_shape.proofs.Walk.{Passed, walk-next, and-swap, and-pairs, from-both, every-both}
 use Rattle.network_line_shape.proofs.LineLaws.{line-empty}
-use Rattle.network_shape.specs.Tested.{recordTest, placedIn, groupShaped, sitesShaped, historyShaped, linesShaped, rankedShaped, Counted, Ranked, idle, Skipped}
+use Rattle.network_shape.specs.Tested.{recordTest, isZeroWord, placedIn, groupShaped, sitesShaped, historyShaped, linesShaped, baseShaped, rankedShaped, Counted, Ranked, idle, Skipped}
 
 -- a record's test asks for its size too, and a chunk has it
 pub record-sized : (place : ℕ → ℕ) (sites items : ℕ) (x : List ℕ) → length x ≡ recordSize → (r : Bool) → r ≡ (eqb (length x) recordSize && recordTest place sites items x) → r ≡ recordTest place sites items x
@@ -77,22 +81,24 @@ and-assoc : (a b c : Bool) → (a && (b && c)) ≡ ((a && b) && c)
 and-assoc true b c = refl
 and-assoc false b c = refl
 
-and-whole : (a b c d e s l r p q s′ r′ l′ : Bool) → ((a && (b && (c && (d && (e && (s && (l && r))))))) && ((p && q) && (s′ && (r′ && l′))))
-    ≡ (((a && (b && (c && (d && e)))) && p) && (q && ((s && s′) && ((r && r′) && (l && l′)))))
-and-whole true true true true true s l r p q s′ r′ l′ =
+and-whole : (a b c d e s l r p q s′ r′ l′ v : Bool) → ((a && (b && (c && (d && (e && (s && (l && r))))))) && ((p && q) && (s′ && (r′ && (l′ && v)))))
+    ≡ (((a && (b && (c && (d && e)))) && p) && (q && ((s && s′) && ((r && r′) && ((l && l′) && v)))))
+and-whole true true true true true s l r p q s′ r′ l′ v =
     let ranges = s && (l && r) in
-    let rest = s′ && (r′ && l′) in
+    let rest = s′ && (r′ && (l′ && v)) in
     ap (λ (x : Bool). ranges && x) (sym (and-assoc p q rest))
     ∙ and-swap ranges p (q && rest)
     ∙ ap (λ (x : Bool). p && x)
     (and-swap ranges q rest
     ∙ ap (λ (x : Bool). q && x)
-    (and-pairs s (l && r) s′ (r′ && l′) ∙ ap (λ (x : Bool). (s && s′) && x) (ap (λ (x : Bool). x && (r′ && l′)) (and-comm l r) ∙ and-pairs r l r′ l′)))
-and-whole true true true true false s l r p q s′ r′ l′ = refl
-and-whole true true true false e s l r p q s′ r′ l′ = refl
-and-whole true true false d e s l r p q s′ r′ l′ = refl
-and-whole true false c d e s l r p q s′ r′ l′ = refl
-and-whole false b c d e s l r p q s′ r′ l′ = refl
+    (and-pairs s (l && r) s′ (r′ && (l′ && v))
+    ∙ ap (λ (x : Bool). (s && s′) && x)
+    (ap (λ (x : Bool). x && (r′ && (l′ && v))) (and-comm l r) ∙ and-pairs r l r′ (l′ && v) ∙ ap (λ (x : Bool). (r && r′) && x) (and-assoc l l′ v))))
+and-whole true true true true false s l r p q s′ r′ l′ v = refl
+and-whole true true true false e s l r p q s′ r′ l′ v = refl
+and-whole true true false d e s l r p q s′ r′ l′ v = refl
+and-whole true false c d e s l r p q s′ r′ l′ v = refl
+and-whole false b c d e s l r p q s′ r′ l′ v = refl
 
 site-test : (place : ℕ → ℕ) (i : ℕ) (x : List ℕ) → stampShaped place i x ≡ (siteRange x && madeBy place i (siteIn x .stamp))
 unfolding stampShaped siteRange
@@ -108,6 +114,18 @@ placement-test sites xs = go (eqb (itemsNumber sites xs) 0) refl (cyclic xs) ref
     go true e false f = simp (e, f)
     go false e c f = simp (e)
 
+-- the value of a word is 0 where the word is
+zero-word : (v : ℕ) → isZero (toZ w32 v) ≡ isZeroWord v
+zero-word v = go (ltb v 2147483648) refl
+  where
+    go : (b : Bool) → ltb v 2147483648 ≡ b → isZero (toZ w32 v) ≡ isZeroWord v
+    go true e = rw e
+    go false e = let large = ltb-false v 2147483648 e in rw (e, ne-eqb v 0 (λ z. omega (arith, z, large)))
+
+zeros-meant : (ys : List ℕ) → every isZero (tableIn ys) ≡ every isZeroWord ys
+zeros-meant [] = refl
+zeros-meant (v ∷ vs) = ap₂ (λ (a b : Bool). a && b) (zero-word v) (zeros-meant vs)
+
 module _ (w : List ℕ) where
   abbrev history : List Record
   history = historyIn (part w historyAt historySize) (recordCount w)
@@ -119,7 +137,7 @@ module _ (w : List ℕ) where
   place = placeOf (placedIn w)
 
   shape-is : shaped w ≡ (groupShaped w && (not (cyclic (placedIn w)) && rankedShaped place w))
-  unfolding shaped inRange wellShaped networkIn groupShaped sitesShaped historyShaped linesShaped
+  unfolding shaped inRange wellShaped networkIn groupShaped sitesShaped historyShaped linesShaped baseShaped
   shape-is =
       rw (
         length-map (siteWords w) siteIn ∙ chunks-length siteSize (siteCount w) (part w sitesAt sitesSize),
@@ -142,7 +160,8 @@ module _ (w : List ℕ) where
       (not (cyclic (placedIn w)))
       (everyFrom (λ (i : ℕ) (s : Site). madeBy place i (s .stamp)) 0 (map siteIn (siteWords w)))
       (every (recordFits place (siteCount w) (itemCount w)) history)
-      (everyFrom (lineFits (placedIn w) history) 0 (map lineIn (lineWords w))))
+      (everyFrom (lineFits (placedIn w) history) 0 (map lineIn (lineWords w)))
+      (baseFits (baseIn (itemCount w) (part w baseAt baseSize))))
 
   all-counted : length w ≡ stateSize → counts ≡ true → Counted w
   all-counted size e =
@@ -203,20 +222,30 @@ module _ (w : List ℕ) where
         let all : min items itemsMost ≡ itemCount w = omega arith in
         ap (λ (k : ℕ). eqb k 0) (e ∙ ap₂ (λ (k : ℕ) (x : List ℕ). itemsNumber (siteCount w) (itemsIn k x)) all placed-is) ∙ sym (rw (sym fit-is ∙ t))
 
-  -- ---- the sites, the history and the lines, one after another
+  -- ---- the sites, the history, the lines and the base, one after another
   module _ (place : ℕ → ℕ) where
+    abbrev lined : Bool
+    lined = linesShaped w && baseShaped w
+
     pub sites-unfit : sitesShaped place w ≡ false → false ≡ rankedShaped place w
-    sites-unfit f = sym (ap (λ (b : Bool). b && (historyShaped place w && linesShaped w)) f)
+    sites-unfit f = sym (ap (λ (b : Bool). b && (historyShaped place w && lined)) f)
 
     module _ (sites : sitesShaped place w ≡ true) where
-      by-sites : rankedShaped place w ≡ (historyShaped place w && linesShaped w)
-      by-sites = ap (λ (b : Bool). b && (historyShaped place w && linesShaped w)) sites
+      by-sites : rankedShaped place w ≡ (historyShaped place w && lined)
+      by-sites = ap (λ (b : Bool). b && (historyShaped place w && lined)) sites
 
       pub history-unfit : historyShaped place w ≡ false → false ≡ rankedShaped place w
-      history-unfit f = sym (by-sites ∙ ap (λ (b : Bool). b && linesShaped w) f)
+      history-unfit f = sym (by-sites ∙ ap (λ (b : Bool). b && lined) f)
 
-      pub ranked-by-lines : historyShaped place w ≡ true → linesShaped w ≡ rankedShaped place w
-      ranked-by-lines t = sym (by-sites ∙ ap (λ (b : Bool). b && linesShaped w) t)
+      module _ (records : historyShaped place w ≡ true) where
+        by-history : rankedShaped place w ≡ lined
+        by-history = by-sites ∙ ap (λ (b : Bool). b && lined) records
+
+        pub lines-unfit : linesShaped w ≡ false → false ≡ rankedShaped place w
+        lines-unfit f = sym (by-history ∙ ap (λ (b : Bool). b && baseShaped w) f)
+
+        pub ranked-by-base : linesShaped w ≡ true → baseShaped w ≡ rankedShaped place w
+        ranked-by-base t = sym (by-history ∙ ap (λ (b : Bool). b && baseShaped w) t)
 
   -- ---- the history and the lines, as they are asked for
   pub history-asked : (place : ℕ → ℕ) (made : ℕ) → made ≡ recordCount w → (kept : List ℕ) → kept ≡ part w historyAt historySize → (r : Bool) → r ≡ every (recordTest place (siteCount w) (itemCount w)) (chunks recordSize made kept) → r ≡ historyShaped place w
@@ -226,3 +255,19 @@ module _ (w : List ℕ) where
   pub lines-asked : (lined : List ℕ) → lined ≡ part w linesAt linesSize → (kept : List ℕ) → kept ≡ part w historyAt historySize → (r : Bool) → r ≡ everyFrom (lineTest (placedIn w) (historyIn kept (recordCount w))) 0 (chunks lineSize linesMost lined) → r ≡ linesShaped w
   unfolding linesShaped
   lines-asked lined le kept ke r f = f ∙ rw (le, ke)
+
+  -- ---- the base, by its flag and its values
+  module _ (flag : ℕ) (flag-is : flag ≡ getD w baseAt 0) where
+    flag-read : flag ≡ getD (part w baseAt baseSize) 0 0
+    flag-read = flag-is ∙ sym (part-getD w baseAt baseSize 0 (omega arith))
+
+    pub base-folded : (flag ≡ 0 → ⊥) → true ≡ baseShaped w
+    unfolding baseShaped
+    base-folded h = sym (rw (← flag-read, ne-eqb flag 0 h))
+
+    pub base-asked : flag ≡ 0 → itemCount w ≤ itemsMost → (items : ℕ) → items ≡ itemCount w → (values : List ℕ) → values ≡ part w (baseAt + 1) items → (r : Bool) → r ≡ every isZeroWord values → r ≡ baseShaped w
+    unfolding baseShaped
+    base-asked z few items is values e r f =
+        let values-are : values ≡ part (part w baseAt baseSize) 1 (itemCount w)
+        = e ∙ ap (part w (baseAt + 1)) is ∙ sym (part-part w baseAt baseSize 1 (itemCount w) (omega arith)) in
+        f ∙ ap (every isZeroWord) values-are ∙ sym (zeros-meant (part (part w baseAt baseSize) 1 (itemCount w))) ∙ sym (rw (← flag-read, eq-eqb flag 0 z))

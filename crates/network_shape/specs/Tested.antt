@@ -15,9 +15,9 @@ use Rattle.placement.specs.InWords.{itemsIn}
 use Rattle.lines.specs.InWords.{lineIn, lineSize}
 use Rattle.records.specs.Records.{Record, recordFits}
 use Rattle.records.specs.InWords.{recordIn, recordRange, recordSize}
-use Rattle.protocol.specs.Network.{linesMost}
-use Rattle.network_layout.specs.Layout.{siteCount, itemCount, recordCount, itemsAt, itemsSize, historyAt, historySize, linesSize, stateSize}
-use Rattle.network_layout.specs.InWords.{siteWords, lineWords, recordWords}
+use Rattle.protocol.specs.Network.{linesMost, baseFits}
+use Rattle.network_layout.specs.Layout.{siteCount, itemCount, recordCount, itemsAt, itemsSize, historyAt, historySize, linesSize, baseAt, baseSize, stateSize}
+use Rattle.network_layout.specs.InWords.{siteWords, lineWords, recordWords, baseIn}
 use Rattle.network_counts.specs.Counts.{countsFit}
 use Rattle.network_line_shape.specs.LineTests.{historyIn, lineTest, Places}
 
@@ -28,6 +28,10 @@ recordTest place sites items x = recordRange x && recordFits place sites items (
 -- a line that holds nothing, and says that nothing has arrived: most lines are idle
 abbrev pub idle : List ℕ → Bool
 idle x = eqb (length (lineIn x .messages)) 0 && eqb (lineIn x .arrived) 0
+
+-- the word of the value 0
+abbrev pub isZeroWord : ℕ → Bool
+isZeroWord v = eqb v 0
 
 -- of the lines from number k on, those before number r are idle
 pub record Skipped (w : List ℕ) (k r : ℕ) : Type 0 where
@@ -58,8 +62,11 @@ historyShaped place w = every (recordTest place (siteCount w) (itemCount w)) (re
 unfoldable pub linesShaped : List ℕ → Bool
 linesShaped w = everyFrom (lineTest (placedIn w) (historyIn (part w historyAt historySize) (recordCount w))) 0 (lineWords w)
 
+unfoldable pub baseShaped : List ℕ → Bool
+baseShaped w = baseFits (baseIn (itemCount w) (part w baseAt baseSize))
+
 abbrev pub rankedShaped : (ℕ → ℕ) → List ℕ → Bool
-rankedShaped place w = sitesShaped place w && (historyShaped place w && linesShaped w)
+rankedShaped place w = sitesShaped place w && (historyShaped place w && (linesShaped w && baseShaped w))
 
 -- ---- what the functions ask
 -- the counts of a state are not too large

@@ -1,9 +1,10 @@
 // Whether a state's words are those of a network. It looks only at what is held, and passes over empty lines at once.
 use limits::RECORDS_WIDE;
 use limits::SITES_WIDE;
+use network_layout::BASE;
+use network_layout::FOLDED;
 use network_layout::HISTORY;
 use network_layout::ITEM_COUNT;
-use network_layout::ITEMS;
 use network_layout::LINE;
 use network_layout::LINES;
 use network_layout::LINES_MOST;
@@ -31,7 +32,7 @@ ghost use Rattle.protocol.specs.Steps.{noSuchSite};
 ghost use Rattle.network_layout.specs.Layout.{stateSize};
 ghost use Rattle.network_layout.specs.InWords.{shaped as shapedWords, numberIn};
 ghost use Rattle.network_line_shape.specs.LineTests.{historyIn, Places};
-ghost use Rattle.network_shape.specs.Tested.{recordTest, groupShaped, sitesShaped, historyShaped, linesShaped, rankedShaped, Counted, Ranked, LinesAsked, LinesTested, idle, Skipped};
+ghost use Rattle.network_shape.specs.Tested.{recordTest, isZeroWord, groupShaped, sitesShaped, historyShaped, linesShaped, baseShaped, rankedShaped, Counted, Ranked, LinesAsked, LinesTested, idle, Skipped};
 
 // How many words the lines and the history take.
 const LINES_WORDS: usize = LINES_MOST * LINE;
@@ -69,7 +70,7 @@ pub fn shaped(state: &[u32]) -> bool
     ranked_fits(state, given, places)
 }
 
-// Whether the sites, the history and the lines fit, by the bits of all lines and the places of the sites.
+// Whether the sites, the history, the lines and the base fit, by the bits of all lines and the places of the sites.
 fn ranked_fits(state: &[u32], given: u64, places: [u8; SITES_WIDE]) -> bool
     requires { ⌜ Ranked (now state) given places ⌝ }
     ensures { λ r. ⌜ r ≡ rankedShaped (rank places) (now (state .entry)) ⌝ }
@@ -80,7 +81,10 @@ fn ranked_fits(state: &[u32], given: u64, places: [u8; SITES_WIDE]) -> bool
     if !history_fits(state, places) {
         return false;
     }
-    lines_fit(state, given, places)
+    if !lines_fit(state, given, places) {
+        return false;
+    }
+    base_fits(state)
 }
 
 // ---- the counts and the placement
@@ -201,6 +205,32 @@ fn is_idle(l: &[u32]) -> bool
         return lines::arrived(l) == 0;
     }
     false
+}
+
+// ---- the base
+// Whether commits have been removed, or else every base value is 0.
+fn base_fits(state: &[u32]) -> bool
+    requires { ⌜ Counted (now state) ⌝ }
+    ensures { λ r. ⌜ r ≡ baseShaped (now (state .entry)) ⌝ }
+{
+    if words::word(state, FOLDED) != 0 {
+        return true;
+    }
+    all_zero(words_at(state, BASE, words::wide(state[ITEM_COUNT])))
+}
+
+// Whether every word is 0.
+fn all_zero(w: &[u32]) -> bool
+    ensures { λ r. ⌜ r ≡ every isZeroWord (now (w .entry)) ⌝ }
+{
+    let mut i = 0;
+    while i < w.len() {
+        if w[i] != 0 {
+            return false;
+        }
+        i += 1;
+    }
+    true
 }
 
 // ---- a part of the state

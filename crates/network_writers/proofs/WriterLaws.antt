@@ -1,22 +1,24 @@
--- The read that is looked for; the last writer of an item among one record more.
+-- The read that is looked for; the last in turn of the records that pass a test, among one record more.
 use mathlib.Core.Path.{_≡_, refl, sym, ap, _∙_, subst}
-use mathlib.Core.Bool.{Bool, true, false, cond, true≢false}
+use mathlib.Core.Bool.{Bool, true, false, cond, true≢false, _||_}
 use mathlib.Core.List.{List}
 use mathlib.Core.Option.{Option, none, some}
 use Prim.Native.Nat.{ℕ, suc, _+_, _≤_, _<_}
 use native.Mathlib.Omega.{arith}
 use native.Mathlib.Numerals.{add-one}
 use lib.ListN.{length, getD}
-use borrow.Author.Tests.{lt-ltb, le-ltb, le-leb, lt-leb}
+use lib.Dec.{leb}
+use borrow.Author.Tests.{lt-ltb, le-ltb, le-leb, lt-leb, leb-true, leb-false}
 use Rattle.limits.specs.Limits.{recordsMost}
-use Rattle.site_operations.specs.Operations.{Op, noOp, reads, touches}
+use Rattle.site_operations.specs.Operations.{Op, noOp, reads}
 use Rattle.site_operations.specs.InWords.{opAt as opIn, OpsLaid}
 use Rattle.site_operations.proofs.Laws.{ops-at}
 use Rattle.protocol.specs.Network.{Network, nthRecord, placeOf}
 use Rattle.protocol.specs.Questions.{nthOp, askedRead}
-use Rattle.origins.specs.Statements.{writesBefore, LastBelow, FoundBelow}
+use Rattle.origins.specs.Statements.{LastBelow, FoundBelow}
 use Rattle.origins.proofs.Found.{none-yet, found-first, found-later, found-kept, found-skip}
-use Rattle.network_writers.specs.Writers.{SoughtIs, comesBefore, writerOf, LastSoFar}
+use Rattle.network_layout.specs.At.{HasRecord}
+use Rattle.network_writers.specs.Writers.{SoughtIs, comesBefore, writerOf, laterOf, LastSoFar}
 
 -- ---- the read that is looked for
 module _ (n : Network) (k a : ℕ) where
@@ -38,53 +40,46 @@ module _ (n : Network) (k a : ℕ) where
   pub not-found : (number item : ℕ) → number ≡ 26 → item ≡ 0 → askedRead n k a ≡ 26 → SoughtIs n k a number item
   not-found number item e z f = record { number-is = e ∙ sym f; item-is = rw (e, z) refl }
 
+-- ---- a record's number, or one that no record has
+pub writer-named : (b : ℕ) → b < recordsMost → writerOf b ≡ some b
+writer-named b low = rw (lt-ltb b recordsMost low)
+
+pub writer-none : (b : ℕ) → recordsMost ≤ b → writerOf b ≡ none
+writer-none b high = rw (le-ltb b recordsMost high)
+
 -- ---- one record more is looked at
-module _ (n : Network) (k x : ℕ) where
+module _ (n : Network) (passes : ℕ → Bool) where
   abbrev place : ℕ → ℕ
   place = placeOf (n .items)
 
   abbrev Found : ℕ → Option ℕ → Type 0
-  Found j o = FoundBelow place (n .history) k x j o
+  Found j o = FoundBelow place (n .history) passes j o
 
-  abbrev writes : ℕ → Bool
-  writes i = touches x (nthRecord n i .ops)
+  pub none-looked-at : LastSoFar n passes 0 recordsMost
+  none-looked-at = record { found = none-yet place (n .history) passes; few = omega arith }
 
-  pub none-looked-at : LastSoFar n k x 0 recordsMost
-  none-looked-at = record { found = none-yet place (n .history) k x; few = omega arith }
+  module _ (j b : ℕ) (so-far : LastSoFar n passes j b) where
+    next : (c : ℕ) (o : Option ℕ) → c ≤ recordsMost → writerOf c ≡ o → Found (suc j) o → LastSoFar n passes (j + 1) c
+    next c o few e f = record { found = rw (add-one j) (subst (Found (suc j)) (sym e) f); few = few }
 
-  named : (b : ℕ) → b < recordsMost → writerOf b ≡ some b
-  named b low = rw (lt-ltb b recordsMost low)
+    pub passed-over : passes j ≡ false → LastSoFar n passes (j + 1) b
+    passed-over e = next b (writerOf b) (so-far .few) refl (found-skip place (n .history) passes j (λ w. true≢false (sym w ∙ e)) (writerOf b) (so-far .found))
 
-  module _ (j : ℕ) where
-    next : (b : ℕ) (o : Option ℕ) → b ≤ recordsMost → writerOf b ≡ o → Found (suc j) o → LastSoFar n k x (j + 1) b
-    next b o few e f = record { found = rw (add-one j) (subst (Found (suc j)) (sym e) f); few = few }
+    -- the best so far, where there is one
+    pub last-below : b < recordsMost → LastBelow place (n .history) passes j b
+    last-below low = subst (Found j) (writer-named b low) (so-far .found)
 
-    module _ (b : ℕ) (so-far : LastSoFar n k x j b) where
-      skipped : writesBefore place (n .history) k x j ≡ false → LastSoFar n k x (j + 1) b
-      skipped e = next b (writerOf b) (so-far .few) refl (found-skip place (n .history) k x j (λ w. true≢false (sym w ∙ e)) (writerOf b) (so-far .found))
+    pub best-there : (w : List ℕ) → HasRecord w j → b < recordsMost → HasRecord w b
+    best-there w next low = let below : b < j = last-below low .low in record { sized = next .sized; there = omega (arith, next .there); few = low }
 
-      pub not-written : writes j ≡ false → LastSoFar n k x (j + 1) b
-      not-written e = skipped (rw e)
-
-      -- the best so far, where there is one
-      pub last-below : b < recordsMost → LastBelow place (n .history) k x j b
-      last-below low = subst (Found j) (named b low) (so-far .found)
-
-      -- record j writes the item
-      module _ (written : writes j ≡ true) where
-        pub not-before : comesBefore n j k ≡ false → LastSoFar n k x (j + 1) b
-        not-before e = skipped (rw (written, e))
-
-        module _ (before : comesBefore n j k ≡ true) where
-          writer : writesBefore place (n .history) k x j ≡ true
-          writer = rw (written, before)
-
-          pub taken-first : j < recordsMost → recordsMost ≤ b → LastSoFar n k x (j + 1) j
-          taken-first few high =
-              let unnamed : writerOf b ≡ none = rw (le-ltb b recordsMost high) in
-              next j (some j) (omega arith) (named j few) (found-first place (n .history) k x j writer (subst (Found j) unnamed (so-far .found)))
-
-          -- the one that comes last of the two
-          pub taken-last : b < recordsMost → j < recordsMost → (c : Bool) → comesBefore n b j ≡ c → LastSoFar n k x (j + 1) (cond c j b)
-          taken-last low few true e = next j (some j) (omega arith) (named j few) (found-later place (n .history) k x j b writer (last-below low) e)
-          taken-last low few false e = next b (some b) (so-far .few) (named b low) (found-kept place (n .history) k x j b writer (last-below low) e)
+    -- record j passes: the last in turn of the two
+    pub taken : passes j ≡ true → j < recordsMost → LastSoFar n passes (j + 1) (laterOf n b j)
+    taken one few = go (leb recordsMost b) refl (comesBefore n b j) refl
+      where
+        go : (c : Bool) → leb recordsMost b ≡ c → (d : Bool) → comesBefore n b j ≡ d → LastSoFar n passes (j + 1) (cond (c || d) j b)
+        go true e d f =
+            next j (some j) (omega arith) (writer-named j few) (found-first place (n .history) passes j one (subst (Found j) (writer-none b (leb-true recordsMost b e)) (so-far .found)))
+        go false e true f = next j (some j) (omega arith) (writer-named j few) (found-later place (n .history) passes j b one (last-below (leb-false recordsMost b e)) f)
+        go false e false f =
+            let low : b < recordsMost = leb-false recordsMost b e in
+            next b (some b) (so-far .few) (writer-named b low) (found-kept place (n .history) passes j b one (last-below low) f)

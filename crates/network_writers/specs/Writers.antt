@@ -1,15 +1,15 @@
 -- What the inner functions ask and answer about the read that is looked for and the writers of its item.
 use mathlib.Core.Path.{_≡_}
-use mathlib.Core.Bool.{Bool, cond}
+use mathlib.Core.Bool.{Bool, cond, _||_}
 use mathlib.Core.List.{List}
 use mathlib.Core.Option.{Option, none, some}
 use Prim.Native.Nat.{ℕ, _≤_, _<_}
 use lib.ListN.{length}
-use lib.Dec.{eqb, ltb}
+use lib.Dec.{eqb, ltb, leb}
 use Rattle.limits.specs.Limits.{recordsMost}
 use Rattle.protocol.specs.Network.{Network, placeOf}
 use Rattle.protocol.specs.Questions.{nthOp, askedRead}
-use Rattle.origins.specs.Statements.{turnAt, precedes, FoundBelow}
+use Rattle.origins.specs.Statements.{turnAt, precedes, FoundBelow, writesBefore}
 use Rattle.network_layout.specs.InWords.{networkIn}
 use Rattle.network_layout.specs.At.{AtNetwork, HasRecord, PlacesAre}
 use Rattle.network_records.specs.Asked.{HasRecords}
@@ -32,10 +32,18 @@ comesBefore n i m = precedes (placeOf (n .items)) (turnAt (n .history) i) (turnA
 abbrev pub writerOf : ℕ → Option ℕ
 writerOf b = cond (ltb b recordsMost) (some b) none
 
--- b is the last writer of item x before record k, of the records below j; where there is none, the first number that no record has
-pub record LastSoFar (n : Network) (k x j b : ℕ) : Type 0 where
-  pub found : FoundBelow (placeOf (n .items)) (n .history) k x j (writerOf b)
+-- the last in turn of record b and record j; j where b is a number that no record has
+abbrev pub laterOf : Network → ℕ → ℕ → ℕ
+laterOf n b j = cond (leb recordsMost b || comesBefore n b j) j b
+
+-- b is the last in turn of the records below j that pass a test; where there is none, the first number that no record has
+pub record LastSoFar (n : Network) (passes : ℕ → Bool) (j b : ℕ) : Type 0 where
+  pub found : FoundBelow (placeOf (n .items)) (n .history) passes j (writerOf b)
   pub few : b ≤ recordsMost
+
+-- record i writes item x and comes before record k
+abbrev pub isWriter : Network → ℕ → ℕ → ℕ → Bool
+isWriter n k x = writesBefore (placeOf (n .items)) (n .history) k x
 
 -- ---- what is asked: the words of a network and the places of its sites, with
 -- two records
@@ -43,9 +51,15 @@ pub record Ordering (w : List ℕ) (first second : ℕ) (places : List ℕ) : Ty
   pub records : HasRecords w first second
   pub places-are : PlacesAre w places
 
+-- record j, and record b or a number that no record has
+pub record Choosing (w : List ℕ) (b j : ℕ) (places : List ℕ) : Type 0 where
+  pub best : b < recordsMost → HasRecord w b
+  pub next : HasRecord w j
+  pub places-are : PlacesAre w places
+
 -- one more to look at, record j
 pub record LookingAt (w : List ℕ) (k x j b : ℕ) (places : List ℕ) : Type 0 where
   pub reader : HasRecord w k
   pub next : HasRecord w j
-  pub so-far : LastSoFar (networkIn w) k x j b
+  pub so-far : LastSoFar (networkIn w) (isWriter (networkIn w) k x) j b
   pub places-are : PlacesAre w places

@@ -1,4 +1,4 @@
-// A read found in the history; whether its own commit writes the item before it; and the last commit before its own that does.
+// A read found in the history; whether its own commit writes the item before it; and the last commit before its own that does. The last in turn of two records.
 use limits::RECORDS_WIDE;
 use limits::SITES_WIDE;
 use site_operations::READ;
@@ -9,7 +9,7 @@ ghost use Rattle.site_operations.specs.Operations.{touches};
 ghost use Rattle.origins.specs.Origin.{opsBefore};
 ghost use Rattle.network_layout.specs.InWords.{networkIn};
 ghost use Rattle.network_layout.specs.At.{AtNetwork, HasRecord};
-ghost use Rattle.network_writers.specs.Writers.{SoughtIs, OnRecord, comesBefore, LastSoFar, Ordering, LookingAt};
+ghost use Rattle.network_writers.specs.Writers.{SoughtIs, OnRecord, comesBefore, laterOf, LastSoFar, isWriter, Ordering, Choosing, LookingAt};
 
 // A read that was looked for: 0 and its item, or the number for which it is refused and 0.
 pub struct Sought {
@@ -65,7 +65,7 @@ pub fn own_write(state: &[u32], k: u32, item: u32, a: u32) -> bool
 // The last commit before record k that writes the item; RECORDS where there is none.
 pub fn last_writer(state: &[u32], k: u32, item: u32) -> u32
     requires { ⌜ OnRecord (now state) k ⌝ }
-    ensures { λ r. ⌜ LastSoFar (networkIn (now (state .entry))) k item (length (networkIn (now (state .entry)) .history)) r ⌝ }
+    ensures { λ r. ⌜ LastSoFar (networkIn (now (state .entry))) (isWriter (networkIn (now (state .entry))) k item) (length (networkIn (now (state .entry)) .history)) r ⌝ }
 {
     let made = words::wide(network_records::record_count(state));
     let reader = words::wide(k);
@@ -79,7 +79,7 @@ pub fn last_writer(state: &[u32], k: u32, item: u32) -> u32
     best as u32
 }
 
-// Record j, where it writes the item before the reader and not before the best so far; else that one.
+// Record j, where it writes the item before the reader and comes after the best so far; else that one.
 fn later_writer(
     state: &[u32],
     reader: usize,
@@ -89,7 +89,7 @@ fn later_writer(
     places: [u8; SITES_WIDE],
 ) -> usize
     requires { ⌜ LookingAt (now state) reader item j best places ⌝ }
-    ensures { λ r. ⌜ LastSoFar (networkIn (now (state .entry))) reader item (j + 1) r ⌝ }
+    ensures { λ r. ⌜ LastSoFar (networkIn (now (state .entry))) (isWriter (networkIn (now (state .entry))) reader item) (j + 1) r ⌝ }
 {
     if !network_records::record_touches(state, j, item) {
         return best;
@@ -97,6 +97,14 @@ fn later_writer(
     if !precedes(state, j, reader, places) {
         return best;
     }
+    later_of(state, best, j, places)
+}
+
+// The last in turn of the best so far and record j; that record where there is no best yet.
+pub fn later_of(state: &[u32], best: usize, j: usize, places: [u8; SITES_WIDE]) -> usize
+    requires { ⌜ Choosing (now state) best j places ⌝ }
+    ensures { λ r. ⌜ r ≡ laterOf (networkIn (now (state .entry))) best j ⌝ }
+{
     if RECORDS_WIDE <= best {
         return j;
     }

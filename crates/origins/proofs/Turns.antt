@@ -2,8 +2,7 @@
 use mathlib.Core.Path.{_≡_, refl, ap, sym, subst, _∙_}
 use mathlib.Core.Bool.{Bool, true, false, cond, _||_, false≢true}
 use mathlib.Core.List.{List, [], _∷_}
-use Prim.Native.Nat.{ℕ, suc, _+_, _<_}
-use native.Mathlib.Omega.{arith}
+use Prim.Native.Nat.{ℕ, _<_}
 use lib.ListN.{length}
 use lib.Dec.{eqb}
 use borrow.Author.Tests.{eqb-true}
@@ -11,9 +10,8 @@ use Rattle.lists.specs.Lists.{beforeFirst}
 use Rattle.records.specs.Records.{Record}
 use Rattle.lists.proofs.Chains.{Each, Chain}
 use Rattle.lists.proofs.Sorting.{each-sorted}
-use Rattle.protocol.specs.Network.{recordAt}
 use Rattle.protocol.specs.Run.{Turn, numbered, comesFirst, inTurn}
-use Rattle.protocol.proofs.Turns.{has, chain-numbered, has-turn}
+use Rattle.protocol.proofs.Turns.{has, each-number, chain-numbered, has-turn}
 use Rattle.origins.specs.Origin.{turnsBefore}
 use Rattle.origins.specs.Statements.{turnAt, precedes}
 use Rattle.protocol.proofs.Precedes.{numberOf, stampOf, precedes-one-way, sorted-precede}
@@ -22,16 +20,6 @@ use Rattle.protocol.proofs.Precedes.{numberOf, stampOf, precedes-one-way, sorte
 pub record Of (h : List Record) (c : Turn) : Type 0 where
   pub low : c .number < length h
   pub is : c ≡ turnAt h (c .number)
-
-numbered-of : (h : List Record) (j : ℕ) (rs : List Record) → j + length rs ≡ length h → ((i : ℕ) → i < length rs → recordAt rs i ≡ recordAt h (j + i)) → Each (Of h) (numbered j rs)
-numbered-of h j [] e f = tt
-numbered-of h j (r ∷ rs) e f =
-    let first : j + 0 ≡ j = omega arith in
-    let next : (i : ℕ) → j + suc i ≡ suc j + i = λ i. omega arith in
-    let here : r ≡ recordAt h j = f 0 (omega arith) ∙ ap (recordAt h) first in (
-      record { low = omega arith; is = λ i. record { number = j; commit = here i } },
-      numbered-of h (suc j) rs (omega arith) (λ i l. f (suc i) (omega arith) ∙ ap (recordAt h) (next i)),
-    )
 
 -- what holds of each turn holds of the commit of each number among them
 pub each-at : (h : List Record) (P : Turn → Type 0) (i : ℕ) (cs : List Turn) → Each (Of h) cs → Each P cs → has i cs ≡ true → P (turnAt h i)
@@ -47,10 +35,7 @@ module _ (place : ℕ → ℕ) (h : List Record) where
   Precedes c d = precedes place c d ≡ true
 
   pub turns-of : Each (Of h) (inTurn place h)
-  turns-of = each-sorted (comesFirst place) (Of h) (numbered 0 h) (numbered-of h 0 h (omega arith) (λ i l. ap (recordAt h) (same i)))
-    where
-      same : (i : ℕ) → i ≡ 0 + i
-      same i = omega arith
+  turns-of = each-sorted (comesFirst place) (Of h) (numbered 0 h) (each-number h (Of h) (λ k l. record { low = l; is = refl }))
 
   pub turns-chain : Chain Precedes (inTurn place h)
   turns-chain = sorted-precede place numberOf stampOf (numbered 0 h) (chain-numbered 0 h)

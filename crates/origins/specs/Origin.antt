@@ -28,6 +28,6 @@ opsBefore n k a = take a (nthRecord n k .ops)
 abbrev pub ownWrite : Network → ℕ → ℕ → Bool
 ownWrite n k a = touches (nthOp n k a .item) (opsBefore n k a)
 
--- of operation a of commit k the record number of the commit that it came from, or none for the start value
+-- of operation a of commit k the record number of the commit that it came from, or none for the base value
 unfoldable pub originOf : Network → ℕ → ℕ → Option ℕ
 originOf n k a = cond (ownWrite n k a) (some k) (Option·map (λ (c : Turn). c .number) (lastWriter (placeOf (n .items)) (n .history) k (nthOp n k a .item)))

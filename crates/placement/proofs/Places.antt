@@ -130,7 +130,7 @@ pub numbers-length : (k n : ℕ) → length (upTo k n) ≡ n
 numbers-length k zero = refl
 numbers-length k (suc n) = ap suc (numbers-length (suc k) n)
 
-pub table-at : (f : ℕ → ℕ) (k n i d : ℕ) → i < n → getD (map f (upTo k n)) i d ≡ f (k + i)
+pub table-at : {A : Type 0} (f : ℕ → A) (k n i : ℕ) (d : A) → i < n → getD (map f (upTo k n)) i d ≡ f (k + i)
 table-at f k zero i d h = absurd (omega arith)
 table-at f k (suc n) zero d h = let first : k ≡ k + 0 = omega arith in ap f first
 table-at f k (suc n) (suc i) d h = let next : suc k + i ≡ k + suc i = omega arith in table-at f (suc k) n i d (omega arith) ∙ ap f next

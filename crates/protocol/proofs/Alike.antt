@@ -2,15 +2,16 @@
 use mathlib.Core.Path.{_≡_, refl, ap, ap₂, _∙_}
 use mathlib.Core.Bool.{Bool, true, false}
 use mathlib.Core.List.{List, [], _∷_, _++_, map}
-use Prim.Native.Nat.{ℕ, suc}
+use Prim.Native.Nat.{ℕ, suc, _<_}
 use lib.IntN.{ℤ, pos}
-use lib.ListN.{getD}
+use lib.ListN.{length, getD}
 use Rattle.timestamp_order.specs.Timestamp.{Stamp}
 use Rattle.site_operations.specs.Operations.{Op, reads, recorded, written, Work, worked}
 use Rattle.site_operations.proofs.Works.{read-no-write}
 use Rattle.records.specs.Records.{Record}
 use Rattle.lists.specs.Lists.{keep, upTo}
-use Rattle.lists.proofs.Matched.{Matched, matched-length, matched-add, matched-keep, matched-sorted}
+use Rattle.lists.proofs.Matched.{Matched, matched-length, matched-at, matched-add, matched-keep, matched-sorted}
+use Rattle.protocol.specs.Network.{noRecord, recordAt}
 use Rattle.protocol.specs.Run.{Turn, numbered, comesFirst, inTurn, after, seen, run, startTable, find, shown, isUpTo, valueAt}
 
 -- the same work on every table
@@ -27,6 +28,14 @@ AllAlike h cs = Matched Alike h cs
 
 pub all-alike-add : (h cs : List Record) (r c : Record) → AllAlike h cs → Alike r c → AllAlike (h ++ (r ∷ [])) (cs ++ (c ∷ []))
 all-alike-add h cs r c m e = matched-add Alike h cs r c m e
+
+-- as many, and each with the timestamp of the other
+module _ (h cs : List Record) (m : AllAlike h cs) where
+  pub alike-many : length h ≡ length cs
+  alike-many = matched-length Alike h cs m
+
+  pub alike-stamp : (k : ℕ) → k < length h → recordAt h k .stamp ≡ recordAt cs k .stamp
+  alike-stamp k l = matched-at Alike h cs k noRecord m l .stamp-same
 
 -- ---- operations recorded with values are alike to those without: a read is read again, and writes nothing
 module _ (table : List ℤ) (o : Op) (t : List ℤ) where
@@ -101,11 +110,16 @@ module _ (place : ℕ → ℕ) (h cs : List Record) (m : AllAlike h cs) where
   pub alike-shown : shown place startTable h ≡ shown place startTable cs
   unfolding shown
   alike-shown =
-      ap₂ (λ (ts : List Turn) (n : ℕ). map (find ts) (upTo 0 n)) (run-alike startTable (inTurn place h) (inTurn place cs) (turns-alike place h cs m)) (matched-length Alike h cs m)
+      ap₂ (λ (ts : List Turn) (n : ℕ). map (find ts) (upTo 0 n)) (run-alike startTable (inTurn place h) (inTurn place cs) (turns-alike place h cs m)) (alike-many h cs m)
+
+  -- the values after the turns that pass a test that does not tell those alike apart: by timestamp, or by number
+  alike-after : (q : Turn → Bool) → ((c d : Turn) → AlikeTurns c d → q c ≡ q d) → after startTable (keep q (inTurn place h)) ≡ after startTable (keep q (inTurn place cs))
+  alike-after q same =
+      after-alike startTable (keep q (inTurn place h)) (keep q (inTurn place cs)) (matched-keep AlikeTurns q same (inTurn place h) (inTurn place cs) (turns-alike place h cs m))
 
   pub alike-value : (t : Stamp) (x : ℕ) → valueAt place startTable h t x ≡ valueAt place startTable cs t x
   unfolding valueAt
-  alike-value t x =
-      ap (λ (l : List ℤ). getD l x (pos 0))
-      (after-alike startTable (keep (isUpTo place t) (inTurn place h)) (keep (isUpTo place t) (inTurn place cs))
-      (matched-keep AlikeTurns (isUpTo place t) (upto-alike place t) (inTurn place h) (inTurn place cs) (turns-alike place h cs m)))
+  alike-value t x = ap (λ (l : List ℤ). getD l x (pos 0)) (alike-after (isUpTo place t) (upto-alike place t))
+
+  pub alike-numbers : (p : ℕ → Bool) → after startTable (keep (λ (c : Turn). p (c .number)) (inTurn place h)) ≡ after startTable (keep (λ (c : Turn). p (c .number)) (inTurn place cs))
+  alike-numbers p = alike-after (λ c. p (c .number)) (λ c d e. ap p (e .0))

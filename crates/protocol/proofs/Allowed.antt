@@ -84,6 +84,15 @@ module _ (n : Network) (i : ℕ) where
       let b = none-holds wrong 7 later (a .1) in
       (lists-allowed (length ks) (length is) (length vs) (b .0), causes-allowed (opsOf ks is vs) (a .0) (b .1))
 
+-- what a commit wants of its site and its operations, whatever room the history and the lines have
+pub record CommitFits (n : Network) (i : ℕ) (os : List Op) : Type 0 where
+  pub there : i < length (n .sites)
+  pub each-op : firstNumber (map (opNumber (n .items) i) os) ≡ 0
+  pub count-free : countAtMost n i ≡ false
+
+pub commit-fits : (n : Network) (i : ℕ) (os : List Op) → CommitAllowed n i os → CommitFits n i os
+commit-fits n i os z = record { there = z .there; each-op = z .each-op; count-free = z .count-free }
+
 -- an operation that is not refused at site i
 pub record OpAllowed (xs : List Item) (i : ℕ) (o : Op) : Type 0 where
   pub kind : o .kind ≤ 1

@@ -1,13 +1,13 @@
--- Beside one-copy agreement: what holds from no network on, no two commits have one timestamp, and no call is refused with 6.
+-- Beside one-copy agreement: what holds from no network on, no two commits have one timestamp, no call is refused with 6, and no later commit falls at or before the point.
 use mathlib.Core.Path.{_≡_, refl, ap, sym, subst, _∙_}
 use mathlib.Core.Bool.{Bool, true, false, cond, not, _&&_, _||_}
 use mathlib.Core.List.{List, [], _∷_}
-use mathlib.Core.Logic.{inl, inr}
+use mathlib.Core.Logic.{_⊎_, inl, inr}
 use mathlib.Core.Option.{Option, none, some}
-use Prim.Native.Nat.{ℕ, _<_}
+use Prim.Native.Nat.{ℕ, _≤_, _<_}
 use native.Mathlib.Omega.{arith}
 use lib.IntN.{ℤ}
-use lib.ListN.{length, getD}
+use lib.ListN.{length}
 use lib.Dec.{eqb, ltb, leb}
 use borrow.Author.Tests.{eqb-false}
 use Rattle.site_operations.specs.Operations.{Op, reads, writes}
@@ -15,27 +15,37 @@ use Rattle.placement.specs.Placement.{Item, owns, copies, isLine, hasParents}
 use Rattle.placement.specs.Places.{cyclic, placementNumber}
 use Rattle.lists.specs.Numbers.{numberIf, outside}
 use Rattle.limits.specs.Limits.{sitesMost, itemsMost, recordsMost}
-use Rattle.protocol.specs.Network.{Network, noRecord, siteAt, lineAt}
+use Rattle.timestamp_order.specs.Timestamp.{Stamp}
+use Rattle.timestamp_order.specs.Order.{IsEarlier, NotLater}
+use Rattle.records.specs.Records.{Record}
+use Rattle.protocol.specs.Network.{Network, noStamp, noRecord, recordAt, placeOf, siteAt, lineAt}
 use Rattle.protocol.specs.Steps.{itemsOf, noSuchSite, countAtMost, someLineFull, opsOf, opNumber, due, wrongLists, setUpNumber, commitNumber, dummyNumber, epochNumber, deliverNumber, scheduleNumber}
 use Rattle.lists.specs.Lists.{someBelow}
-use Rattle.protocol.specs.Questions.{Question, waiting, table, stamp, line, origin, places, noSuchRead, askedSite, questionNumber}
-use Rattle.protocol.specs.Calls.{Call, setUp, commit, dummy, epoch, deliver, schedule, ask, refused, perform}
-use Rattle.protocol.specs.Agreement.{Known, nothingKnown, witnessed, learned, learnedAll, OneCopyAgreement, AgreedOrUnset, FromNothing, StampsDiffer, Never6}
-use Rattle.lists.proofs.Matched.{matched-length, matched-at}
+use Rattle.protocol.specs.Questions.{Question, waiting, table, stamp, line, origin, places, base, noSuchRead, askedSite, questionNumber}
+use Rattle.protocol.specs.Collect.{collectNumber}
+use Rattle.protocol.specs.Calls.{Call, setUp, commit, dummy, epoch, deliver, schedule, collect, ask, refused, perform}
+use Rattle.protocol.specs.Book.{bookStamp}
+use Rattle.protocol.specs.Agreement.{Known, nothingKnown, isRemoved, witnessed, learned, learnedAll, bookPlace, bookPoint, OneCopyAgreement, AgreedOrUnset, FromNothing, StampsDiffer, Never6, NoSetUp, NoneAtOrBefore}
+use Rattle.lists.proofs.Chains.{each-at}
 use Rattle.protocol.proofs.Causes.{Not, either-not, first-not, when-not, all-not, items-not}
-use Rattle.protocol.proofs.Alike.{Alike}
+use Rattle.protocol.proofs.Times.{Times, times}
+use Rattle.protocol.proofs.Added.{added-each}
+use Rattle.protocol.proofs.Point.{earliest-upto}
+use Rattle.protocol.proofs.Alike.{alike-many, alike-stamp}
 use Rattle.protocol.proofs.Invariant.{stamps-apart}
-use Rattle.protocol.proofs.Follows.{Follows, always}
+use Rattle.protocol.proofs.View.{view}
+use Rattle.protocol.proofs.Collected.{collect-accepted}
+use Rattle.protocol.proofs.Follows.{Follows, Extended, Grows, call-steps, always}
 use Rattle.protocol.proofs.Theorem.{one-copy-agreement}
 
 -- ---- timestamps
-differ : (k : Known) → Follows k → (a b : ℕ) → a < b → b < length (k .book .commits) → getD (k .book .commits) a noRecord .stamp ≡ getD (k .book .commits) b noRecord .stamp → ⊥
+differ : (k : Known) → Follows k → (a b : ℕ) → a < b → b < length (k .book .commits) → recordAt (k .book .commits) a .stamp ≡ recordAt (k .book .commits) b .stamp → ⊥
 differ k f a b l m e =
-    let h = f .network .history in
+    let h = f .full .history in
     let cs = k .book .commits in
-    let many = matched-length Alike h cs (f .commits-alike) in
-    let same : (c : ℕ) → c < length h → getD h c noRecord .stamp ≡ getD cs c noRecord .stamp = λ c q. matched-at Alike h cs c noRecord (f .commits-alike) q .stamp-same in
-    stamps-apart (f .network) (f .inv) a b l (omega arith) (same a (omega arith) ∙ e ∙ sym (same b (omega arith)))
+    let many = alike-many h cs (f .commits-alike) in
+    let same = alike-stamp h cs (f .commits-alike) in
+    stamps-apart (f .full) (f .inv) a b l (omega arith) (same a (omega arith) ∙ e ∙ sym (same b (omega arith)))
 
 -- ---- numbers: no cause of a call has 6
 abbrev Not6 : ℕ → Type 0
@@ -113,19 +123,68 @@ module _ (n : Network) where
   question-not6 (line p c) = when-not6 (noSuchSite n p || noSuchSite n c) 7 refl (when-not6 (not (isLine (n .items) p c)) 17 refl zero-not6)
   question-not6 (origin k a) = either-not (noSuchRead n k a) (record { differs = refl }) zero-not6
   question-not6 places = zero-not6
+  question-not6 base = zero-not6
 
-  call-not6 : (c : Call) → Not6 (perform (some n) c .number)
+  -- a collect has no other
+  call-not6 : collectNumber n ≡ 0 → (c : Call) → Not6 (perform (some n) c .number)
   unfolding perform
-  call-not6 (setUp sites items ps ms) = by-number (setUpNumber sites items ps ms) (λ e. rw e zero-not6) (λ e. rw e (set-up-not6 sites items ps ms))
-  call-not6 (commit i ks is vs) = by-number (commitNumber n i ks is vs) (λ e. rw e zero-not6) (λ e. rw e (commit-not6 i ks is vs))
-  call-not6 (dummy i) = by-number (dummyNumber n i) (λ e. rw e zero-not6) (λ e. rw e (dummy-not6 i))
-  call-not6 (epoch i h) = by-number (epochNumber n i h) (λ e. rw e zero-not6) (λ e. rw e (epoch-not6 i h))
-  call-not6 (deliver p c) = by-number (deliverNumber n p c) (λ e. rw e zero-not6) (λ e. rw e (deliver-not6 p c))
-  call-not6 (schedule j) = by-number (scheduleNumber n j) (λ e. rw e zero-not6) (λ e. rw e (schedule-not6 j))
-  call-not6 (ask q) = by-number (questionNumber n q) (λ e. rw e zero-not6) (λ e. rw e (question-not6 q))
+  call-not6 z (setUp sites items ps ms) = by-number (setUpNumber sites items ps ms) (λ e. rw e zero-not6) (λ e. rw e (set-up-not6 sites items ps ms))
+  call-not6 z (commit i ks is vs) = by-number (commitNumber n i ks is vs) (λ e. rw e zero-not6) (λ e. rw e (commit-not6 i ks is vs))
+  call-not6 z (dummy i) = by-number (dummyNumber n i) (λ e. rw e zero-not6) (λ e. rw e (dummy-not6 i))
+  call-not6 z (epoch i h) = by-number (epochNumber n i h) (λ e. rw e zero-not6) (λ e. rw e (epoch-not6 i h))
+  call-not6 z (deliver p c) = by-number (deliverNumber n p c) (λ e. rw e zero-not6) (λ e. rw e (deliver-not6 p c))
+  call-not6 z (schedule j) = by-number (scheduleNumber n j) (λ e. rw e zero-not6) (λ e. rw e (schedule-not6 j))
+  call-not6 z collect = rw z zero-not6
+  call-not6 z (ask q) = by-number (questionNumber n q) (λ e. rw e zero-not6) (λ e. rw e (question-not6 q))
 
 never : (k : Known) → Follows k → (c : Call) → perform (k .state) c .number ≡ 6 → ⊥
-never k f c = eqb-false (perform (k .state) c .number) 6 (ap (λ (s : Option Network). eqb (perform s c .number) 6) (f .state-is) ∙ call-not6 (f .network) c .differs)
+never k f c =
+    let v = view (isRemoved (k .removed)) (f .base) (f .full) in
+    let free : collectNumber v ≡ 0 = collect-accepted (f .full) (f .inv) (isRemoved (k .removed)) (f .base) (f .removed) in
+    eqb-false (perform (k .state) c .number) 6 (ap (λ (s : Option Network). eqb (perform s c .number) 6) (f .state-is) ∙ call-not6 v free c .differs)
+
+-- ---- no later commit at or before the point
+-- a timestamp not later than any site's, and earlier than each commit from number l on
+record Ahead (xs : List Item) (t : Stamp) (l : ℕ) (k : Known) : Type 0 where
+  items-are : k .items ≡ xs
+  upto : (j : ℕ) → j < length (k .book .stamps) → NotLater (placeOf xs) t (bookStamp (k .book) j)
+  later : (m : ℕ) → m < length (k .book .commits) → l ≤ m → IsEarlier (placeOf xs) t (recordAt (k .book .commits) m .stamp)
+
+module _ (xs : List Item) (t : Stamp) (l : ℕ) where
+  open Times (times (placeOf xs)) using (upto-trans, upto-then)
+
+  -- it is so after every call that is no accepted set-up
+  stays-ahead : (k m : Known) → Ahead xs t l k → Grows k m → Ahead xs t l m
+  stays-ahead k m a g =
+      record {
+        items-are = g .items-same ∙ a .items-are;
+        upto = λ j b.
+            let old : j < length (k .book .stamps) = omega (arith, g .many) in
+            upto-trans t (bookStamp (k .book) j) (bookStamp (m .book) j) (a .upto j old) (subst (λ (ys : List Item). NotLater (placeOf ys) (bookStamp (k .book) j) (bookStamp (m .book) j)) (a .items-are) (g .grows j old));
+        later = go (g .commits);
+      }
+    where
+      go : (m .book .commits ≡ k .book .commits) ⊎ Extended k m → (i : ℕ) → i < length (m .book .commits) → l ≤ i → IsEarlier (placeOf xs) t (recordAt (m .book .commits) i .stamp)
+      go (inl same) = subst (λ (cs : List Record). (i : ℕ) → i < length cs → l ≤ i → IsEarlier (placeOf xs) t (recordAt cs i .stamp)) (sym same) (a .later)
+      go (inr e) =
+          let r = e .made in
+          let s = bookStamp (k .book) (r .site) in
+          subst (λ (cs : List Record). (i : ℕ) → i < length cs → l ≤ i → IsEarlier (placeOf xs) t (recordAt cs i .stamp)) (sym (e .extends))
+          (added-each (k .book .commits) r noRecord (λ i c. l ≤ i → IsEarlier (placeOf xs) t (c .stamp)) (a .later)
+          (λ b. upto-then t s (r .stamp) (a .upto (r .site) (e .there)) (subst (λ (ys : List Item). IsEarlier (placeOf ys) s (r .stamp)) (a .items-are) (e .later))))
+
+  all-ahead : (k : Known) → Follows k → Ahead xs t l k → (cs : List Call) → NoSetUp k cs → Ahead xs t l (learnedAll k cs)
+  all-ahead k f a [] unset = a
+  all-ahead k f a (c ∷ cs) unset =
+      let s = call-steps k f c (unset .0) in
+      all-ahead (learned k c) (s .follows) (stays-ahead k (learned k c) a (s .grows)) cs (unset .1)
+
+none-before : (k : Known) → Follows k → (calls : List Call) → NoSetUp k calls → (m : ℕ) → length (k .book .commits) ≤ m → m < length (learnedAll k calls .book .commits)
+    → IsEarlier (bookPlace k) (bookPoint k) (recordAt (learnedAll k calls .book .commits) m .stamp)
+none-before k f calls unset m b l =
+    all-ahead (k .items) (bookPoint k) (length (k .book .commits)) k f
+    (record { items-are = refl; upto = each-at (NotLater (bookPlace k) (bookPoint k)) (k .book .stamps) noStamp (earliest-upto (bookPlace k) (k .book .stamps)); later = λ i c d. absurd (omega arith) })
+    calls unset .later m l b
 
 -- ---- from no network on: a call is refused, and then still nothing is known, until a set-up is accepted
 module _ (c : Call) (cs : List Call) (rest : AgreedOrUnset (learnedAll (nothingKnown none) cs)) where
@@ -146,6 +205,7 @@ from-nothing-on (dummy i ∷ cs) = still-unset (dummy i) cs (from-nothing-on cs)
 from-nothing-on (epoch i h ∷ cs) = still-unset (epoch i h) cs (from-nothing-on cs) 6 refl refl
 from-nothing-on (deliver p c ∷ cs) = still-unset (deliver p c) cs (from-nothing-on cs) 6 refl refl
 from-nothing-on (schedule j ∷ cs) = still-unset (schedule j) cs (from-nothing-on cs) 6 refl refl
+from-nothing-on (collect ∷ cs) = still-unset collect cs (from-nothing-on cs) 6 refl refl
 from-nothing-on (ask q ∷ cs) = still-unset (ask q) cs (from-nothing-on cs) 6 refl refl
 
 pub from-nothing : FromNothing
@@ -159,3 +219,7 @@ stamps-differ = always _ differ
 pub never-6 : Never6
 unfolding Never6
 never-6 = always _ never
+
+pub none-at-or-before : NoneAtOrBefore
+unfolding NoneAtOrBefore
+none-at-or-before = always _ none-before

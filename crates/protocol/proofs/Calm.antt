@@ -15,7 +15,7 @@ use Rattle.placement.specs.Placement.{copies, isLine}
 use Rattle.lines.specs.Lines.{Line}
 use Rattle.messages.specs.Messages.{Message, commit}
 use Rattle.records.specs.Records.{Record}
-use Rattle.protocol.specs.Network.{Network, messageStamp, messageFits, wellShaped, nthRecord}
+use Rattle.protocol.specs.Network.{Network, noSite, messageStamp, messageFits, wellShaped, nthRecord}
 use Rattle.protocol.specs.Steps.{due}
 use Rattle.lists.specs.Lists.{keep}
 use Rattle.site_operations.specs.Operations.{touches}
@@ -28,7 +28,12 @@ use Rattle.protocol.proofs.Added.{added-old, added-size, added-each, ad
 use Rattle.protocol.proofs.Invariant.{stampAt, heardAt, tableAt, messagesAt, sentAt, Named, Sizes, Invariant, line-sites, stamp-made, record-below, record-site, message-fits, reaches, due-child}
 
 abbrev pub changed : Network → List Site → List Line → List Record → Network
-changed n ss ls h = record { sites = ss; items = n .items; lines = ls; history = h }
+changed n ss ls h = record { sites = ss; items = n .items; lines = ls; history = h; base = n .base }
+
+-- after a step there are as many sites, and no site's timestamp falls
+pub record Grown (n : Network) (ss : List Site) : Type 0 where
+  pub many : length ss ≡ length (n .sites)
+  pub grows : (j : ℕ) → j < length (n .sites) → UpTo n (stampAt n j) (getD ss j noSite .stamp)
 
 -- ---- the timestamps of a list of messages: each passes, and they rise
 abbrev pub EachSent : List Record → List Message → (Stamp → Type 0) → Type 0
@@ -51,9 +56,8 @@ named-more ms m k (a, l, e) = (a, omega (arith, added-size ms m (commit 0)), add
 pub record Calm (n : Network) (ss : List Site) (ls : List Line) (h : List Record) : Type 0 where
   pub sizes : Sizes (changed n ss ls h)
   pub shape : wellShaped (changed n ss ls h) ≡ true
-  pub many : length ss ≡ length (n .sites)
-  -- no site's timestamp falls, and no child's changes but in its own tuple
-  pub grows : (j : ℕ) → j < length (n .sites) → UpTo n (stampAt n j) (stampAt (changed n ss ls h) j)
+  pub grown : Grown n ss
+  -- no child's timestamp changes but in its own tuple
   pub calm : (p j : ℕ) → isLine (n .items) p j ≡ true → heardAt (changed n ss ls h) j ≡ heardAt n j
   -- a line has its messages, or one more; those that it had mean what they did
   pub mail : (p j : ℕ) → isLine (n .items) p j ≡ true → (messagesAt (changed n ss ls h) p j ≡ messagesAt n p j) ⊎ Sent n (changed n ss ls h) p j
@@ -68,7 +72,7 @@ module _ (n : Network) (inv : Invariant n) (ss : List Site) (ls : List Line) (h 
   -- ---- the lines
   module _ (p j : ℕ) (line : isLine (n .items) p j ≡ true) where
     parent-grows : UpTo n (stampAt n p) (stampAt next p)
-    parent-grows = c .grows p (line-sites n inv p j line .0)
+    parent-grows = c .grown .grows p (line-sites n inv p j line .0)
 
     same-sent : (a : ℕ) → a < length (messagesAt n p j) → messageStamp h (getD (messagesAt n p j) a (commit 0)) ≡ sentAt n p j a
     same-sent a l = c .stays p (getD (messagesAt n p j) a (commit 0)) (message-fits n inv p j line a l)
@@ -125,7 +129,7 @@ module _ (n : Network) (inv : Invariant n) (ss : List Site) (ls : List Line) (h 
   -- ---- the commits that were nthRecord before
   module _ (k : ℕ) (old : k < length (n .history)) where
     pub calm-past : UpTo n (nthRecord n k .stamp) (stampAt next (nthRecord n k .site))
-    calm-past = upto-trans (nthRecord n k .stamp) (stampAt n (nthRecord n k .site)) (stampAt next (nthRecord n k .site)) (inv .past k old) (c .grows (nthRecord n k .site) (record-site n inv k old))
+    calm-past = upto-trans (nthRecord n k .stamp) (stampAt n (nthRecord n k .site)) (stampAt next (nthRecord n k .site)) (inv .past k old) (c .grown .grows (nthRecord n k .site) (record-site n inv k old))
 
     pub calm-owed : (j : ℕ) → due (n .items) (nthRecord n k .ops) j ≡ true → Before n (heardAt next j) (nthRecord n k .stamp) → Named (messagesAt next (nthRecord n k .site) j) k
     calm-owed j d b =
@@ -145,7 +149,7 @@ module _ (n : Network) (inv : Invariant n) (ss : List Site) (ls : List Line) (h 
             ∙ ap (λ (i : ℕ). notLater (orderAt n (nthRecord n k .stamp) (stampAt n i))) (sym s)
         go (inr (line, _)) =
             let below = record-below n inv k j old line in
-            let new : madeBy (placeAt n) j (stampAt next j) ≡ true = shape-parts next (c .shape) .stamps j (omega (arith, c .many)) in
+            let new : madeBy (placeAt n) j (stampAt next j) ≡ true = shape-parts next (c .shape) .stamps j (omega (arith, c .grown .many)) in
             cut-upto j (stampAt next j) (nthRecord n k .stamp) new below
             ∙ ap (λ (t : Stamp). notLater (orderAt n (nthRecord n k .stamp) t)) (c .calm (nthRecord n k .site) j line)
             ∙ sym (cut-upto j (stampAt n j) (nthRecord n k .stamp) (stamp-made n inv j site) below)
@@ -173,7 +177,7 @@ calm-keeps n inv ss ls c same =
       owed = λ k j l. calm-owed n inv ss ls h c k l j;
       heard = calm-heard n inv ss ls h c;
       copy = λ j x l s e.
-          let site : j < length (n .sites) = omega (arith, c .many) in
+          let site : j < length (n .sites) = omega (arith, c .grown .many) in
           ap (λ (t : List ℤ). getD t x (pos 0)) (same j site) ∙ inv .copy j x site s e ∙ sym (settled-value n inv ss ls h c j x site e);
       read = inv .read;
       allowed = inv .allowed;

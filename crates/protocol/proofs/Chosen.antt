@@ -38,7 +38,7 @@ either holds false p q x y = y
 -- ---- the parent with the earliest message
 module _ (n : Network) (j : ℕ) where
   -- it is a parent, where it is a site
-  earliest-line : (k : ℕ) → earliest n j k < sitesMost → isLine (n .items) (earliest n j k) j ≡ true
+  pub earliest-line : (k : ℕ) → earliest n j k < sitesMost → isLine (n .items) (earliest n j k) j ≡ true
   unfolding earliest
   earliest-line zero = λ h. absurd (omega arith)
   earliest-line (suc p) = go (isLine (n .items) p j) refl (earliest n j p) (earliest-line p)
@@ -183,4 +183,5 @@ keeps-schedule n j few e z =
       records = records-set n s j new;
       lined = set-each (LineShape (n .items) (n .history)) (n .lines) (lineNumber p j) (taken (lineAt n p j)) noLine (s .lined)
           (λ b. taken-shape (n .items) (n .history) (lineNumber p j) (lineAt n p j) (s .lined (lineNumber p j) b));
+      based = s .based;
     })

@@ -22,7 +22,7 @@ use Rattle.records.specs.Records.{Record}
 use Rattle.protocol.specs.Network.{Network, noRecord, siteAt, messageStamp, messageFits, wellShaped, nthRecord}
 use Rattle.protocol.specs.Steps.{countAtMost, opNumber, due, commitNetwork, recordOf}
 use Rattle.lists.specs.Lists.{keep}
-use Rattle.protocol.proofs.Keeps.{raised-made, keeps-commit}
+use Rattle.protocol.proofs.Keeps.{raised-made, keeps-fitting}
 use Rattle.protocol.specs.Agreement.{holds}
 use Rattle.lists.proofs.Chains.{keep-more}
 use Rattle.site_operations.proofs.Works.{wrote, worked-length, getD-worked, worked-size, worked-kinds, wrote-worked, ReadsFrom, worked-reads}
@@ -33,8 +33,7 @@ use Rattle.protocol.proofs.Added.{added-size, added-old, added-new, add
 use Rattle.protocol.proofs.Invariant.{stampAt, heardAt, tableAt, messagesAt, Named, Invariant, holder, touch-item, touch-owns, due-child, shaped, line-up, stamp-made, record-below, record-site, reaches}
 use Rattle.protocol.proofs.Calm.{changed, Calm, calm-past, calm-queue, calm-ahead, calm-behind, calm-heard, calm-owed, settled-value}
 use Rattle.protocol.proofs.Quiet.{moved, moved-each, moved-here, moved-many, mailed, mail-here, risen-before, risen-without, raise-calm}
-use Rattle.protocol.specs.Allowed.{CommitAllowed}
-use Rattle.protocol.proofs.Allowed.{OpAllowed, op-at}
+use Rattle.protocol.proofs.Allowed.{CommitFits, OpAllowed, op-at}
 
 -- ---- operations of the same kinds on the same items
 like-shape : (xs : List Item) (i : ℕ) (o u : Op) → o .kind ≡ u .kind → o .item ≡ u .item → OpAllowed xs i u → OpAllowed xs i o
@@ -235,6 +234,6 @@ module _ (n : Network) (inv : Invariant n) (i : ℕ) (os : List Op) (site : i < 
       commit-invariant
       (raise-calm n inv i site few new refl (worked-length (tableAt n i) os ∙ inv .sizes .tables i site) gets m later named w older)
 
-pub commit-keeps : (n : Network) → Invariant n → (i : ℕ) (os : List Op) → CommitAllowed n i os → Invariant (commitNetwork n i os)
+pub commit-keeps : (n : Network) → Invariant n → (i : ℕ) (os : List Op) → CommitFits n i os → Invariant (commitNetwork n i os)
 unfolding commitNetwork
-commit-keeps n inv i os z = commit-made n inv i os (z .there) (z .count-free) (z .each-op) (keeps-commit n i os (inv .shape) z)
+commit-keeps n inv i os z = commit-made n inv i os (z .there) (z .count-free) (z .each-op) (keeps-fitting n i os (inv .shape) z)

@@ -1,35 +1,48 @@
--- A network follows what is known of it from the calls and their answers, through every call.
+-- A network follows what is known of it from the calls and their answers, through every call: beside it goes the whole network, of which no collect has removed anything.
 use mathlib.Core.Path.{_≡_, refl, ap, ap₂, sym, subst, _∙_}
-use mathlib.Core.Bool.{Bool, true, false, cond}
+use mathlib.Core.Bool.{Bool, true, false, cond, _&&_, _||_, true≢false}
 use mathlib.Core.List.{List, [], _∷_, _++_, map, map-append}
+use mathlib.Core.Logic.{_⊎_, inl, inr}
 use mathlib.Core.Option.{Option, some}
-use Prim.Native.Nat.{ℕ, zero, suc, _<_}
+use Prim.Native.Nat.{ℕ, zero, suc, _≤_, _<_}
 use native.Mathlib.Omega.{arith}
-use lib.IntN.{ℤ}
-use lib.ListN.{length, getD, set, length-map, List·getD-map}
+use lib.IntN.{ℤ, pos}
+use lib.ListN.{length, getD, set, length-map, length-replicate, getD-replicate, List·getD-map}
 use lib.Seq.{getD-set-same}
 use lib.Dec.{eqb}
 use borrow.Author.Tests.{eqb-true, eq-eqb}
+use Rattle.lists.specs.Lists.{any}
 use Rattle.lists.proofs.Lists.{map-set}
-use Rattle.timestamp_order.specs.Timestamp.{Stamp, raised, withEpoch, appended, ownCount}
+use Rattle.timestamp_order.specs.Timestamp.{Stamp, raised, raisedOrSame, withEpoch, appended, ownCount}
+use Rattle.timestamp_order.specs.Order.{orderBy, notLater, IsEarlier, NotLater}
 use Rattle.site_operations.specs.Operations.{valuesRead}
 use Rattle.site.specs.Site.{Site, committed, dummied, atEpoch, received}
+use Rattle.placement.specs.Placement.{Item, isLine}
+use Rattle.lines.specs.Lines.{Line}
 use Rattle.records.specs.Records.{Record}
-use Rattle.protocol.specs.Network.{Network, noStamp, noSite, siteAt}
-use Rattle.protocol.specs.Steps.{startSites, setUpNumber, setUpNetwork, opsOf, commitNetwork, recordOf, dummyNetwork, epochNetwork, deliverNetwork, scheduleNumber, scheduleNetwork, chosen, head, headStamp, writesFor}
+use Rattle.protocol.specs.Network.{Network, Base, startBase, noStamp, noSite, recordAt, placeOf, siteAt}
+use Rattle.protocol.specs.Steps.{itemsOf, startSites, setUpNumber, setUpNetwork, opsOf, commitNumber, commitNetwork, recordOf, dummyNumber, dummyNetwork, epochNumber, epochNetwork, deliverNumber, deliverNetwork, countAtMost, scheduleNumber, scheduleNetwork, chosen, head, headStamp, writesFor}
 use Rattle.protocol.specs.Questions.{Question, questionNumber}
-use Rattle.protocol.specs.Calls.{Call, setUp, commit, dummy, epoch, deliver, schedule, ask, Outcome, refused, accepted, judged, perform}
-use Rattle.protocol.proofs.Chosen.{received-stamp}
+use Rattle.protocol.specs.Calls.{Call, setUp, commit, dummy, epoch, deliver, schedule, collect, ask, Outcome, refused, accepted, judged, perform}
+use Rattle.protocol.specs.Collect.{earliestStamp, isPast, collectNumber, foldedBase, collectNetwork}
 use Rattle.protocol.specs.Book.{Book, bookStamp, withStamp, startStamps, noted}
-use Rattle.protocol.specs.Agreement.{Known, nothingKnown, witnessed, learned, learnedAll, Always}
-use Rattle.protocol.proofs.Alike.{Alike, AllAlike, worked-alike, all-alike-add}
-use Rattle.protocol.proofs.Invariant.{stampAt, tableAt, Invariant, shaped}
-use Rattle.protocol.proofs.Quiet.{moved-here, risen, deliver-keeps, epoch-keeps, dummy-keeps}
-use Rattle.protocol.proofs.Commit.{commit-keeps}
-use Rattle.protocol.proofs.Schedule.{schedule-keeps}
-use Rattle.protocol.proofs.SetUp.{set-up-starts}
-use Rattle.protocol.specs.Allowed.{SetUpAllowed, CommitAllowed, DummyAllowed, EpochAllowed, DeliverAllowed}
+use Rattle.protocol.specs.Agreement.{Known, nothingKnown, isRemoved, collected, bookPlace, isAccepted, isSetUp, witnessed, learned, learnedAll, Always}
+use Rattle.protocol.specs.Allowed.{SetUpAllowed}
 use Rattle.protocol.proofs.Allowed.{set-up-allowed, commit-allowed, dummy-allowed, epoch-allowed, deliver-allowed}
+use Rattle.protocol.proofs.Alike.{AllAlike, alike-many, alike-stamp, worked-alike, all-alike-add}
+use Rattle.protocol.proofs.Chosen.{chosen-line, parent-held, received-stamp}
+use Rattle.protocol.proofs.Places.{orderAt, Before, UpTo}
+use Rattle.protocol.proofs.Invariant.{stampAt, tableAt, Invariant, shaped}
+use Rattle.protocol.proofs.Calm.{changed, Grown}
+use Rattle.protocol.proofs.Quiet.{moved, moved-here, same-grown, risen, risen-before, risen-grown, epoch-grown, deliver-keeps, epoch-keeps, dummy-keeps}
+use Rattle.protocol.proofs.Commit.{commit-keeps}
+use Rattle.protocol.proofs.Schedule.{schedule-grown, schedule-keeps}
+use Rattle.protocol.proofs.SetUp.{set-up-starts}
+use Rattle.protocol.proofs.Stays.{Stays, line-stays}
+use Rattle.protocol.proofs.View.{view, Removed}
+use Rattle.protocol.proofs.ViewSteps.{commit-fits-view, dummy-number-view, epoch-number-view, deliver-number-view, schedule-number-view, epoch-view, deliver-view, dummy-view, commit-view, chosen-view, answer-view, schedule-view}
+use Rattle.protocol.proofs.Removals.{removed-still, removed-more}
+use Rattle.protocol.proofs.Collected.{collect-view, collect-removed, collect-folded, collected-few, collected-at}
 
 abbrev pub stampsOf : List Site → List Stamp
 stampsOf ss = map (λ (s : Site). s .stamp) ss
@@ -39,26 +52,44 @@ abbrev pub readsOf : List Record → List (List ℤ)
 readsOf h = map (λ (r : Record). valuesRead (r .ops)) h
 
 pub record Follows (k : Known) : Type 0 where
-  pub network : Network
-  pub state-is : k .state ≡ some network
-  pub inv : Invariant network
-  pub items-are : k .items ≡ network .items
-  pub stamps-are : stampsOf (network .sites) ≡ k .book .stamps
-  pub commits-alike : AllAlike (network .history) (k .book .commits)
-  pub values-are : k .values ≡ readsOf (network .history)
+  -- what the same calls without collects would leave; its base is that of set-up
+  pub full : Network
+  pub base : Base
+  pub state-is : k .state ≡ some (view (isRemoved (k .removed)) base full)
+  pub inv : Invariant full
+  pub items-are : k .items ≡ full .items
+  pub stamps-are : stampsOf (full .sites) ≡ k .book .stamps
+  pub commits-alike : AllAlike (full .history) (k .book .commits)
+  pub values-are : k .values ≡ readsOf (full .history)
   pub answers-are : k .answered ≡ k .booked
+  pub removed : Removed full (isRemoved (k .removed)) base
+  pub folded-is : base .folded ≡ any (λ (r : Bool). r) (k .removed)
 
--- ---- a site's timestamp in the network and in the book
-module _ (n : Network) (b : Book) (same : stampsOf (n .sites) ≡ b .stamps) where
-  book-stamp : (i : ℕ) → stampAt n i ≡ bookStamp b i
-  book-stamp i = sym (List·getD-map (λ (s : Site). s .stamp) (n .sites) i noSite) ∙ ap (λ (ts : List Stamp). getD ts i noStamp) same
+-- ---- what a call that is no accepted set-up leaves
+-- one commit more, later than its site was
+pub record Extended (k m : Known) : Type 0 where
+  pub made : Record
+  pub extends : m .book .commits ≡ k .book .commits ++ (made ∷ [])
+  pub there : made .site < length (k .book .stamps)
+  pub later : IsEarlier (bookPlace k) (bookStamp (k .book) (made .site)) (made .stamp)
 
-  -- replaced in both
-  book-moved : (i : ℕ) (new : Site) (t : Stamp) → new .stamp ≡ t → stampsOf (set (n .sites) i new) ≡ withStamp b i t .stamps
-  book-moved i new t e = map-set (λ (s : Site). s .stamp) (n .sites) i new ∙ ap₂ (λ (ts : List Stamp) (u : Stamp). set ts i u) same e
+pub record Grows (k m : Known) : Type 0 where
+  pub items-same : m .items ≡ k .items
+  pub many : length (m .book .stamps) ≡ length (k .book .stamps)
+  -- no timestamp falls
+  pub grows : (j : ℕ) → j < length (k .book .stamps) → NotLater (bookPlace k) (bookStamp (k .book) j) (bookStamp (m .book) j)
+  pub commits : (m .book .commits ≡ k .book .commits) ⊎ Extended k m
 
-  book-has : (i : ℕ) (t : Stamp) → i < length (n .sites) → bookStamp (withStamp b i t) i ≡ t
-  book-has i t l = getD-set-same (b .stamps) i t noStamp (omega (arith, ap length same, length-map (n .sites) (λ (s : Site). s .stamp)))
+pub record Stepped (k m : Known) : Type 0 where
+  pub follows : Follows m
+  pub grows : Grows k m
+
+-- ---- a site's timestamp among those of some sites
+stamp-at : (ss : List Site) (ts : List Stamp) → stampsOf ss ≡ ts → (j : ℕ) → getD ss j noSite .stamp ≡ getD ts j noStamp
+stamp-at ss ts same j = sym (List·getD-map (λ (s : Site). s .stamp) ss j noSite) ∙ ap (λ (us : List Stamp). getD us j noStamp) same
+
+stamps-many : (ss : List Site) (ts : List Stamp) → stampsOf ss ≡ ts → length ts ≡ length ss
+stamps-many ss ts same = ap length (sym same) ∙ length-map ss (λ (s : Site). s .stamp)
 
 -- ---- an outcome by the call's number
 judged-number : (m : ℕ) (s : Option Network) (o : Outcome) → o .number ≡ 0 → judged m s o .number ≡ m
@@ -67,27 +98,6 @@ judged-number m s o e = go (eqb m 0) refl
     go : (b : Bool) → eqb m 0 ≡ b → (cond b o (refused m s)) .number ≡ m
     go true f = e ∙ sym (eqb-true m 0 f)
     go false f = refl
-
-module _ (k : Known) (f : Follows k) (c : Call) where
-  refused-follows : (m : ℕ) → eqb m 0 ≡ false → Follows (witnessed k c (refused m (some (f .network))))
-  refused-follows m e =
-      rw e (record {
-        network = f .network;
-        state-is = refl;
-        inv = f .inv;
-        items-are = f .items-are;
-        stamps-are = f .stamps-are;
-        commits-alike = f .commits-alike;
-        values-are = f .values-are;
-        answers-are = f .answers-are;
-      })
-
-  judged-follows : (m : ℕ) (o : Outcome) → perform (some (f .network)) c ≡ judged m (some (f .network)) o → (m ≡ 0 → Follows (witnessed k c o)) → Follows (learned k c)
-  judged-follows m o is ok = subst (λ (x : Outcome). Follows (witnessed k c x)) (sym (ap (λ (s : Option Network). perform s c) (f .state-is) ∙ is)) (go (eqb m 0) refl)
-    where
-      go : (b : Bool) → eqb m 0 ≡ b → Follows (witnessed k c (cond b o (refused m (some (f .network)))))
-      go true e = ok (eqb-true m 0 e)
-      go false e = refused-follows m e
 
 -- ---- set-up, whatever is known before
 start-stamps : (i n : ℕ) → stampsOf (startSites i n) ≡ startStamps i n
@@ -98,8 +108,10 @@ set-up-follows : (k : Known) → k .answered ≡ k .booked → (sites items : �
     → Follows (witnessed k (setUp sites items ps ms) (accepted 0 noStamp [] (setUpNetwork sites ps ms)))
 unfolding noted setUpNetwork
 set-up-follows k same sites items ps ms z =
+    let many = length (itemsOf ps ms) in
     record {
-      network = setUpNetwork sites ps ms;
+      full = setUpNetwork sites ps ms;
+      base = startBase many;
       state-is = refl;
       inv = set-up-starts sites items ps ms z;
       items-are = refl;
@@ -107,129 +119,287 @@ set-up-follows k same sites items ps ms z =
       commits-alike = tt;
       values-are = refl;
       answers-are = same;
+      removed = record {
+        few = λ m l. refl;
+        bound = λ m l. absurd (omega arith);
+        lead = λ m k l. absurd (omega arith);
+        base-length = length-replicate many (pos 0);
+        base-is = λ x l. getD-replicate many x (pos 0) (pos 0) l;
+      };
+      folded-is = refl;
     }
 
--- ---- the steps
+-- ---- the other calls
 module _ (k : Known) (f : Follows k) where
   abbrev n : Network
-  n = f .network
+  n = f .full
 
   abbrev b : Book
   b = k .book
+
+  abbrev goes : ℕ → Bool
+  goes = isRemoved (k .removed)
+
+  abbrev seen : Network → Network
+  seen m = view goes (f .base) m
+
+  -- ---- a site's timestamp in the book
+  book-stamp : (i : ℕ) → stampAt n i ≡ bookStamp b i
+  book-stamp = stamp-at (n .sites) (b .stamps) (f .stamps-are)
+
+  -- replaced in both
+  book-moved : (i : ℕ) (new : Site) (t : Stamp) → new .stamp ≡ t → stampsOf (set (n .sites) i new) ≡ withStamp b i t .stamps
+  book-moved i new t e = map-set (λ (s : Site). s .stamp) (n .sites) i new ∙ ap₂ (λ (ts : List Stamp) (u : Stamp). set ts i u) (f .stamps-are) e
+
+  book-has : (i : ℕ) (t : Stamp) → i < length (n .sites) → bookStamp (withStamp b i t) i ≡ t
+  book-has i t l = getD-set-same (b .stamps) i t noStamp (omega (arith, stamps-many (n .sites) (b .stamps) (f .stamps-are)))
+
+  -- the order of sites is the network's
+  book-upto : (s t : Stamp) → UpTo n s t → NotLater (bookPlace k) s t
+  book-upto s t = subst (λ (xs : List Item). NotLater (placeOf xs) s t) (sym (f .items-are))
+
+  book-before : (s t : Stamp) → Before n s t → IsEarlier (bookPlace k) s t
+  book-before s t = subst (λ (xs : List Item). IsEarlier (placeOf xs) s t) (sym (f .items-are))
+
+  book-grows : (ss : List Site) (ts : List Stamp) → Grown n ss → stampsOf ss ≡ ts → (j : ℕ) → j < length (b .stamps) → NotLater (bookPlace k) (bookStamp b j) (getD ts j noStamp)
+  book-grows ss ts grown same j l =
+      let near : j < length (n .sites) = omega (arith, stamps-many (n .sites) (b .stamps) (f .stamps-are)) in
+      book-upto (bookStamp b j) (getD ts j noStamp) (ap₂ (λ (s t : Stamp). notLater (orderAt n s t)) (sym (book-stamp j)) (sym (stamp-at ss ts same j)) ∙ grown .grows j near)
+
+  book-many : (ss : List Site) (ts : List Stamp) → Grown n ss → stampsOf ss ≡ ts → length ts ≡ length (b .stamps)
+  book-many ss ts grown same = stamps-many ss ts same ∙ grown .many ∙ sym (stamps-many (n .sites) (b .stamps) (f .stamps-are))
+
+  -- ---- a call that makes no commit: other sites and lines, other timestamps
+  module _ (ss : List Site) (ls : List Line) (ts answered booked : List Stamp) where
+    abbrev quiet : Network
+    quiet = changed n ss ls (n .history)
+
+    quiet-step : Invariant quiet → Grown n ss → stampsOf ss ≡ ts → answered ≡ booked
+        → Stepped k (record { state = some (seen quiet); book = record { stamps = ts; commits = b .commits }; items = k .items; values = k .values; removed = k .removed; answered = answered; booked = booked })
+    quiet-step inv grown same answers =
+        record {
+          follows = record {
+            full = quiet;
+            base = f .base;
+            state-is = refl;
+            inv = inv;
+            items-are = f .items-are;
+            stamps-are = same;
+            commits-alike = f .commits-alike;
+            values-are = f .values-are;
+            answers-are = answers;
+            removed = removed-still n goes (f .base) (f .removed) ss ls grown;
+            folded-is = f .folded-is;
+          };
+          grows = record { items-same = refl; many = book-many ss ts grown same; grows = book-grows ss ts grown same; commits = inl refl };
+        }
+
+  -- nothing changes
+  still-step : Stepped k (record { state = some (seen n); book = b; items = k .items; values = k .values; removed = k .removed; answered = k .answered; booked = k .booked })
+  still-step = quiet-step (n .sites) (n .lines) (b .stamps) (k .answered) (k .booked) (f .inv) (same-grown n) (f .stamps-are) (f .answers-are)
+
+  refused-step : (c : Call) (m : ℕ) → eqb m 0 ≡ false → Stepped k (witnessed k c (refused m (some (seen n))))
+  refused-step c m e = rw e still-step
+
+  ask-step : (q : Question) → questionNumber (seen n) q ≡ 0 → Stepped k (witnessed k (ask q) (accepted 0 noStamp [] (seen n)))
+  unfolding noted
+  ask-step q z = still-step
+
+  deliver-step : (p c : ℕ) → deliverNumber (seen n) p c ≡ 0 → Stepped k (witnessed k (deliver p c) (accepted 0 noStamp [] (deliverNetwork (seen n) p c)))
+  unfolding noted deliverNetwork
+  deliver-step p c z =
+      let ok = deliver-allowed n p c (sym (deliver-number-view goes (f .base) n p c) ∙ z) in
+      subst (λ (m : Network). Stepped k (witnessed k (deliver p c) (accepted 0 noStamp [] m))) (sym (deliver-view goes (f .base) n p c))
+      (quiet-step (n .sites) (deliverNetwork n p c .lines) (b .stamps) (k .answered) (k .booked) (deliver-keeps n (f .inv) p c ok) (same-grown n) (f .stamps-are) (f .answers-are))
+
+  epoch-step : (i e : ℕ) → epochNumber (seen n) i e ≡ 0 → Stepped k (witnessed k (epoch i e) (accepted 0 noStamp [] (epochNetwork (seen n) i e)))
+  unfolding noted epochNetwork
+  epoch-step i e z =
+      let ok = epoch-allowed n i e (sym (epoch-number-view goes (f .base) n i e) ∙ z) in
+      let t = withEpoch (bookStamp b i) e in
+      let new = atEpoch e (siteAt n i) in
+      subst (λ (m : Network). Stepped k (witnessed k (epoch i e) (accepted 0 noStamp [] m))) (sym (epoch-view goes (f .base) n i e))
+      (quiet-step (moved n (f .inv) i new) (n .lines) (withStamp b i t .stamps) (k .answered) (k .booked) (epoch-keeps n (f .inv) i e ok) (epoch-grown n (f .inv) i e ok)
+      (book-moved i new t (ap (λ (s : Stamp). withEpoch s e) (book-stamp i))) (f .answers-are))
+
+  -- a site's own count one higher, in the network and in the book
+  book-risen : (i : ℕ) → i < length (n .sites) → countAtMost n i ≡ false → raisedOrSame (stampAt n i) ≡ raised (bookStamp b i)
+  book-risen i there few = risen n (f .inv) i there few ∙ ap raised (book-stamp i)
 
   -- one more answered is the one more booked
   one-more : (t u : Stamp) → t ≡ u → k .answered ++ (t ∷ []) ≡ k .booked ++ (u ∷ [])
   one-more t u e = ap₂ (λ (ts : List Stamp) (s : Stamp). ts ++ (s ∷ [])) (f .answers-are) e
 
-  commit-follows : (i : ℕ) (ks is : List ℕ) (vs : List ℤ) → CommitAllowed n i (opsOf ks is vs)
-      → Follows (witnessed k (commit i ks is vs)
-      (accepted 0 (recordOf n i (opsOf ks is vs) .stamp) (valuesRead (recordOf n i (opsOf ks is vs) .ops)) (commitNetwork n i (opsOf ks is vs))))
-  unfolding noted commitNetwork
-  commit-follows i ks is vs z =
-      let os = opsOf ks is vs in
-      let r = recordOf n i os in
-      let t = raised (bookStamp b i) in
-      let same : r .stamp ≡ t = risen n (f .inv) i (z .there) (z .count-free) ∙ ap raised (book-stamp n b (f .stamps-are) i) in
-      let alike : Alike r (record { site = i; stamp = t; ops = os }) = record { site-same = refl; stamp-same = same; ops-alike = worked-alike (tableAt n i) os } in
-      record {
-        network = commitNetwork n i os;
-        state-is = refl;
-        inv = commit-keeps n (f .inv) i os z;
-        items-are = f .items-are;
-        stamps-are = book-moved n b (f .stamps-are) i (committed os (siteAt n i)) t same;
-        commits-alike = all-alike-add (n .history) (b .commits) r (record { site = i; stamp = t; ops = os }) (f .commits-alike) alike;
-        values-are = ap (λ (vs : List (List ℤ)). vs ++ (valuesRead (r .ops) ∷ [])) (f .values-are) ∙ sym (map-append (λ (x : Record). valuesRead (x .ops)) (n .history) (r ∷ []));
-        answers-are = one-more (r .stamp) (bookStamp (withStamp b i t) i) (same ∙ sym (book-has n b (f .stamps-are) i t (z .there)));
-      }
-
-  dummy-follows : (i : ℕ) → DummyAllowed n i → Follows (witnessed k (dummy i) (accepted 0 (siteAt (dummyNetwork n i) i .stamp) [] (dummyNetwork n i)))
+  dummy-step : (i : ℕ) → dummyNumber (seen n) i ≡ 0 → Stepped k (witnessed k (dummy i) (accepted 0 (siteAt (dummyNetwork (seen n) i) i .stamp) [] (dummyNetwork (seen n) i)))
   unfolding noted dummyNetwork
-  dummy-follows i z =
+  dummy-step i z =
+      let ok = dummy-allowed n i (sym (dummy-number-view goes (f .base) n i) ∙ z) in
       let new = dummied (siteAt n i) in
       let t = raised (bookStamp b i) in
-      let same : new .stamp ≡ t = risen n (f .inv) i (z .there) (z .count-free) ∙ ap raised (book-stamp n b (f .stamps-are) i) in
-      record {
-        network = dummyNetwork n i;
-        state-is = refl;
-        inv = dummy-keeps n (f .inv) i z;
-        items-are = f .items-are;
-        stamps-are = book-moved n b (f .stamps-are) i new t same;
-        commits-alike = f .commits-alike;
-        values-are = f .values-are;
-        answers-are = one-more (siteAt (dummyNetwork n i) i .stamp) (bookStamp (withStamp b i t) i)
-            (ap (λ (s : Site). s .stamp) (moved-here n (f .inv) i new (z .there)) ∙ same ∙ sym (book-has n b (f .stamps-are) i t (z .there)));
-      }
+      let same : new .stamp ≡ t = book-risen i (ok .there) (ok .count-free) in
+      let at = stampAt (dummyNetwork n i) i in
+      let has = bookStamp (withStamp b i t) i in
+      subst (λ (m : Network). Stepped k (witnessed k (dummy i) (accepted 0 at [] m))) (sym (dummy-view goes (f .base) n i))
+      (quiet-step (moved n (f .inv) i new) (dummyNetwork n i .lines) (withStamp b i t .stamps) (k .answered ++ (at ∷ [])) (k .booked ++ (has ∷ []))
+      (dummy-keeps n (f .inv) i ok) (risen-grown n (f .inv) i (ok .there) (ok .count-free) new refl) (book-moved i new t same)
+      (one-more at has (ap (λ (s : Site). s .stamp) (moved-here n (f .inv) i new (ok .there)) ∙ same ∙ sym (book-has i t (ok .there)))))
 
-  epoch-follows : (i e : ℕ) → EpochAllowed n i e → Follows (witnessed k (epoch i e) (accepted 0 noStamp [] (epochNetwork n i e)))
-  unfolding noted epochNetwork
-  epoch-follows i e z =
-      record {
-        network = epochNetwork n i e;
-        state-is = refl;
-        inv = epoch-keeps n (f .inv) i e z;
-        items-are = f .items-are;
-        stamps-are = book-moved n b (f .stamps-are) i (atEpoch e (siteAt n i)) (withEpoch (bookStamp b i) e) (ap (λ (t : Stamp). withEpoch t e) (book-stamp n b (f .stamps-are) i));
-        commits-alike = f .commits-alike;
-        values-are = f .values-are;
-        answers-are = f .answers-are;
-      }
+  commit-step : (i : ℕ) (ks is : List ℕ) (vs : List ℤ) → commitNumber (seen n) i ks is vs ≡ 0
+      → Stepped k (witnessed k (commit i ks is vs)
+      (accepted 0 (recordOf n i (opsOf ks is vs) .stamp) (valuesRead (recordOf n i (opsOf ks is vs) .ops)) (commitNetwork (seen n) i (opsOf ks is vs))))
+  unfolding noted commitNetwork
+  commit-step i ks is vs z =
+      let os = opsOf ks is vs in
+      let ok = commit-fits-view goes (f .base) n i os (commit-allowed (seen n) i ks is vs z .1) in
+      let h = n .history in
+      let r = recordOf n i os in
+      let new = committed os (siteAt n i) in
+      let ss = moved n (f .inv) i new in
+      let t = raised (bookStamp b i) in
+      let ts = withStamp b i t .stamps in
+      let c : Record = record { site = i; stamp = t; ops = os } in
+      let same : r .stamp ≡ t = book-risen i (ok .there) (ok .count-free) in
+      let later : Before n (stampAt n i) (r .stamp) = risen-before n (f .inv) i (ok .there) (ok .count-free) in
+      let grown : Grown n ss = risen-grown n (f .inv) i (ok .there) (ok .count-free) new refl in
+      let booked : stampsOf ss ≡ ts = book-moved i new t same in
+      subst (λ (m : Network). Stepped k (witnessed k (commit i ks is vs) (accepted 0 (r .stamp) (valuesRead (r .ops)) m)))
+      (sym (commit-view goes (f .base) n i os (f .removed .few (length h) (omega arith))))
+      (record {
+        follows = record {
+          full = commitNetwork n i os;
+          base = f .base;
+          state-is = refl;
+          inv = commit-keeps n (f .inv) i os ok;
+          items-are = f .items-are;
+          stamps-are = booked;
+          commits-alike = all-alike-add h (b .commits) r c (f .commits-alike) (record { site-same = refl; stamp-same = same; ops-alike = worked-alike (tableAt n i) os });
+          values-are = ap (λ (us : List (List ℤ)). us ++ (valuesRead (r .ops) ∷ [])) (f .values-are) ∙ sym (map-append (λ (x : Record). valuesRead (x .ops)) h (r ∷ []));
+          answers-are = one-more (r .stamp) (bookStamp (withStamp b i t) i) (same ∙ sym (book-has i t (ok .there)));
+          removed = removed-more n goes (f .base) (f .removed) ss (commitNetwork n i os .lines) grown r i (ok .there) later;
+          folded-is = f .folded-is;
+        };
+        grows = record {
+          items-same = refl;
+          many = book-many ss ts grown booked;
+          grows = book-grows ss ts grown booked;
+          commits = inr (record {
+            made = c;
+            extends = refl;
+            there = omega (arith, ok .there, stamps-many (n .sites) (b .stamps) (f .stamps-are));
+            later = book-before (bookStamp b i) t (ap₂ (λ (s u : Stamp). orderAt n s u) (sym (book-stamp i)) (sym same) ∙ later);
+          });
+        };
+      })
 
-  -- another network with the same items, timestamps and history, of which the book hears nothing
-  abbrev stillAt : Network → Known
-  stillAt m = record { state = some m; book = k .book; items = k .items; values = k .values; answered = k .answered; booked = k .booked }
-
-  still-follows : (m : Network) → Invariant m → m .items ≡ n .items → map (λ (s : Site). s .stamp) (m .sites) ≡ map (λ (s : Site). s .stamp) (n .sites) → m .history ≡ n .history → Follows (stillAt m)
-  still-follows m inv items stamps history =
-      record {
-        network = m;
-        state-is = refl;
-        inv = inv;
-        items-are = f .items-are ∙ sym items;
-        stamps-are = stamps ∙ f .stamps-are;
-        commits-alike = subst (λ (h : List Record). AllAlike h (k .book .commits)) (sym history) (f .commits-alike);
-        values-are = f .values-are ∙ ap readsOf (sym history);
-        answers-are = f .answers-are;
-      }
-
-  deliver-follows : (p c : ℕ) → DeliverAllowed n p c → Follows (witnessed k (deliver p c) (accepted 0 noStamp [] (deliverNetwork n p c)))
-  unfolding noted deliverNetwork
-  deliver-follows p c z = still-follows (deliverNetwork n p c) (deliver-keeps n (f .inv) p c z) refl refl refl
-
-  ask-follows : (q : Question) → questionNumber n q ≡ 0 → Follows (witnessed k (ask q) (accepted 0 noStamp [] n))
-  unfolding noted
-  ask-follows q z = still-follows n (f .inv) refl refl refl
-
-  schedule-follows : (j : ℕ) → scheduleNumber n j ≡ 0
-      → Follows (witnessed k (schedule j) (accepted (chosen n j) (headStamp n (chosen n j) j) [] (scheduleNetwork n j)))
+  schedule-step : (j : ℕ) → scheduleNumber (seen n) j ≡ 0
+      → Stepped k (witnessed k (schedule j) (accepted (chosen (seen n) j) (headStamp (seen n) (chosen (seen n) j) j) [] (scheduleNetwork (seen n) j)))
   unfolding noted scheduleNetwork
-  schedule-follows j z =
-      let t = headStamp n (chosen n j) j in
-      let new = received (writesFor n j (head n (chosen n j) j)) t (siteAt n j) in
-      let same : new .stamp ≡ appended t j (ownCount (bookStamp b j))
-      = received-stamp n j (f .inv .sizes .sites) (shaped n (f .inv)) z ∙ ap (λ (s : Stamp). appended t j (ownCount s)) (book-stamp n b (f .stamps-are) j) in
-      record {
-        network = scheduleNetwork n j;
-        state-is = refl;
-        inv = schedule-keeps n (f .inv) j z;
-        items-are = f .items-are;
-        stamps-are = book-moved n b (f .stamps-are) j new (appended t j (ownCount (bookStamp b j))) same;
-        commits-alike = f .commits-alike;
-        values-are = f .values-are;
-        answers-are = f .answers-are;
-      }
+  schedule-step j z =
+      let ok = sym (schedule-number-view goes (f .base) n j) ∙ z in
+      let p = chosen n j in
+      let answer = headStamp n p j in
+      let t = appended answer j (ownCount (bookStamp b j)) in
+      let new = received (writesFor n j (head n p j)) answer (siteAt n j) in
+      let few = f .inv .sizes .sites in
+      let whole = shaped n (f .inv) in
+      let same : new .stamp ≡ t = received-stamp n j few whole ok ∙ ap (λ (s : Stamp). appended answer j (ownCount s)) (book-stamp j) in
+      let stay : (q : ℕ) → isLine (n .items) q j ≡ true → Stays goes (n .history) (head n q j)
+      = λ q line. line-stays n (f .inv) goes (f .removed .bound) q j line 0 (parent-held n j few whole ok q line) in
+      let line = chosen-line n j few whole ok in
+      let outcome : accepted (chosen (seen n) j) (headStamp (seen n) (chosen (seen n) j) j) [] (scheduleNetwork (seen n) j) ≡ accepted p answer [] (seen (scheduleNetwork n j))
+      = λ i. accepted (chosen-view goes (f .base) n j stay i) (answer-view goes (f .base) n j stay line i) [] (schedule-view goes (f .base) n j stay line i) in
+      subst (λ (o : Outcome). Stepped k (witnessed k (schedule j) o)) (sym outcome)
+      (quiet-step (moved n (f .inv) j new) (scheduleNetwork n j .lines) (withStamp b j t .stamps) (k .answered) (k .booked)
+      (schedule-keeps n (f .inv) j ok) (schedule-grown n (f .inv) j ok) (book-moved j new t same) (f .answers-are))
 
--- ---- every call
-call-follows : (k : Known) → Follows k → (c : Call) → Follows (learned k c)
-unfolding perform
-call-follows k f (setUp sites items ps ms) = judged-follows k f (setUp sites items ps ms) _ _ refl (λ z. set-up-follows k (f .answers-are) sites items ps ms (set-up-allowed sites items ps ms z))
-call-follows k f (commit i ks is vs) = judged-follows k f (commit i ks is vs) _ _ refl (λ z. commit-follows k f i ks is vs (commit-allowed (f .network) i ks is vs z .1))
-call-follows k f (dummy i) = judged-follows k f (dummy i) _ _ refl (λ z. dummy-follows k f i (dummy-allowed (f .network) i z))
-call-follows k f (epoch i e) = judged-follows k f (epoch i e) _ _ refl (λ z. epoch-follows k f i e (epoch-allowed (f .network) i e z))
-call-follows k f (deliver p c) = judged-follows k f (deliver p c) _ _ refl (λ z. deliver-follows k f p c (deliver-allowed (f .network) p c z))
-call-follows k f (schedule j) = judged-follows k f (schedule j) _ _ refl (schedule-follows k f j)
-call-follows k f (ask q) = judged-follows k f (ask q) _ _ refl (ask-follows k f q)
+  -- ---- collect: the marks of the book's commits are those of the network's
+  abbrev marks : List Bool
+  marks = collected (bookPlace k) b (k .removed)
 
-calls-follow : (k : Known) → Follows k → (cs : List Call) → Follows (learnedAll k cs)
+  commits-many : length (n .history) ≡ length (b .commits)
+  commits-many = alike-many (n .history) (b .commits) (f .commits-alike)
+
+  book-past : (m : ℕ) → m < length (n .history) → notLater (orderBy (bookPlace k) (recordAt (b .commits) m .stamp) (earliestStamp (bookPlace k) (b .stamps))) ≡ isPast n m
+  book-past m l i =
+      let place = placeOf (f .items-are i) in
+      notLater (orderBy place (sym (alike-stamp (n .history) (b .commits) (f .commits-alike) m l) i) (earliestStamp place (sym (f .stamps-are) i)))
+
+  marks-on : (m : ℕ) → m < length (n .history) → isRemoved marks m ≡ (goes m || isPast n m)
+  marks-on m l = collected-at (bookPlace k) b (k .removed) m (omega (arith, commits-many)) ∙ ap (λ (x : Bool). goes m || x) (book-past m l)
+
+  marks-off : (m : ℕ) → length (n .history) ≤ m → isRemoved marks m ≡ false
+  marks-off m l = collected-few (bookPlace k) b (k .removed) m (omega (arith, commits-many))
+
+  collect-step : collectNumber (seen n) ≡ 0 → Stepped k (witnessed k collect (accepted 0 noStamp [] (collectNetwork (seen n))))
+  unfolding noted
+  collect-step z =
+      subst (λ (m : Network). Stepped k (witnessed k collect (accepted 0 noStamp [] m))) (sym (collect-view n (f .inv) goes (f .base) (f .removed) (isRemoved marks) marks-off marks-on))
+      (record {
+        follows = record {
+          full = n;
+          base = foldedBase (seen n);
+          state-is = refl;
+          inv = f .inv;
+          items-are = f .items-are;
+          stamps-are = f .stamps-are;
+          commits-alike = f .commits-alike;
+          values-are = f .values-are;
+          answers-are = f .answers-are;
+          removed = collect-removed n (f .inv) goes (f .base) (f .removed) (isRemoved marks) marks-off marks-on;
+          folded-is = collect-folded n (f .inv) (k .removed) (f .base) (f .removed) marks marks-off marks-on (f .folded-is);
+        };
+        grows = record {
+          items-same = refl;
+          many = refl;
+          grows = book-grows (n .sites) (b .stamps) (same-grown n) (f .stamps-are);
+          commits = inl refl;
+        };
+      })
+
+  -- ---- by the call's number
+  judged-by : (P : Known → Type 0) (c : Call) (m : ℕ) (o : Outcome) → perform (some (seen n)) c ≡ judged m (some (seen n)) o
+      → (eqb m 0 ≡ false → P (witnessed k c (refused m (some (seen n))))) → (m ≡ 0 → P (witnessed k c o)) → P (learned k c)
+  judged-by P c m o is other ok = subst (λ (x : Outcome). P (witnessed k c x)) (sym (ap (λ (s : Option Network). perform s c) (f .state-is) ∙ is)) (go (eqb m 0) refl)
+    where
+      go : (t : Bool) → eqb m 0 ≡ t → P (witnessed k c (cond t o (refused m (some (seen n)))))
+      go true e = ok (eqb-true m 0 e)
+      go false e = other e
+
+  judged-step : (c : Call) (m : ℕ) (o : Outcome) → perform (some (seen n)) c ≡ judged m (some (seen n)) o → (m ≡ 0 → Stepped k (witnessed k c o)) → Stepped k (learned k c)
+  judged-step c m o is = judged-by (Stepped k) c m o is (refused-step c m)
+
+  -- a set-up that is accepted is none of these
+  pub call-steps : (c : Call) → (isSetUp c && isAccepted (perform (k .state) c)) ≡ false → Stepped k (learned k c)
+  unfolding perform
+  call-steps (setUp sites items ps ms) e =
+      let m = setUpNumber sites items ps ms in
+      let o = accepted 0 noStamp [] (setUpNetwork sites ps ms) in
+      judged-step (setUp sites items ps ms) m o refl (λ z. absurd (true≢false (sym (eq-eqb (judged m (k .state) o .number) 0 (judged-number m (k .state) o refl ∙ z)) ∙ e)))
+  call-steps (commit i ks is vs) e = judged-step (commit i ks is vs) _ _ refl (commit-step i ks is vs)
+  call-steps (dummy i) e = judged-step (dummy i) _ _ refl (dummy-step i)
+  call-steps (epoch i t) e = judged-step (epoch i t) _ _ refl (epoch-step i t)
+  call-steps (deliver p c) e = judged-step (deliver p c) _ _ refl (deliver-step p c)
+  call-steps (schedule j) e = judged-step (schedule j) _ _ refl (schedule-step j)
+  call-steps collect e = judged-step collect _ _ refl collect-step
+  call-steps (ask q) e = judged-step (ask q) _ _ refl (ask-step q)
+
+  call-follows : (c : Call) → Follows (learned k c)
+  unfolding perform
+  call-follows (setUp sites items ps ms) =
+      let c = setUp sites items ps ms in
+      let m = setUpNumber sites items ps ms in
+      judged-by Follows c m (accepted 0 noStamp [] (setUpNetwork sites ps ms)) refl (λ e. refused-step c m e .follows)
+      (λ z. set-up-follows k (f .answers-are) sites items ps ms (set-up-allowed sites items ps ms z))
+  call-follows (commit i ks is vs) = call-steps (commit i ks is vs) refl .follows
+  call-follows (dummy i) = call-steps (dummy i) refl .follows
+  call-follows (epoch i e) = call-steps (epoch i e) refl .follows
+  call-follows (deliver p c) = call-steps (deliver p c) refl .follows
+  call-follows (schedule j) = call-steps (schedule j) refl .follows
+  call-follows collect = call-steps collect refl .follows
+  call-follows (ask q) = call-steps (ask q) refl .follows
+
+-- ---- all calls
+pub calls-follow : (k : Known) → Follows k → (cs : List Call) → Follows (learnedAll k cs)
 calls-follow k f [] = f
 calls-follow k f (c ∷ cs) = calls-follow (learned k c) (call-follows k f c) cs
 

@@ -149,7 +149,7 @@ module _ (xs : List Item) (i : ℕ) (os : List Op) (fits : (a : ℕ) → a < len
 
 -- ---- what holds in a network with the invariant
 module _ (n : Network) (inv : Invariant n) where
-  open Times (timesAt n) using (made-under, never-before, made-apart)
+  open Times (timesAt n) using (made-under, never-before, made-apart, cut-before)
 
   pub shaped : Shape n
   shaped = shape-parts n (inv .shape)
@@ -189,6 +189,10 @@ module _ (n : Network) (inv : Invariant n) where
 
   pub sent-below : (p j : ℕ) → isLine (n .items) p j ≡ true → (a : ℕ) → a < length (messagesAt n p j) → Below (placeAt n) j (sentAt n p j a .tuples)
   sent-below p j e a l = made-under p j (sentAt n p j a) (sent-made p j e a l) (line-up p j e)
+
+  -- a message on a line into j is later than j itself
+  pub sent-later : (p j : ℕ) → isLine (n .items) p j ≡ true → (a : ℕ) → a < length (messagesAt n p j) → Before n (stampAt n j) (sentAt n p j a)
+  sent-later p j e a l = cut-before j (stampAt n j) (sentAt n p j a) (stamp-made j (line-sites p j e .1)) (sent-below p j e a l) (inv .ahead p j e a l)
 
   -- who holds an item that commit k writes is the commit's site or its child
   pub reaches : (k j x : ℕ) → k < length (n .history) → touches x (nthRecord n k .ops) ≡ true → holds (n .items) j x ≡ true → (j ≡ nthRecord n k .site) ⊎ ((isLine (n .items) (nthRecord n k .site) j ≡ true) × (copies (n .items) j x ≡ true))

@@ -27,13 +27,13 @@ use Rattle.lists.proofs.Some.{some-at, some-index}
 use Rattle.lines.specs.Lines.{Line, noLine, sent, delivered}
 use Rattle.messages.specs.Messages.{Message, commit, dummy}
 use Rattle.records.specs.Records.{Record, opFits}
-use Rattle.protocol.specs.Network.{linesMost, Network, noSite, noRecord, siteAt, lineAt, lineNumber, placeOf, messageFits, wellShaped}
+use Rattle.protocol.specs.Network.{linesMost, Network, noSite, noRecord, siteAt, lineAt, lineNumber, placeOf, messageFits, startBase, baseFits, wellShaped}
 use Rattle.protocol.specs.Steps.{itemsOf, startSite, startSites, setUpNetwork, countAtMost, opNumber, due, recordOf, commitNetwork, dummyNetwork, epochNetwork, deliverNetwork}
 use Rattle.lists.proofs.Lists.{set-each}
 use Rattle.protocol.proofs.Places.{placeAt}
 use Rattle.protocol.proofs.WellShaped.{sent-each, LineShape, RecordShape, Shape, shape-parts, shape-whole}
 use Rattle.protocol.specs.Allowed.{SetUpAllowed, CommitAllowed, DummyAllowed, EpochAllowed, DeliverAllowed}
-use Rattle.protocol.proofs.Allowed.{op-at}
+use Rattle.protocol.proofs.Allowed.{CommitFits, commit-fits, op-at}
 
 -- ---- set-up
 pub start-length : (i n : ℕ) → length (startSites i n) ≡ n
@@ -48,6 +48,10 @@ start-at i (suc n) (suc k) h = let next : suc i + k ≡ i + suc k = omega arith 
 no-line : (xs : List Item) (h : List Record) (k : ℕ) → LineShape xs h k noLine
 no-line xs h k = record { held = omega arith; placed = refl; fitting = refl }
 
+zeros-fit : (k : ℕ) → baseFits (startBase k) ≡ true
+zeros-fit zero = refl
+zeros-fit (suc k) = zeros-fit k
+
 pub keeps-set-up : (sites items : ℕ) (ps ms : List ℕ) → SetUpAllowed sites items ps ms → wellShaped (setUpNetwork sites ps ms) ≡ true
 unfolding setUpNetwork
 keeps-set-up sites items ps ms allowed =
@@ -61,6 +65,7 @@ keeps-set-up sites items ps ms allowed =
           ∙ made-start (placeOf xs) i 0 0;
       records = λ k h. absurd (omega arith);
       lined = λ k h. subst (LineShape xs [] k) (sym (getD-replicate linesMost k noLine noLine (omega (arith, length-replicate linesMost noLine)))) (no-line xs [] k);
+      based = zeros-fit (length xs);
     })
 
 -- ---- deliver: of fewer arrived than held, one more arrives
@@ -79,6 +84,7 @@ keeps-deliver n p c e allowed =
       records = s .records;
       lined = set-each (LineShape (n .items) (n .history)) (n .lines) (lineNumber p c) (delivered l) noLine (s .lined)
           (λ b. delivered-shape (n .items) (n .history) (lineNumber p c) l (allowed .on-way) (s .lined (lineNumber p c) b));
+      based = s .based;
     })
 
 -- ---- a site replaced by one whose timestamp it made too
@@ -108,6 +114,7 @@ keeps-epoch n i e w allowed =
       stamps = stamps-set n s i new (epoch-made (placeAt n) i e (siteAt n i .stamp) (s .stamps i (allowed .there)));
       records = records-set n s i new;
       lined = s .lined;
+      based = s .based;
     })
 
 -- ---- a message on a line that the placement gives
@@ -147,6 +154,7 @@ keeps-dummy n i e allowed =
       records = records-set n s i new;
       lined = sent-each gets i (dummy (new .stamp)) (n .lines) (LineShape (n .items) (n .history)) (s .lined) sitesMost
           (λ c site line l. sent-shape (n .items) (n .history) i c site (dummy (new .stamp)) l line made);
+      based = s .based;
     })
 
 -- ---- a history longer by one record
@@ -214,9 +222,9 @@ worked-fits items table (o ∷ os) =
     ap₂ _&&_ (ap₂ (λ (k x : ℕ). leb k 1 && ltb x items) (like .0) (like .1)) (worked-fits items (written table o) os)
 
 -- ---- commit
-pub keeps-commit : (n : Network) (i : ℕ) (os : List Op) → wellShaped n ≡ true → CommitAllowed n i os → wellShaped (commitNetwork n i os) ≡ true
+pub keeps-fitting : (n : Network) (i : ℕ) (os : List Op) → wellShaped n ≡ true → CommitFits n i os → wellShaped (commitNetwork n i os) ≡ true
 unfolding commitNetwork
-keeps-commit n i os e allowed =
+keeps-fitting n i os e allowed =
     let s = shape-parts n e in
     let xs = n .items in
     let gets = due xs os in
@@ -236,4 +244,8 @@ keeps-commit n i os e allowed =
       records = records-longer (n .history) r (RecordShape (placeOf xs) (length (set (n .sites) i new)) (length xs)) (records-set n s i new) fits;
       lined = sent-each gets i (commit (length (n .history))) (n .lines) (LineShape xs (longer (n .history) r)) (λ k h. line-longer (n .history) r xs k (getD (n .lines) k noLine) (s .lined k h)) sitesMost
           (λ c′ near hit l. sent-shape xs (longer (n .history) r) i c′ near (commit (length (n .history))) l (due-line xs i os (allowed .each-op) c′ hit) (message-new (n .history) r (placeOf xs)));
+      based = s .based;
     })
+
+pub keeps-commit : (n : Network) (i : ℕ) (os : List Op) → wellShaped n ≡ true → CommitAllowed n i os → wellShaped (commitNetwork n i os) ≡ true
+keeps-commit n i os e allowed = keeps-fitting n i os e (commit-fits n i os allowed)

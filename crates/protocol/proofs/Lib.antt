@@ -10,6 +10,7 @@ pub mod Sent
 pub mod Values
 pub mod Precedes
 pub mod Turns
+pub mod KeepsCollect
 pub mod Runs
 pub mod Alike
 pub mod Invariant
@@ -19,6 +20,14 @@ pub mod Quiet
 pub mod Commit
 pub mod Schedule
 pub mod SetUp
+pub mod Stays
+pub mod View
+pub mod ViewSteps
+pub mod Removals
+pub mod FromBase
+pub mod Kept
+pub mod Point
+pub mod Collected
 pub mod Follows
 pub mod Theorem
 pub mod Beside

@@ -28,7 +28,7 @@ use Rattle.protocol.proofs.Keeps.{keeps-deliver, keeps-epoch, keeps-dum
 use Rattle.protocol.proofs.Times.{Times}
 use Rattle.protocol.proofs.Places.{placeAt, Before, UpTo, timesAt}
 use Rattle.protocol.proofs.Invariant.{stampAt, heardAt, tableAt, messagesAt, Sizes, Invariant, line-sites, line-number, line-child, stamp-made}
-use Rattle.protocol.proofs.Calm.{changed, Sent, Calm, calm-keeps}
+use Rattle.protocol.proofs.Calm.{changed, Grown, Sent, Calm, calm-keeps}
 use Rattle.protocol.specs.Allowed.{DummyAllowed, EpochAllowed, DeliverAllowed}
 
 -- ---- one site replaced
@@ -58,8 +58,8 @@ module _ (n : Network) (inv : Invariant n) (i : ℕ) (new : Site) where
         tables = λ j l. moved-each (λ k s. length (s .table) ≡ tableSize) (inv .sizes .tables) t j (omega (arith, moved-many));
       }
 
-  pub moved-grows : UpTo n (stampAt n i) (new .stamp) → (j : ℕ) → j < length (n .sites) → UpTo n (stampAt n j) (getD moved j noSite .stamp)
-  moved-grows u = moved-each (λ j s. UpTo n (stampAt n j) (s .stamp)) (λ j l. upto-self (stampAt n j)) u
+  pub moved-grown : UpTo n (stampAt n i) (new .stamp) → Grown n moved
+  moved-grown u = record { many = moved-many; grows = moved-each (λ j s. UpTo n (stampAt n j) (s .stamp)) (λ j l. upto-self (stampAt n j)) u }
 
   pub moved-calm : (hasParents (n .items) i ≡ true → without (new .stamp) ≡ heardAt n i) → (p j : ℕ) → isLine (n .items) p j ≡ true → without (getD moved j noSite .stamp) ≡ heardAt n j
   moved-calm e p j line =
@@ -104,6 +104,9 @@ module _ (n : Network) (inv : Invariant n) (gets : ℕ → Bool) (i : ℕ) (m : 
             inr (same, f, subst more (sym same) (mail-here j from f))
 
 -- ---- deliver: what has arrived is no part of the invariant
+pub same-grown : (n : Network) → Grown n (n .sites)
+same-grown n = record { many = refl; grows = λ j l. timesAt n .upto-self (stampAt n j) }
+
 pub deliver-keeps : (n : Network) → Invariant n → (p c : ℕ) → DeliverAllowed n p c → Invariant (deliverNetwork n p c)
 unfolding deliverNetwork
 deliver-keeps n inv p c z =
@@ -114,8 +117,7 @@ deliver-keeps n inv p c z =
     (record {
       sizes = record { lines = size ∙ inv .sizes .lines; sites = inv .sizes .sites; items = inv .sizes .items; tables = inv .sizes .tables };
       shape = keeps-deliver n p c (inv .shape) z;
-      many = refl;
-      grows = λ j l. timesAt n .upto-self (stampAt n j);
+      grown = same-grown n;
       calm = λ q j line. refl;
       mail = λ q j line. inl (set-each (λ a l. l .messages ≡ getD (n .lines) a noLine .messages) (n .lines) k (delivered (lineAt n p c)) noLine (λ a l. refl) (λ b. refl)
           (lineNumber q j) (omega (arith, size, line-number n inv q j line)));
@@ -124,18 +126,21 @@ deliver-keeps n inv p c z =
     (λ j l. refl)
 
 -- ---- epoch: at a site without parents
+pub epoch-grown : (n : Network) (inv : Invariant n) (i e : ℕ) → EpochAllowed n i e → Grown n (moved n inv i (atEpoch e (siteAt n i)))
+epoch-grown n inv i e z =
+    let t = stampAt n i in
+    let new = atEpoch e (siteAt n i) in
+    moved-grown n inv i new (timesAt n .upto-before t (new .stamp) (epoch-later (placeAt n) t (new .stamp) (z .newer)))
+
 pub epoch-keeps : (n : Network) → Invariant n → (i e : ℕ) → EpochAllowed n i e → Invariant (epochNetwork n i e)
 unfolding epochNetwork
 epoch-keeps n inv i e z =
-    let t = stampAt n i in
     let new = atEpoch e (siteAt n i) in
-    let later : Before n t (new .stamp) = epoch-later (placeAt n) t (new .stamp) (z .newer) in
     calm-keeps n inv (moved n inv i new) (n .lines)
     (record {
       sizes = moved-sizes n inv i new (n .lines) (n .history) refl (inv .sizes .tables i (z .there));
       shape = keeps-epoch n i e (inv .shape) z;
-      many = moved-many n inv i new;
-      grows = moved-grows n inv i new (timesAt n .upto-before t (new .stamp) later);
+      grown = epoch-grown n inv i e z;
       calm = moved-calm n inv i new (λ h. absurd (true≢false (sym h ∙ z .orphan)));
       mail = λ q j line. inl refl;
       stays = λ q m f. refl;
@@ -154,6 +159,9 @@ module _ (n : Network) (inv : Invariant n) (i : ℕ) (site : i < length (n .site
 
   pub risen-without : without (raisedOrSame (stampAt n i)) ≡ heardAt n i
   risen-without = ap without risen ∙ without-raised i (stampAt n i) (stamp-made n inv i site)
+
+  pub risen-grown : (new : Site) → new .stamp ≡ raisedOrSame (stampAt n i) → Grown n (moved n inv i new)
+  risen-grown new same = moved-grown n inv i new (upto-before (stampAt n i) (new .stamp) (subst (Before n (stampAt n i)) (sym same) risen-before))
 
   module _ (new : Site) (same : new .stamp ≡ raisedOrSame (stampAt n i)) (size : length (new .table) ≡ tableSize) (gets : ℕ → Bool) (m : Message) (h : List Record) (is : messageStamp h m ≡ new .stamp) where
     abbrev after : Network
@@ -180,8 +188,7 @@ module _ (n : Network) (inv : Invariant n) (i : ℕ) (site : i < length (n .site
         record {
           sizes = moved-sizes n inv i new (mailed n inv gets i m) h (sent-length gets i m (n .lines) sitesMost) size;
           shape = well;
-          many = moved-many n inv i new;
-          grows = moved-grows n inv i new (upto-before (stampAt n i) (new .stamp) higher);
+          grown = risen-grown new same;
           calm = moved-calm n inv i new (λ e. ap without same ∙ risen-without);
           mail = λ p j line. go p j (mail-sent n inv gets i m p j line);
           stays = stays;

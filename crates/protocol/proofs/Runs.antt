@@ -1,4 +1,4 @@
--- The one-copy run against the order made: where the writers of an item were made by rising timestamp, the run's values are those
+-- The one-copy run, from any table, against the order made: where the writers of an item were made by rising timestamp, the run's values are those
 -- of the commits in the order made; and where besides every read was recorded with what the operations before it leave of that value, the
 -- run shows what was recorded.
 use mathlib.Core.Path.{_≡_, refl, ap, ap₂, sym, _∙_}
@@ -15,27 +15,27 @@ use Rattle.site_operations.specs.Operations.{worked, noOp, touches}
 use Rattle.site.specs.InWords.{tableSize}
 use Rattle.site_operations.proofs.Works.{wrote, untouched, worked-length, getD-worked, ReadsFrom, worked-same}
 use Rattle.records.specs.Records.{Record}
-use Rattle.lists.specs.Lists.{keep, upTo}
+use Rattle.lists.specs.Lists.{keep, keepFrom, upTo}
 use Rattle.lists.specs.Sorting.{sorted}
 use Rattle.protocol.specs.Run.{Turn, numbered, comesFirst, inTurn, after, run, startTable, find, shown, valueAt}
 use Rattle.protocol.specs.Network.{recordAt}
 use Rattle.protocol.proofs.Times.{Times, times}
-use Rattle.protocol.proofs.Values.{lastFrom, lastValue}
+use Rattle.protocol.proofs.Values.{lastFrom}
 use Rattle.lists.proofs.Chains.{Chain, each-implied, chain-keep, keep-none, keep-turn, map-keep}
 use Rattle.lists.proofs.Sorting.{chain-sorted, sorted-same, keep-sorted, InOrder}
-use Rattle.protocol.proofs.Turns.{turns-along, turns-either, has, chain-number, commits-numbered, each-found, has-turn, find-turn}
+use Rattle.protocol.proofs.Turns.{turns-along, turns-either, has, chain-number, commits-numbered, kept-numbered, each-found, has-turn, find-turn}
 
 -- ---- the value of an item after some turns
-abbrev commits : List Turn → List Record
+abbrev pub commits : List Turn → List Record
 commits cs = map (λ (c : Turn). c .commit) cs
 
-after-value : (table : List ℤ) (cs : List Turn) (x : ℕ) → x < length table → getD (after table cs) x (pos 0) ≡ lastFrom x (getD table x (pos 0)) (commits cs)
+pub after-value : (table : List ℤ) (cs : List Turn) (x : ℕ) → x < length table → getD (after table cs) x (pos 0) ≡ lastFrom x (getD table x (pos 0)) (commits cs)
 after-value table [] x h = refl
 after-value table (c ∷ cs) x h =
     after-value (worked table (c .commit .ops) .table) cs x (omega (arith, worked-length table (c .commit .ops)))
     ∙ ap (λ (v : ℤ). lastFrom x v (commits cs)) (getD-worked table (c .commit .ops) x h)
 
-after-length : (table : List ℤ) (cs : List Turn) → length (after table cs) ≡ length table
+pub after-length : (table : List ℤ) (cs : List Turn) → length (after table cs) ≡ length table
 after-length table [] = refl
 after-length table (c ∷ cs) = after-length (worked table (c .commit .ops) .table) cs ∙ worked-length table (c .commit .ops)
 
@@ -64,34 +64,48 @@ abbrev pub WritersRise : (ℕ → ℕ) → ℕ → List Record → Type 0
 WritersRise place x h =
     (k m : ℕ) → k < m → m < length h → touches x (recordAt h k .ops) ≡ true → touches x (recordAt h m .ops) ≡ true → IsEarlier place (recordAt h k .stamp) (recordAt h m .stamp)
 
-module _ (place : ℕ → ℕ) (x : ℕ) (h : List Record) (rise : WritersRise place x h) (q : Record → Bool) where
+-- ---- the table that the run starts from
+abbrev pub StartsAt : List ℤ → (ℕ → ℤ) → Type 0
+StartsAt table start = (x : ℕ) → x < length table → getD table x (pos 0) ≡ start x
+
+pub all-zero : StartsAt startTable (λ x. pos 0)
+all-zero x l = getD-replicate tableSize x (pos 0) (pos 0) (omega (arith, length-replicate tableSize (pos 0)))
+
+module _ (place : ℕ → ℕ) (table : List ℤ) (start : ℕ → ℤ) (starts : StartsAt table start) (x : ℕ) (near : x < length table) (h : List Record) (rise : WritersRise place x h) where
   abbrev writes : Turn → Bool
   writes c = writer x (c .commit)
 
-  abbrev passes : Turn → Bool
-  passes c = q (c .commit)
-
   -- so in turn they stand in the order made
-  writers-turn : keep writes (keep passes (inTurn place h)) ≡ keep writes (keep passes (numbered 0 h))
-  writers-turn =
+  writers-turn : (q : Turn → Bool) → keep writes (keep q (inTurn place h)) ≡ keep writes (keep q (numbered 0 h))
+  writers-turn q =
       let first = comesFirst place in
-      let rising = chain-number (λ r s. writer x r ≡ true → writer x s ≡ true → notLater (orderBy place (r .stamp) (s .stamp)) ≡ true) 0 h (λ k m a b e f. ap notLater (rise k m a b e f)) in
-      keep-turn writes passes (inTurn place h)
-      ∙ ap (keep passes)
+      let rising = chain-number h (λ c d. writes c ≡ true → writes d ≡ true → InOrder first c d) (λ k m a b e f. ap notLater (rise k m a b e f)) in
+      keep-turn writes q (inTurn place h)
+      ∙ ap (keep q)
       (ap (keep writes) (in-turn-is place h)
       ∙ keep-sorted first (turns-along place) (turns-either place) writes (numbered 0 h)
       ∙ sorted-same first (keep writes (numbered 0 h)) (chain-keep writes (InOrder first) (numbered 0 h) rising))
-      ∙ keep-turn passes writes (numbered 0 h)
+      ∙ keep-turn q writes (numbered 0 h)
 
-  -- the run's value after the commits that pass a test is that of those commits in the order made
-  run-last : x < tableSize → getD (after startTable (keep passes (inTurn place h))) x (pos 0) ≡ lastValue x (keep q h)
-  run-last l =
-      after-value startTable (keep passes (inTurn place h)) x (omega (arith, length-replicate tableSize (pos 0)))
-      ∙ ap (λ (v : ℤ). lastFrom x v (commits (keep passes (inTurn place h)))) (getD-replicate tableSize x (pos 0) (pos 0) l)
-      ∙ last-turns x (pos 0) (keep passes (inTurn place h))
-      ∙ ap (λ (cs : List Turn). lastFrom x (pos 0) (commits cs)) writers-turn
-      ∙ sym (last-turns x (pos 0) (keep passes (numbered 0 h)))
-      ∙ ap (lastFrom x (pos 0)) (map-keep (λ c. c .commit) q (numbered 0 h) ∙ ap (keep q) (commits-numbered 0 h))
+  -- the run's value after the turns that pass a test is that of those in the order made
+  run-turns : (q : Turn → Bool) → getD (after table (keep q (inTurn place h))) x (pos 0) ≡ lastFrom x (start x) (commits (keep q (numbered 0 h)))
+  run-turns q =
+      after-value table (keep q (inTurn place h)) x near
+      ∙ ap (λ (v : ℤ). lastFrom x v (commits (keep q (inTurn place h)))) (starts x near)
+      ∙ last-turns x (start x) (keep q (inTurn place h))
+      ∙ ap (λ (cs : List Turn). lastFrom x (start x) (commits cs)) (writers-turn q)
+      ∙ sym (last-turns x (start x) (keep q (numbered 0 h)))
+
+  -- by a test of the commits, and by one of their numbers
+  pub run-last : (q : Record → Bool) → getD (after table (keep (λ (c : Turn). q (c .commit)) (inTurn place h))) x (pos 0) ≡ lastFrom x (start x) (keep q h)
+  run-last q = run-turns (λ c. q (c .commit)) ∙ ap (lastFrom x (start x)) (map-keep (λ c. c .commit) q (numbered 0 h) ∙ ap (keep q) (commits-numbered 0 h))
+
+  pub run-numbers : (p : ℕ → Bool) → getD (after table (keep (λ (c : Turn). p (c .number)) (inTurn place h))) x (pos 0) ≡ lastFrom x (start x) (keepFrom p 0 h)
+  run-numbers p = run-turns (λ c. p (c .number)) ∙ ap (lastFrom x (start x)) (kept-numbered p 0 h)
+
+  pub run-value : (t : Stamp) → valueAt place table h t x ≡ lastFrom x (start x) (keep (λ (r : Record). notLater (orderBy place (r .stamp) t)) h)
+  unfolding valueAt
+  run-value t = run-last (λ r. notLater (orderBy place (r .stamp) t))
 
 -- a commit with the values that its reads get
 abbrev seenRecord : List ℤ → Record → Record
@@ -106,10 +120,6 @@ by-number f j (r ∷ h) g =
 
 module _ (place : ℕ → ℕ) where
   open Times (times place) using (upto-self, upto-before, upto-other, before-trans, fails-later, test-fails)
-
-  pub run-value : (h : List Record) (x : ℕ) → x < tableSize → WritersRise place x h → (t : Stamp) → valueAt place startTable h t x ≡ lastValue x (keep (λ (r : Record). notLater (orderBy place (r .stamp) t)) h)
-  unfolding valueAt
-  run-value h x l rise t = run-last place x h rise (λ r. notLater (orderBy place (r .stamp) t)) l
 
   -- ---- what each turn sees, where no two turns have one timestamp
   abbrev Before : Turn → Turn → Type 0
@@ -149,33 +159,33 @@ module _ (place : ℕ → ℕ) where
       (notLater (orderBy place (r .stamp) (s .stamp)) ≡ true → IsEarlier place (r .stamp) (s .stamp))
       × (notLater (orderBy place (r .stamp) (s .stamp)) ≡ false → IsEarlier place (s .stamp) (r .stamp))
 
-  pub run-shows : (h : List Record)
+  pub run-shows : (table : List ℤ) (start : ℕ → ℤ) → StartsAt table start → (h : List Record)
       → ((k m : ℕ) → k < m → m < length h → recordAt h k .stamp ≡ recordAt h m .stamp → ⊥)
       → ((x : ℕ) → WritersRise place x h)
-      → ((k : ℕ) → k < length h → (a : ℕ) → a < length (recordAt h k .ops) → getD (recordAt h k .ops) a noOp .item < tableSize)
-      → ((k : ℕ) → k < length h → ReadsFrom (λ x. lastValue x (keep (λ (r : Record). isEarlier (orderBy place (r .stamp) (recordAt h k .stamp))) h)) (recordAt h k .ops))
-      → h ≡ shown place startTable h
+      → ((k : ℕ) → k < length h → (a : ℕ) → a < length (recordAt h k .ops) → getD (recordAt h k .ops) a noOp .item < length table)
+      → ((k : ℕ) → k < length h → ReadsFrom (λ x. lastFrom x (start x) (keep (λ (r : Record). isEarlier (orderBy place (r .stamp) (recordAt h k .stamp))) h)) (recordAt h k .ops))
+      → h ≡ shown place table h
   unfolding shown
-  run-shows h differ rise low right = by-number (find (run startTable (inTurn place h))) 0 h each
+  run-shows table start starts h differ rise low right = by-number (find (run table (inTurn place h))) 0 h each
     where
       strict : Chain Before (inTurn place h)
       strict =
           let sorted : (r s : Record) → (r .stamp ≡ s .stamp → ⊥) → Sorted r s = λ r s n. (λ e. upto-other (r .stamp) (s .stamp) e n, fails-later (r .stamp) (s .stamp)) in
           chain-sorted (comesFirst place) Before (λ c d e. before-trans (c .commit .stamp) (d .commit .stamp) (e .commit .stamp)) (numbered 0 h)
-          (chain-number Sorted 0 h (λ k m a b. sorted (recordAt h k) (recordAt h m) (differ k m a b)))
+          (chain-number h (λ c d. Sorted (c .commit) (d .commit)) (λ k m a b. sorted (recordAt h k) (recordAt h m) (differ k m a b)))
 
-      each : (k : ℕ) → k < length h → recordAt h k ≡ find (run startTable (inTurn place h)) (0 + k)
+      each : (k : ℕ) → k < length h → recordAt h k ≡ find (run table (inTurn place h)) (0 + k)
       each k l =
           let r = recordAt h k in
-          let table : List ℤ = after startTable (keep (earlierThan r) (inTurn place h)) in
+          let before : List ℤ = after table (keep (earlierThan r) (inTurn place h)) in
           let same : k ≡ 0 + k = omega arith in
-          let kept : r .ops ≡ worked table (r .ops) .ops
-          = worked-same table (r .ops)
-          (λ a b e. omega (arith, low k l a b, after-length startTable (keep (earlierThan r) (inTurn place h)), length-replicate tableSize (pos 0)))
+          let kept : r .ops ≡ worked before (r .ops) .ops
+          = worked-same before (r .ops)
+          (λ a b e. omega (arith, low k l a b, after-length table (keep (earlierThan r) (inTurn place h))))
           (λ a b e.
           let x = getD (r .ops) a noOp .item in
-          right k l a b e ∙ ap (λ (v : ℤ). wrote x v (take a (r .ops))) (sym (run-last place x h (rise x) (λ s. isEarlier (orderBy place (s .stamp) (r .stamp))) (low k l a b)))) in
+          right k l a b e ∙ ap (λ (v : ℤ). wrote x v (take a (r .ops))) (sym (run-last place table start starts x (low k l a b) h (rise x) (λ s. isEarlier (orderBy place (s .stamp) (r .stamp)))))) in
           (λ i. record { site = r .site; stamp = r .stamp; ops = kept i })
-          ∙ ap (λ (s : Record). seenRecord (after startTable (keep (earlierThan s) (inTurn place h))) s) (sym (find-turn place h k))
-          ∙ sym (run-sees startTable (inTurn place h) k strict (has-turn place h k l))
-          ∙ ap (find (run startTable (inTurn place h))) same
+          ∙ ap (λ (s : Record). seenRecord (after table (keep (earlierThan s) (inTurn place h))) s) (sym (find-turn place h k))
+          ∙ sym (run-sees table (inTurn place h) k strict (has-turn place h k l))
+          ∙ ap (find (run table (inTurn place h))) same

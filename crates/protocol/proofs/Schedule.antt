@@ -32,9 +32,9 @@ use Rattle.site_operations.proofs.Works.{wrote, worked-length, getD-worked}
 use Rattle.protocol.proofs.Values.{lastValue, agree, joined-commit}
 use Rattle.protocol.proofs.Times.{Times, without-appended}
 use Rattle.protocol.proofs.Places.{placeAt, orderAt, Before, UpTo, timesAt}
-use Rattle.protocol.proofs.Invariant.{stampAt, heardAt, tableAt, messagesAt, messageAt, sentAt, Named, Invariant, one-owner, touch-owns, touch-due, due-child, shaped, line-sites, line-number, stamp-made, record-site, record-below, sent-made, sent-below, message-fits, reaches}
-use Rattle.protocol.proofs.Calm.{changed, EachSent, RisesSent}
-use Rattle.protocol.proofs.Quiet.{moved, moved-many, moved-here, moved-sizes, moved-grows}
+use Rattle.protocol.proofs.Invariant.{stampAt, heardAt, tableAt, messagesAt, messageAt, sentAt, Named, Invariant, one-owner, touch-owns, touch-due, due-child, shaped, line-sites, line-number, stamp-made, record-site, record-below, sent-made, sent-later, message-fits, reaches}
+use Rattle.protocol.proofs.Calm.{changed, Grown, EachSent, RisesSent}
+use Rattle.protocol.proofs.Quiet.{moved, moved-many, moved-here, moved-sizes, moved-grown}
 
 -- ---- of the parents' oldest messages none is earlier than the chosen one
 module _ (n : Network) (j : ℕ) where
@@ -159,13 +159,16 @@ module _ (n : Network) (inv : Invariant n) (j : ℕ) (z : scheduleNumber n j ≡
   fresh = inv .ahead p j line 0 (first p line)
 
   site-before : Before n (stampAt n j) y
-  site-before = cut-before j (stampAt n j) y (stamp-made n inv j site) (sent-below n inv p j line 0 (first p line)) fresh
+  site-before = sent-later n inv p j line 0 (first p line)
 
   y-before : Before n y (new .stamp)
   y-before = subst (Before n y) (sym stamp-is) (append-later (placeAt n) y j (ownCount (stampAt n j)))
 
+  pub schedule-grown : Grown n (moved n inv j new)
+  schedule-grown = moved-grown n inv j new (upto-before (stampAt n j) (new .stamp) (before-trans (stampAt n j) y (new .stamp) site-before y-before))
+
   grows : (i : ℕ) → i < length (n .sites) → UpTo n (stampAt n i) (stampAt next i)
-  grows = moved-grows n inv j new (upto-before (stampAt n j) (new .stamp) (before-trans (stampAt n j) y (new .stamp) site-before y-before))
+  grows = schedule-grown .grows
 
   -- ---- the sites
   here : siteAt next j ≡ new

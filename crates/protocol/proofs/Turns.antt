@@ -1,22 +1,22 @@
 -- Turns in order, and a turn found by its number.
-use mathlib.Core.Path.{_≡_, refl, ap, _∙_}
+use mathlib.Core.Path.{_≡_, refl, ap, sym, subst, subst₂, _∙_}
 use mathlib.Core.Bool.{Bool, true, false, cond, _||_, false≢true}
 use mathlib.Core.List.{List, [], _∷_, map}
 use Prim.Native.Nat.{ℕ, zero, suc, _+_, _<_}
 use native.Mathlib.Omega.{arith}
-use lib.ListN.{length}
+use lib.ListN.{length, getD}
 use lib.Dec.{eqb}
 use borrow.Author.Tests.{eqb-true, eq-eqb, ne-eqb}
 use Rattle.timestamp_order.specs.Order.{orderBy, notLater}
 use Rattle.timestamp_order.proofs.Comparisons.{not-later-trans, later-turned}
 use Rattle.timestamp_order.proofs.OrderLaws.{order-laws}
-use Rattle.lists.specs.Lists.{any}
+use Rattle.lists.specs.Lists.{any, keep, keepFrom}
 use Rattle.records.specs.Records.{Record}
 use Rattle.lists.specs.Sorting.{sorted, insert}
-use Rattle.lists.proofs.Chains.{Each, Chain}
+use Rattle.lists.proofs.Chains.{Each, Chain, each-by, chain-by}
 use Rattle.lists.proofs.Sorting.{each-sorted, any-sorted}
 use Rattle.protocol.specs.Run.{Turn, numbered, comesFirst, inTurn, find}
-use Rattle.protocol.specs.Network.{recordAt}
+use Rattle.protocol.specs.Network.{noRecord, recordAt}
 
 -- ---- by rising timestamp, equal ones in the order made
 module _ (place : ℕ → ℕ) where
@@ -25,6 +25,10 @@ module _ (place : ℕ → ℕ) where
 
   pub turns-either : (c d : Turn) → comesFirst place c d ≡ false → comesFirst place d c ≡ true
   turns-either c d h = ap notLater (later-turned (orderBy place) (order-laws place) (c .commit .stamp) (d .commit .stamp) h)
+
+-- the turn of a number
+abbrev turnOf : ℕ → Record → Turn
+turnOf k r = record { number = k; commit = r }
 
 -- ---- a turn found by its number
 abbrev pub has : ℕ → List Turn → Bool
@@ -68,15 +72,47 @@ pub commits-numbered : (j : ℕ) (h : List Record) → map (λ (c : Turn). c .co
 commits-numbered j [] = refl
 commits-numbered j (r ∷ h) = ap {B = List Record} (λ l. r ∷ l) (commits-numbered (suc j) h)
 
--- what holds of each commit by its number, and of each two
-pub each-number : (P : Record → Type 0) (j : ℕ) (h : List Record) → ((k : ℕ) → k < length h → P (recordAt h k)) → Each (λ (c : Turn). P (c .commit)) (numbered j h)
-each-number P j [] f = tt
-each-number P j (r ∷ h) f = (f 0 (omega arith), each-number P (suc j) h (λ k l. f (suc k) (omega arith)))
+pub kept-numbered : (p : ℕ → Bool) (j : ℕ) (h : List Record) → map (λ (c : Turn). c .commit) (keep (λ (c : Turn). p (c .number)) (numbered j h)) ≡ keepFrom p j h
+kept-numbered p j [] = refl
+kept-numbered p j (r ∷ h) = go (p j) (kept-numbered p (suc j) h)
+  where
+    rest : List Turn
+    rest = keep (λ (c : Turn). p (c .number)) (numbered (suc j) h)
 
-pub chain-number : (R : Record → Record → Type 0) (j : ℕ) (h : List Record)
-    → ((k m : ℕ) → k < m → m < length h → R (recordAt h k) (recordAt h m)) → Chain (λ (c d : Turn). R (c .commit) (d .commit)) (numbered j h)
-chain-number R j [] f = tt
-chain-number R j (r ∷ h) f = (each-number (R r) (suc j) h (λ m l. f 0 (suc m) (omega arith) (omega arith)), chain-number R (suc j) h (λ k m a b. f (suc k) (suc m) (omega arith) (omega arith)))
+    go : (b : Bool) → map (λ (c : Turn). c .commit) rest ≡ keepFrom p (suc j) h
+        → map (λ (c : Turn). c .commit) (cond b (turnOf j r ∷ rest) rest) ≡ cond b (r ∷ keepFrom p (suc j) h) (keepFrom p (suc j) h)
+    go true e = ap {B = List Record} (λ l. r ∷ l) e
+    go false e = e
+
+-- each by its number
+numbered-length : (j : ℕ) (h : List Record) → length (numbered j h) ≡ length h
+numbered-length j [] = refl
+numbered-length j (r ∷ h) = ap suc (numbered-length (suc j) h)
+
+numbered-at : (j k : ℕ) (h : List Record) (d : Turn) → k < length h → getD (numbered j h) k d ≡ turnOf (j + k) (recordAt h k)
+numbered-at j k [] d l = absurd (omega arith)
+numbered-at j zero (r ∷ h) d l = let first : j ≡ j + 0 = omega arith in ap (λ (m : ℕ). turnOf m r) first
+numbered-at j (suc k) (r ∷ h) d l =
+    let next : suc j + k ≡ j + suc k = omega arith in
+    numbered-at (suc j) k h d (omega arith) ∙ ap (λ (m : ℕ). turnOf m (recordAt h k)) next
+
+-- what holds of each, and of each two
+module _ (h : List Record) where
+  abbrev nth : ℕ → Turn
+  nth k = turnOf k (recordAt h k)
+
+  number-at : (k : ℕ) → k < length (numbered 0 h) → getD (numbered 0 h) k (turnOf 0 noRecord) ≡ nth k
+  number-at k l =
+      let same : 0 + k ≡ k = omega arith in
+      numbered-at 0 k h (turnOf 0 noRecord) (omega (arith, numbered-length 0 h)) ∙ ap (λ (m : ℕ). turnOf m (recordAt h k)) same
+
+  pub each-number : (P : Turn → Type 0) → ((k : ℕ) → k < length h → P (nth k)) → Each P (numbered 0 h)
+  each-number P f = each-by P (numbered 0 h) (turnOf 0 noRecord) (λ k l. subst P (sym (number-at k l)) (f k (omega (arith, numbered-length 0 h))))
+
+  pub chain-number : (R : Turn → Turn → Type 0) → ((k m : ℕ) → k < m → m < length h → R (nth k) (nth m)) → Chain R (numbered 0 h)
+  chain-number R f =
+      chain-by R (numbered 0 h) (turnOf 0 noRecord)
+      (λ k m a b. subst₂ R (sym (number-at k (omega arith))) (sym (number-at m b)) (f k m a (omega (arith, numbered-length 0 h))))
 
 each-numbered : (j n : ℕ) (h : List Record) → j < n → Each (λ (c : Turn). j < c .number) (numbered n h)
 each-numbered j n [] l = tt

@@ -19,7 +19,7 @@ use Rattle.limits.specs.Limits.{sitesMost}
 use Rattle.lines.specs.Lines.{Line, noLine, sent}
 use Rattle.messages.specs.Messages.{Message}
 use Rattle.records.specs.Records.{Record, opFits, recordFits}
-use Rattle.protocol.specs.Network.{Network, noSite, noRecord, siteAt, lineNumber, placeOf, messageFits, lineFits, wellShaped}
+use Rattle.protocol.specs.Network.{Network, noSite, noRecord, siteAt, lineNumber, placeOf, messageFits, lineFits, baseFits, wellShaped}
 use Rattle.protocol.specs.Steps.{sentTo}
 use Rattle.protocol.proofs.Places.{placeAt}
 
@@ -127,6 +127,7 @@ pub record Shape (n : Network) : Type 0 where
   pub stamps : (i : ℕ) → i < length (n .sites) → madeBy (placeAt n) i (siteAt n i .stamp) ≡ true
   pub records : (k : ℕ) → k < length (n .history) → RecordShape (placeAt n) (length (n .sites)) (length (n .items)) (getD (n .history) k noRecord)
   pub lined : (k : ℕ) → k < length (n .lines) → LineShape (n .items) (n .history) k (getD (n .lines) k noLine)
+  pub based : baseFits (n .base) ≡ true
 
 module _ (n : Network) where
   abbrev ownStamp : ℕ → Site → Bool
@@ -139,9 +140,11 @@ module _ (n : Network) where
       let stamps = everyFrom ownStamp 0 (n .sites) in
       let records = every (recordFits (placeAt n) (length (n .sites)) (length (n .items))) (n .history) in
       let lines = everyFrom (lineFits (n .items) (n .history)) 0 (n .lines) in
-      let a = and-true placement (stamps && (records && lines)) e in
-      let b = and-true stamps (records && lines) (a .1) in
-      let c = and-true records lines (b .1) in
+      let base = baseFits (n .base) in
+      let a = and-true placement (stamps && (records && (lines && base))) e in
+      let b = and-true stamps (records && (lines && base)) (a .1) in
+      let c = and-true records (lines && base) (b .1) in
+      let d = and-true lines base (c .1) in
       let number : (k : ℕ) → k ≡ 0 + k = λ k. omega arith in
       record {
         placed = eqb-true (placementNumber (length (n .sites)) (n .items)) 0 (a .0);
@@ -151,7 +154,8 @@ module _ (n : Network) where
             (every-at (recordFits (placeAt n) (length (n .sites)) (length (n .items))) (n .history) k noRecord (c .0) h);
         lined = λ k h.
             line-parts (n .items) (n .history) k (getD (n .lines) k noLine)
-            (ap (λ (j : ℕ). lineFits (n .items) (n .history) j (getD (n .lines) k noLine)) (number k) ∙ from-at (lineFits (n .items) (n .history)) 0 (n .lines) k noLine (c .1) h);
+            (ap (λ (j : ℕ). lineFits (n .items) (n .history) j (getD (n .lines) k noLine)) (number k) ∙ from-at (lineFits (n .items) (n .history)) 0 (n .lines) k noLine (d .0) h);
+        based = d .1;
       }
 
   pub shape-whole : Shape n → wellShaped n ≡ true
@@ -162,4 +166,5 @@ module _ (n : Network) where
       rw (eq-eqb (placementNumber (length (n .sites)) (n .items)) 0 (s .placed))
       (rw (from-all ownStamp 0 (n .sites) noSite (λ i h. ap (λ (k : ℕ). ownStamp k (siteAt n i)) (number i) ∙ s .stamps i h))
       (rw (every-all (recordFits (placeAt n) (length (n .sites)) (length (n .items))) (n .history) noRecord (λ k h. record-whole (placeAt n) (length (n .sites)) (length (n .items)) (getD (n .history) k noRecord) (s .records k h)))
-      (from-all fits 0 (n .lines) noLine (λ k h. ap (λ (j : ℕ). fits j (getD (n .lines) k noLine)) (number k) ∙ line-whole (n .items) (n .history) k (getD (n .lines) k noLine) (s .lined k h)))))
+      (rw (from-all fits 0 (n .lines) noLine (λ k h. ap (λ (j : ℕ). fits j (getD (n .lines) k noLine)) (number k) ∙ line-whole (n .items) (n .history) k (getD (n .lines) k noLine) (s .lined k h)))
+      (s .based))))

@@ -1,37 +1,42 @@
 -- One-copy agreement: what holds after every list of calls from an accepted set-up.
 use mathlib.Core.Path.{_≡_}
-use mathlib.Core.Bool.{Bool, true, cond, _||_}
+use mathlib.Core.Bool.{Bool, true, false, not, cond, _&&_, _||_}
 use mathlib.Core.List.{List, [], _∷_, _++_, map}
 use mathlib.Core.Logic.{_⊎_}
 use mathlib.Core.Option.{Option, none, some}
-use Prim.Native.Nat.{ℕ, _<_}
+use Prim.Native.Nat.{ℕ, _≤_, _<_}
 use lib.IntN.{ℤ, pos}
 use lib.ListN.{length, getD}
 use lib.Dec.{eqb}
+use Rattle.lists.specs.Lists.{any, keep, upTo}
 use Rattle.timestamp_order.specs.Timestamp.{Stamp}
+use Rattle.timestamp_order.specs.Order.{orderBy, notLater, IsEarlier}
 use Rattle.site_operations.specs.Operations.{valuesRead}
 use Rattle.placement.specs.Placement.{Item, owns, copies}
 use Rattle.records.specs.Records.{Record}
 use Rattle.protocol.specs.Network.{Network, recordAt, siteAt, placeOf}
 use Rattle.protocol.specs.Steps.{itemsOf}
-use Rattle.protocol.specs.Calls.{Call, setUp, commit, dummy, epoch, deliver, schedule, ask, Outcome, perform}
+use Rattle.protocol.specs.Calls.{Call, setUp, commit, dummy, epoch, deliver, schedule, collect, ask, Outcome, perform}
 use Rattle.protocol.specs.Book.{Book, noBook, bookStamp, notedIf}
-use Rattle.protocol.specs.Run.{startTable, shown, valueAt}
+use Rattle.protocol.specs.Run.{Turn, inTurn, after, startTable, shown, valueAt}
+use Rattle.protocol.specs.Collect.{earliestStamp, staying}
 
 -- what is known after some calls: the state; from the calls and their answers alone the book, the items of the last accepted
--- set-up, the values that each commit since it answered, and for each accepted commit and dummy the timestamp that it answered
--- and the one that the book had for its site right after it
+-- set-up, the values that each commit since it answered, which commits collects have removed since, and for each accepted commit and
+-- dummy the timestamp that it answered and the one that the book had for its site right after it
 pub record Known : Type 0 where
   pub state : Option Network
   pub book : Book
   pub items : List Item
   pub values : List (List ℤ)
+  -- of each commit that there was at the last collect, whether one has removed it
+  pub removed : List Bool
   pub answered : List Stamp
   pub booked : List Stamp
 
 -- before any call, whatever the state
 abbrev pub nothingKnown : Option Network → Known
-nothingKnown s = record { state = s; book = noBook; items = []; values = []; answered = []; booked = [] }
+nothingKnown s = record { state = s; book = noBook; items = []; values = []; removed = []; answered = []; booked = [] }
 
 abbrev pub isAccepted : Outcome → Bool
 isAccepted o = eqb (o .number) 0
@@ -44,6 +49,7 @@ placedBy (dummy i) xs = xs
 placedBy (epoch i e) xs = xs
 placedBy (deliver p c) xs = xs
 placedBy (schedule j) xs = xs
+placedBy collect xs = xs
 placedBy (ask q) xs = xs
 
 abbrev pub valuesBy : Call → List ℤ → List (List ℤ) → List (List ℤ)
@@ -53,6 +59,7 @@ valuesBy (dummy i) vs all = all
 valuesBy (epoch i e) vs all = all
 valuesBy (deliver p c) vs all = all
 valuesBy (schedule j) vs all = all
+valuesBy collect vs all = all
 valuesBy (ask q) vs all = all
 
 -- the timestamps of the commits and dummies, with one more taken from `at` the call's site
@@ -63,7 +70,28 @@ stampsBy (dummy i) at all = all ++ (at i ∷ [])
 stampsBy (epoch i e) at all = all
 stampsBy (deliver p c) at all = all
 stampsBy (schedule j) at all = all
+stampsBy collect at all = all
 stampsBy (ask q) at all = all
+
+-- commit k has been removed
+abbrev pub isRemoved : List Bool → ℕ → Bool
+isRemoved marks k = getD marks k false
+
+-- of each commit of the book: it had been removed, or it is not later than the earliest of the book's timestamps
+abbrev pub collected : (ℕ → ℕ) → Book → List Bool → List Bool
+collected place b marks =
+    let point = earliestStamp place (b .stamps) in
+    map (λ k. isRemoved marks k || notLater (orderBy place (recordAt (b .commits) k .stamp) point)) (upTo 0 (length (b .commits)))
+
+abbrev pub marksBy : Call → (ℕ → ℕ) → Book → List Bool → List Bool
+marksBy (setUp sites items ps ms) place b marks = []
+marksBy (commit i ks is vs) place b marks = marks
+marksBy (dummy i) place b marks = marks
+marksBy (epoch i e) place b marks = marks
+marksBy (deliver p c) place b marks = marks
+marksBy (schedule j) place b marks = marks
+marksBy collect place b marks = collected place b marks
+marksBy (ask q) place b marks = marks
 
 -- one more call, with what it answered and left
 abbrev pub witnessed : Known → Call → Outcome → Known
@@ -75,6 +103,7 @@ witnessed k c o =
       book = book;
       items = cond ok (placedBy c (k .items)) (k .items);
       values = cond ok (valuesBy c (o .values) (k .values)) (k .values);
+      removed = cond ok (marksBy c (placeOf (k .items)) (k .book) (k .removed)) (k .removed);
       answered = cond ok (stampsBy c (λ i. o .stamp) (k .answered)) (k .answered);
       booked = cond ok (stampsBy c (bookStamp book) (k .booked)) (k .booked);
     }
@@ -95,13 +124,29 @@ bookPlace k = placeOf (k .items)
 abbrev pub holds : List Item → ℕ → ℕ → Bool
 holds xs i x = owns xs i x || copies xs i x
 
+-- the run's turns, of the commits that were removed and of the others
+abbrev pub removedTurns : Known → List Turn
+removedTurns k = keep (λ (c : Turn). isRemoved (k .removed) (c .number)) (inTurn (bookPlace k) (k .book .commits))
+
+abbrev pub keptTurns : Known → List Turn
+keptTurns k = keep (λ (c : Turn). not (isRemoved (k .removed) (c .number))) (inTurn (bookPlace k) (k .book .commits))
+
 pub record Agreement (k : Known) : Type 0 where
   pub network : Network
   pub state-is : k .state ≡ some network
+  -- its items are those of the last accepted set-up
+  pub items-agree : network .items ≡ k .items
   -- every value that a commit answered for a read is the value the run has there
   pub values-agree : k .values ≡ map (λ (r : Record). valuesRead (r .ops)) (shown (bookPlace k) startTable (k .book .commits))
-  -- the history is the book's commits in the order made, each read with that value
-  pub history-agrees : network .history ≡ shown (bookPlace k) startTable (k .book .commits)
+  -- the history is those of the book's commits that were not removed, in the order made, each read with that value
+  pub history-agrees : network .history ≡ staying (isRemoved (k .removed)) (shown (bookPlace k) startTable (k .book .commits))
+  -- the run takes the removed commits before all others
+  pub removed-lead : inTurn (bookPlace k) (k .book .commits) ≡ removedTurns k ++ keptTurns k
+  -- a base value is the run's value after all that were removed
+  pub base-reaches : length (network .base .values) ≡ length (k .items)
+  pub base-agrees : (x : ℕ) → x < length (k .items) → getD (network .base .values) x (pos 0) ≡ getD (after startTable (removedTurns k)) x (pos 0)
+  -- the flag is set exactly where a commit was removed
+  pub folded-agrees : network .base .folded ≡ any (λ (r : Bool). r) (k .removed)
   -- every accepted commit and dummy answered the timestamp that the book had for its site right after it
   pub answers-agree : k .answered ≡ k .booked
   -- each site's own timestamp is the book's
@@ -134,6 +179,50 @@ unfoldable pub StampsDiffer : Type 0
 StampsDiffer =
     Always (λ k. (a b : ℕ) → a < b → b < length (k .book .commits) → recordAt (k .book .commits) a .stamp ≡ recordAt (k .book .commits) b .stamp → ⊥)
 
--- no further call, whatever it is, finds the state not well shaped or never set up
+-- no further call, whatever it is, finds the state not well shaped or never set up, and no collect a message that names what it would remove
+abbrev pub No6 : Known → Type 0
+No6 k = (c : Call) → perform (k .state) c .number ≡ 6 → ⊥
+
 unfoldable pub Never6 : Type 0
-Never6 = Always (λ k. (c : Call) → perform (k .state) c .number ≡ 6 → ⊥)
+Never6 = Always No6
+
+-- ---- collects
+abbrev pub isSetUp : Call → Bool
+isSetUp (setUp sites items ps ms) = true
+isSetUp (commit i ks is vs) = false
+isSetUp (dummy i) = false
+isSetUp (epoch i e) = false
+isSetUp (deliver p c) = false
+isSetUp (schedule j) = false
+isSetUp collect = false
+isSetUp (ask q) = false
+
+-- no set-up among the calls is accepted
+abbrev pub NoSetUp : Known → List Call → Type 0
+NoSetUp k [] = Unit {0}
+NoSetUp k (c ∷ cs) = ((isSetUp c && isAccepted (perform (k .state) c)) ≡ false) × NoSetUp (learned k c) cs
+
+-- up to which a collect would remove commits: the earliest of the book's timestamps
+abbrev pub bookPoint : Known → Stamp
+bookPoint k = earliestStamp (bookPlace k) (k .book .stamps)
+
+-- no later commit before the next set-up falls at or before that point
+abbrev pub LaterStay : Known → Type 0
+LaterStay k =
+    (calls : List Call) → NoSetUp k calls → (m : ℕ) → length (k .book .commits) ≤ m → m < length (learnedAll k calls .book .commits)
+    → IsEarlier (bookPlace k) (bookPoint k) (recordAt (learnedAll k calls .book .commits) m .stamp)
+
+unfoldable pub NoneAtOrBefore : Type 0
+NoneAtOrBefore = Always LaterStay
+
+-- the run over the commits kept, from the base values on, shows what the history has and what the copies hold
+pub record RunsFromBase (n : Network) : Type 0 where
+  pub history-shown : n .history ≡ shown (placeOf (n .items)) (n .base .values) (n .history)
+  pub copies-shown : (i x : ℕ) → i < length (n .sites) → x < length (n .items) → holds (n .items) i x ≡ true
+      → getD (siteAt n i .table) x (pos 0) ≡ valueAt (placeOf (n .items)) (n .base .values) (n .history) (siteAt n i .stamp) x
+
+abbrev pub KeptRuns : Known → Type 0
+KeptRuns k = (n : Network) → k .state ≡ some n → RunsFromBase n
+
+unfoldable pub KeptRun : Type 0
+KeptRun = Always KeptRuns

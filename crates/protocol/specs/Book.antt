@@ -7,9 +7,9 @@ use Rattle.timestamp_order.specs.Timestamp.{Stamp, raised, withEpoch, appended,
 use Rattle.records.specs.Records.{Record}
 use Rattle.protocol.specs.Network.{noStamp}
 use Rattle.protocol.specs.Steps.{opsOf}
-use Rattle.protocol.specs.Calls.{Call, setUp, commit, dummy, epoch, deliver, schedule, ask}
+use Rattle.protocol.specs.Calls.{Call, setUp, commit, dummy, epoch, deliver, schedule, collect, ask}
 
--- a timestamp per site, and the commits in the order made: site, timestamp, the operations as lent
+-- a timestamp per site, and the commits in the order made, removed ones too: site, timestamp, the operations as lent
 pub record Book : Type 0 where
   pub stamps : List Stamp
   pub commits : List Record
@@ -40,6 +40,7 @@ noted (commit i ks is vs) answered b =
 noted (dummy i) answered b = withStamp b i (raised (bookStamp b i))
 noted (epoch i e) answered b = withStamp b i (withEpoch (bookStamp b i) e)
 noted (deliver p c) answered b = b
+noted collect answered b = b
 noted (ask q) answered b = b
 noted (schedule j) answered b = withStamp b j (appended answered j (ownCount (bookStamp b j)))
 

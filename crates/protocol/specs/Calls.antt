@@ -9,6 +9,7 @@ use Rattle.timestamp_order.specs.Timestamp.{Stamp}
 use Rattle.site_operations.specs.Operations.{valuesRead}
 use Rattle.protocol.specs.Network.{Network, noStamp, siteAt}
 use Rattle.protocol.specs.Steps.{setUpNumber, setUpNetwork, opsOf, commitNumber, commitNetwork, recordOf, dummyNumber, dummyNetwork, epochNumber, epochNetwork, deliverNumber, deliverNetwork, scheduleNumber, scheduleNetwork, chosen, headStamp}
+use Rattle.protocol.specs.Collect.{collectNumber, collectNetwork}
 use Rattle.protocol.specs.Questions.{Question, questionNumber}
 
 pub data Call : Type 0 where
@@ -18,9 +19,10 @@ pub data Call : Type 0 where
   epoch : (site number : ℕ) → Call
   deliver : (parent child : ℕ) → Call
   schedule : (site : ℕ) → Call
+  collect : Call
   ask : (question : Question) → Call
 
--- what a call answers, fields that it lacks being 0, and the state after it; what a question answers beside its number is not in it
+-- what a call answers, fields that it lacks being 0, and the state after it; what a question answers beside its number is not in it, nor is how many commits a collect removed
 pub record Outcome : Type 0 where
   pub number : ℕ
   pub parent : ℕ
@@ -47,6 +49,7 @@ perform none (dummy i) = refused 6 none
 perform none (epoch i e) = refused 6 none
 perform none (deliver p c) = refused 6 none
 perform none (schedule j) = refused 6 none
+perform none collect = refused 6 none
 perform none (ask q) = refused 6 none
 perform (some n) (commit i ks is vs) =
     let os = opsOf ks is vs in
@@ -55,4 +58,5 @@ perform (some n) (dummy i) = judged (dummyNumber n i) (some n) (accepted 0 (site
 perform (some n) (epoch i e) = judged (epochNumber n i e) (some n) (accepted 0 noStamp [] (epochNetwork n i e))
 perform (some n) (deliver p c) = judged (deliverNumber n p c) (some n) (accepted 0 noStamp [] (deliverNetwork n p c))
 perform (some n) (schedule j) = judged (scheduleNumber n j) (some n) (accepted (chosen n j) (headStamp n (chosen n j) j) [] (scheduleNetwork n j))
+perform (some n) collect = judged (collectNumber n) (some n) (accepted 0 noStamp [] (collectNetwork n))
 perform (some n) (ask q) = judged (questionNumber n q) (some n) (accepted 0 noStamp [] n)

@@ -1,15 +1,22 @@
--- A worked example of tables and waiting report: three sites, item 0 at site 0 with copies at 1 and 2, item 1 at site 1 with a copy at 2.
+-- Worked examples of tables, waiting report and collect: three sites, item 0 at site 0 with copies at 1 and 2, item 1 at site 1 with a copy at 2.
 use mathlib.Core.Path.{_≡_}
+use mathlib.Core.Bool.{true}
 use mathlib.Core.List.{List, [], _∷_, map}
+use mathlib.Core.Option.{none, some}
 use Prim.Native.Nat.{ℕ}
 use lib.IntN.{ℤ, pos}
-use lib.ListN.{getD}
+use lib.ListN.{length, getD}
 use Rattle.limits.specs.Limits.{sitesMost}
 use Rattle.lists.specs.Lists.{keep, upTo}
 use Rattle.site_operations.specs.Operations.{Op}
 use Rattle.site.specs.Site.{Site}
-use Rattle.protocol.specs.Network.{Network}
-use Rattle.protocol.specs.Steps.{setUpNetwork, commitNetwork, deliverNetwork, scheduleNetwork}
+use Rattle.messages.specs.Messages.{commit as naming}
+use Rattle.records.specs.Records.{Record}
+use Rattle.protocol.specs.Network.{Network, startBase, lineNumber, lineAt, withLine}
+use Rattle.protocol.specs.Steps.{setUpNetwork, commitNetwork, dummyNetwork, deliverNetwork, scheduleNetwork}
+use Rattle.protocol.specs.Collect.{collectNumber, collectNetwork, removedBy}
+use Rattle.protocol.specs.Calls.{Call, setUp, commit, dummy, deliver, schedule, collect}
+use Rattle.protocol.specs.Agreement.{Known, nothingKnown, learnedAll}
 use Rattle.protocol.specs.Waiting.{isWaiting, waitingItems}
 
 -- p 3 2 0 6 1 4, then c 0 w0=5, l 0 1, s 1
@@ -39,6 +46,50 @@ afterFirst = commitNetwork (setUpNetwork 2 (0 ∷ 0 ∷ 0 ∷ 0 ∷ []) (2 ∷ 2
 abbrev pub afterSecond : Network
 afterSecond = commitNetwork afterFirst 0 (write 0 ∷ write 3 ∷ [])
 
+-- p 3 2 0 6 1 4, then c 0 w0=5, l 0 1, s 1, d 1, l 0 2, l 1 2, s 2, collect: every site has heard of the commit, whose timestamp is the earliest of all sites'
+abbrev pub afterAll : Network
+afterAll = scheduleNetwork (deliverNetwork (deliverNetwork (dummyNetwork afterSchedule 1) 0 2) 1 2) 2
+
+abbrev pub collectCalls : List Call
+collectCalls =
+    setUp 3 2 (0 ∷ 1 ∷ []) (6 ∷ 4 ∷ [])
+    ∷ commit 0 (1 ∷ []) (0 ∷ []) (pos 5 ∷ [])
+    ∷ deliver 0 1
+    ∷ schedule 1
+    ∷ dummy 1
+    ∷ deliver 0 2
+    ∷ deliver 1 2
+    ∷ schedule 2
+    ∷ collect
+    ∷ []
+
+abbrev pub afterCollect : Known
+afterCollect = learnedAll (nothingKnown none) collectCalls
+
+-- one commit more, c 0 w0=6, of which no other site has heard; and a line with a message of the first, to which no steps lead
+abbrev pub afterAgain : Network
+afterAgain = commitNetwork afterAll 0 (record { kind = 1; item = 0; value = pos 6 } ∷ [])
+
+abbrev pub collectedOnce : Network
+collectedOnce = collectNetwork afterAgain
+
+abbrev pub toldAgain : Network
+toldAgain = withLine afterAll (lineNumber 0 1) (record { messages = naming 0 ∷ []; arrived = 0 })
+
+-- one site with one item, at 0.2, and its two commits with the later one first: no steps from a set-up lead there
+abbrev pub wrote : ℕ → ℤ → Record
+wrote count value = record { site = 0; stamp = record { epoch = 0; tuples = record { site = 0; count = count } ∷ [] }; ops = record { kind = 1; item = 0; value = value } ∷ [] }
+
+abbrev pub laterFirst : Network
+laterFirst =
+    record {
+      sites = record { table = pos 2 ∷ []; stamp = wrote 2 (pos 2) .stamp } ∷ [];
+      items = record { primary = 0; mask = 0 } ∷ [];
+      lines = [];
+      history = wrote 2 (pos 2) ∷ wrote 1 (pos 1) ∷ [];
+      base = startBase 1;
+    }
+
 -- the sites at which an item is waiting
 abbrev pub waitingAt : Network → ℕ → List ℕ
 waitingAt n k = keep (λ i. isWaiting n i k) (upTo 0 sitesMost)
@@ -63,3 +114,18 @@ pub record ExampleHolds : Type 0 where
   -- of the items of one commit the lower number comes first, and an item that is written again keeps its place
   pub one-commit : waitingItems afterFirst 1 ≡ 1 ∷ 3 ∷ []
   pub two-commits : waitingItems afterSecond 1 ≡ 1 ∷ 3 ∷ 0 ∷ []
+  -- a collect before site 2 has heard of the commit folds nothing, and one after it folds it
+  pub none-folded : collectNetwork afterSchedule .base ≡ startBase 2
+  pub folded : collectNetwork afterAll .base ≡ record { values = pos 5 ∷ pos 0 ∷ []; folded = true }
+  pub removed : removedBy (some afterAll) ≡ 1
+  -- a message names the other one by its new number, and a second collect removes none and leaves the base as it is
+  pub accepted : collectNumber afterAgain ≡ 0
+  pub renamed : lineAt collectedOnce 0 1 .messages ≡ naming 0 ∷ []
+  pub base-stays : collectNetwork collectedOnce .base ≡ record { values = pos 5 ∷ pos 0 ∷ []; folded = true }
+  -- refused where a message names the one that would go
+  pub refused : collectNumber toldAgain ≡ 6
+  -- by rising timestamp, not in the order made
+  pub in-turn : collectNetwork laterFirst .base .values ≡ pos 2 ∷ []
+  -- the book marks it, and keeps it
+  pub marked : afterCollect .removed ≡ true ∷ []
+  pub booked : length (afterCollect .book .commits) ≡ 1

@@ -4,9 +4,10 @@ pub mod Cycles
 pub mod Allowed
 pub mod Precedes
 pub mod Waiting
+pub mod Run
+pub mod Collect
 pub mod Questions
-pub mod Examples
 pub mod Calls
 pub mod Book
-pub mod Run
 pub mod Agreement
+pub mod Examples

@@ -1,8 +1,9 @@
--- A network: its sites, the placement of its items, its lines and its history; and which networks are well shaped.
-use mathlib.Core.Bool.{Bool, _&&_, _||_}
+-- A network: its sites, the placement of its items, its lines, its history and what collected commits left; and which networks are well shaped.
+use mathlib.Core.Bool.{Bool, false, _&&_, _||_}
 use mathlib.Core.List.{List, [], _∷_, _++_}
 use Prim.Native.Nat.{ℕ, _+_, _*_, _/_, _%_}
-use lib.ListN.{length, getD, set}
+use lib.IntN.{ℤ, pos, negsuc}
+use lib.ListN.{length, getD, set, replicate}
 use lib.Dec.{eqb, ltb, leb}
 use Rattle.lists.specs.Lists.{every, everyFrom, isEmpty}
 use Rattle.timestamp_order.specs.Timestamp.{Stamp}
@@ -18,11 +19,21 @@ use Rattle.lines.specs.Lines.{Line, noLine}
 use Rattle.messages.specs.Messages.{Message, commit, dummy}
 use Rattle.records.specs.Records.{Record, recordFits}
 
+-- what the commits that collects have removed since set-up left: a value for each item, and whether there are such commits
+pub record Base : Type 0 where
+  pub values : List ℤ
+  pub folded : Bool
+
+-- none removed: 0 for each of n items
+abbrev pub startBase : ℕ → Base
+startBase n = record { values = replicate n (pos 0); folded = false }
+
 pub record Network : Type 0 where
   pub sites : List Site
   pub items : List Item
   pub lines : List Line
   pub history : List Record
+  pub base : Base
 
 -- what stands where there is nothing
 abbrev pub noSite : Site
@@ -54,16 +65,16 @@ lineAt n p c = getD (n .lines) (lineNumber p c) noLine
 
 -- ---- a network with another site, another line, a record more
 abbrev pub withSite : Network → ℕ → Site → Network
-withSite n i s = record { sites = set (n .sites) i s; items = n .items; lines = n .lines; history = n .history }
+withSite n i s = record { sites = set (n .sites) i s; items = n .items; lines = n .lines; history = n .history; base = n .base }
 
 abbrev pub withLine : Network → ℕ → Line → Network
-withLine n k l = record { sites = n .sites; items = n .items; lines = set (n .lines) k l; history = n .history }
+withLine n k l = record { sites = n .sites; items = n .items; lines = set (n .lines) k l; history = n .history; base = n .base }
 
 abbrev pub withLines : Network → List Line → Network
-withLines n ls = record { sites = n .sites; items = n .items; lines = ls; history = n .history }
+withLines n ls = record { sites = n .sites; items = n .items; lines = ls; history = n .history; base = n .base }
 
 abbrev pub withRecord : Network → Record → Network
-withRecord n r = record { sites = n .sites; items = n .items; lines = n .lines; history = n .history ++ (r ∷ []) }
+withRecord n r = record { sites = n .sites; items = n .items; lines = n .lines; history = n .history ++ (r ∷ []); base = n .base }
 
 -- ---- what a message carries
 abbrev pub messageStamp : List Record → Message → Stamp
@@ -86,11 +97,20 @@ lineFits xs h k l =
     leb (l .arrived) (length (l .messages))
     && ((isEmpty (l .messages) || isLine xs (k / sitesMost) (k % sitesMost)) && every (messageFits (placeOf xs) h (k / sitesMost)) (l .messages))
 
--- the placement as set-up demands; every site's timestamp its own; every record and every line fitting
+abbrev pub isZero : ℤ → Bool
+isZero (pos k) = eqb k 0
+isZero (negsuc k) = false
+
+-- where no commit has been removed every base value is 0
+abbrev pub baseFits : Base → Bool
+baseFits b = b .folded || every isZero (b .values)
+
+-- the placement as set-up demands; every site's timestamp its own; every record, every line and the base values fitting
 unfoldable pub wellShaped : Network → Bool
 wellShaped n =
     let place = placeOf (n .items) in
     eqb (placementNumber (length (n .sites)) (n .items)) 0
     && (everyFrom (λ i s. madeBy place i (s .stamp)) 0 (n .sites)
     && (every (recordFits place (length (n .sites)) (length (n .items))) (n .history)
-    && everyFrom (lineFits (n .items) (n .history)) 0 (n .lines)))
+    && (everyFrom (lineFits (n .items) (n .history)) 0 (n .lines)
+    && baseFits (n .base))))

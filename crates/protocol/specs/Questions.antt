@@ -18,6 +18,7 @@ pub data Question : Type 0 where
   line : (parent child : ℕ) → Question
   origin : (commit operation : ℕ) → Question
   places : Question
+  base : Question
 
 -- of a site, of a line, and of a read in the history
 abbrev pub askedSite : Network → ℕ → ℕ
@@ -44,6 +45,7 @@ questionNumber n (stamp i) = askedSite n i
 questionNumber n (line p c) = askedLine n p c
 questionNumber n (origin k a) = askedRead n k a
 questionNumber n places = 0
+questionNumber n base = 0
 
 -- what a question answers of a network; nothing where it is refused or there is none
 unfoldable pub answer : {A : Type 0} → Question → A → (Network → A) → Option Network → A

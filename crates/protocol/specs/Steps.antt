@@ -18,7 +18,7 @@ use Rattle.lists.specs.Lists.{any, someBelow, keep}
 use Rattle.lines.specs.Lines.{Line, noLine, sent, delivered, taken}
 use Rattle.messages.specs.Messages.{Message, commit, dummy}
 use Rattle.records.specs.Records.{Record}
-use Rattle.protocol.specs.Network.{linesMost, Network, placeOf, withSite, withLine, siteAt, lineAt, lineNumber, messageStamp, messageOps, withLines, withRecord}
+use Rattle.protocol.specs.Network.{linesMost, Network, startBase, placeOf, withSite, withLine, siteAt, lineAt, lineNumber, messageStamp, messageOps, withLines, withRecord}
 
 -- ---- set-up (sites, items, a primary and a mask for each item)
 abbrev pub itemsOf : List ℕ → List ℕ → List Item
@@ -48,7 +48,9 @@ startSites i zero = []
 startSites i (suc n) = startSite i ∷ startSites (suc i) n
 
 unfoldable pub setUpNetwork : ℕ → List ℕ → List ℕ → Network
-setUpNetwork sites ps ms = record { sites = startSites 0 sites; items = itemsOf ps ms; lines = replicate linesMost noLine; history = [] }
+setUpNetwork sites ps ms =
+    let xs = itemsOf ps ms in
+    record { sites = startSites 0 sites; items = xs; lines = replicate linesMost noLine; history = []; base = startBase (length xs) }
 
 -- ---- causes that several steps share
 abbrev pub noSuchSite : Network → ℕ → Bool

@@ -26,7 +26,7 @@ use Rattle.site_operations.specs.Operations.{Op, noOp}
 use Rattle.site_operations.specs.InWords.{opIn, opAt, opsIn, opsSize, OpsLaid, Put}
 use Rattle.site_operations.proofs.Laws.{ops-at, ops-length, next-laid}
 use Rattle.limits.specs.Limits.{itemsMost, opsMost}
-use Rattle.records.specs.Records.{opFits, recordFits}
+use Rattle.records.specs.Records.{Record, opFits, recordFits}
 use Rattle.record_codes.specs.Codes.{stampAt, codesAt, valuesAt, packedSize, codesMost, opOfCode, opsOf, joined, codeNumber, codesIn, placesIn, coded, codeOf, Packed}
 use Rattle.record_packing.proofs.Laws.{places-length, place-at}
 use Rattle.records.specs.InWords.{recordSize, countIn, recordIn, recordRange, Written}
@@ -49,6 +49,10 @@ module _ (w : List ℕ) where
   pub op-at : (i : ℕ) → i < length (recordIn w .ops) → getD (recordIn w .ops) i noOp ≡ getD (placesIn w) i noOp
   unfolding recordIn
   op-at i h = getD-take (countIn w) (placesIn w) i noOp (omega (arith, count-law))
+
+  -- where the words are those of a record
+  pub op-there : (r : Record) → recordIn w ≡ r → (i : ℕ) → i < length (recordIn w .ops) → getD (placesIn w) i noOp ≡ getD (r .ops) i noOp
+  op-there r meant i h = sym (op-at i h) ∙ ap (λ (q : Record). getD (q .ops) i noOp) meant
 
   -- of those before operation a
   pub op-before : (a i : ℕ) → i < length (take a (recordIn w .ops)) → getD (take a (recordIn w .ops)) i noOp ≡ getD (placesIn w) i noOp

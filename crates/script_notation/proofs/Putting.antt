@@ -12,7 +12,7 @@ use Rattle.decimal.specs.Decimal.{digits}
 use Rattle.decimal.proofs.Printing.{printed-none, printed-then, printed-as, printed-byte, printed-length}
 use borrow.Author.Tests.{eq-eqb, ne-eqb, eqb-true, eqb-false}
 use Rattle.timestamp_order.specs.Timestamp.{Pair, noPair}
-use Rattle.protocol.specs.Calls.{Call, setUp, commit, dummy, epoch, deliver, schedule, ask, Outcome}
+use Rattle.protocol.specs.Calls.{Call, setUp, commit, dummy, epoch, deliver, schedule, collect, ask, Outcome}
 use Rattle.script_notation.specs.Fields.{space}
 use Rattle.script_notation.specs.Print.{tupleText, tuplesText, spaced, acceptedText, print, fieldsOf, Put}
 
@@ -104,4 +104,5 @@ print-fields (dummy i) o = refl
 print-fields (epoch i e) o = refl
 print-fields (deliver p c) o = refl
 print-fields (schedule j) o = refl
+print-fields collect o = refl
 print-fields (ask q) o = refl

@@ -1,4 +1,4 @@
--- Laws of the chunks of a list of words: one read, one replaced, one added at the end, the first dropped.
+-- Laws of the chunks of a list of words: one read, the first of them, one replaced, one added at the end, the first dropped.
 use mathlib.Core.Path.{_≡_, refl, sym, ap, subst, _∙_}
 use mathlib.Core.List.{List, [], _∷_, _++_}
 use Prim.Native.Nat.{ℕ, zero, suc, _+_, _-_, _*_, _≤_, _<_}
@@ -25,6 +25,13 @@ chunks-at m (suc k) w zero h = ap (λ (j : ℕ). take m (drop j w)) (sym (zero-m
 chunks-at m (suc k) w (suc i) h =
     let e : m + i * m ≡ suc i * m = simp suc-mul (omega arith) in
     chunks-at m k (drop m w) i (omega arith) ∙ ap (take m) (drop-drop (i * m) m w ∙ ap (λ (j : ℕ). drop j w) e)
+
+-- the first of some chunks
+pub chunks-take : (m n k : ℕ) (w : List ℕ) → n ≤ k → take n (chunks m k w) ≡ chunks m n w
+unfolding chunks
+chunks-take m zero k w h = refl
+chunks-take m (suc n) zero w h = absurd (not-suc-le-zero h)
+chunks-take m (suc n) (suc k) w h = ap (λ (cs : List (List ℕ)). take m w ∷ cs) (chunks-take m n k (drop m w) (omega arith))
 
 pub chunks-put : (m k : ℕ) (w : List ℕ) (i : ℕ) (ys : List ℕ) → length ys ≡ m → i < k → k * m ≤ length w → chunks m k (put w (i * m) m ys) ≡ set (chunks m k w) i ys
 unfolding chunks

@@ -1,24 +1,18 @@
 -- Laws for loops over lists: copying, moving, a test of each element, and a list of known length written out.
 use mathlib.Core.Path.{_≡_, sym, ap, ap₂, _∙_}
 use mathlib.Core.List.{List, _++_, append-nil}
-use Prim.Native.Nat.{ℕ, suc, _+_, _-_, _≤_, _<_, min}
+use Prim.Native.Nat.{ℕ, _+_, _-_, _≤_, _<_, min}
 use native.Mathlib.Omega.{arith}
-use native.Mathlib.Numerals.{add-one}
 use lib.ListN.{length, getD, set, take, drop, drop-of-length-le, length-drop}
-use lib.Seq.{getD-append-add, set-at, append-snoc, take-suc, drop-cons, take-all, length-take-le, getD-drop}
+use lib.Seq.{getD-append-add, take-all, length-take-le, getD-drop}
 use borrow.Author.Tests.{le-leb, lt-leb}
-use Rattle.lists.proofs.Lists.{take-min, drop-min}
+use Rattle.lists.proofs.Lists.{take-min, drop-min, front-next}
 use Rattle.words.specs.Words.{part, put, shifted, overlaid, laid}
 use Rattle.words.proofs.Parts.{part-length, lent-part, lent-put}
 
 -- ---- the first i of s before the rest of d, and one more of s
 pub laid-next : (s d : List ℕ) (i : ℕ) → i < length s → i < length d → set (take i s ++ drop i d) i (getD s i 0) ≡ take (i + 1) s ++ drop (i + 1) d
-laid-next s d i hs hd =
-    ap (λ (z : List ℕ). set (take i s ++ z) i (getD s i 0)) (drop-cons d i 0 hd)
-    ∙ set-at (take i s) (getD d i 0) (drop (suc i) d) (getD s i 0) i (length-take-le i s (omega arith))
-    ∙ sym (append-snoc (take i s) (getD s i 0) (drop (suc i) d))
-    ∙ ap (λ (z : List ℕ). z ++ drop (suc i) d) (sym (take-suc s i 0 hs))
-    ∙ ap (λ (k : ℕ). take k s ++ drop k d) (sym (add-one i))
+laid-next s d i hs hd = front-next 0 s d i hs hd
 
 -- as far as both reach
 pub laid-all : (s d : List ℕ) (i : ℕ) → i ≡ min (length d) (length s) → take i s ++ drop i d ≡ overlaid d s

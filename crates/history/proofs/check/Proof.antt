@@ -3,6 +3,7 @@ use mathlib.Core.Path.{_≡_, sym, ap, _∙_}
 use lib.ListN.{length}
 use Rattle.history_file.specs.File.{History}
 use Rattle.history_file.specs.Reading.{fileNumber}
+use Rattle.history_file.specs.Promises.{sixtyFour}
 use Rattle.history_file.proofs.Files.{history-none, part-none, places-none}
 use borrow.Author.Needs.{needs}
 use Rattle.history.proofs.check.Statement.{statement}
@@ -16,14 +17,15 @@ returns c =
     let n = c .before in
     let b = n .before .before .args .b .now in
     let refused : fileNumber b ≡ 0 → ⊥ = λ e. c .if1 .taken (n .file-number .ensures ∙ e) in
-    let none = sym (history-none b refused) in (
-      n .file-number .ensures,
-      ap (λ (h : History). length (h .records)) none,
-      ap (λ (h : History). h .sites) none,
-      ap (λ (h : History). h .items) none,
-      ap length (part-none b refused),
-      places-none b refused,
-    )
+    let none = sym (history-none b refused) in
+    record {
+      number-is = n .file-number .ensures;
+      records-are = ap (λ (h : History). length (h .records)) none;
+      sites-are = ap (λ (h : History). h .sites) none;
+      items-are = ap (λ (h : History). h .items) none;
+      length-is = ap length (part-none b refused);
+      beside = record { places-are = places-none b refused; folded-is = ap (λ (h : History). h .folded) none; base-is = ap (λ (h : History). sixtyFour (h .base)) none };
+    }
 
 accepted-requires : tie.Need-accepted-requires
 accepted-requires c κs = search needs

@@ -18,7 +18,7 @@ returns : tie.Need-returns
 returns c =
     let A = c .before .before .before .before .before .args in
     let file = c .before .before .before .check in
-    subst (λ (s : Step). Gives s (c .refused .result)) (numbered-refused (A .b .now) (A .k) (file .result .number) (file .ensures .0) (c .before .if1 .taken)) (c .refused .ensures)
+    subst (λ (s : Step). Gives s (c .refused .result)) (numbered-refused (A .b .now) (A .k) (file .result .number) (file .ensures .number-is) (c .before .if1 .taken)) (c .refused .ensures)
 
 wide-requires : tie.Need-wide-requires
 wide-requires c κs = search needs
@@ -31,21 +31,21 @@ returns-2 c =
     let w = c .before .before in
     let file = w .before .before .before .check in
     let A = w .before .before .before .before .before .args in
-    let z : fileNumber (A .b .now) ≡ 0 = sym (file .ensures .0) ∙ w .before .if1 .left in
-    subst (λ (s : Step). Gives s (c .refused2 .result)) (numbered-past (A .b .now) (A .k) z (omega (arith, w .wide .ensures, c .before .if2 .taken, file .ensures .1, fields-read (A .b .now) z .0))) (c .refused2 .ensures)
+    let z : fileNumber (A .b .now) ≡ 0 = sym (file .ensures .number-is) ∙ w .before .if1 .left in
+    subst (λ (s : Step). Gives s (c .refused2 .result)) (numbered-past (A .b .now) (A .k) z (omega (arith, w .wide .ensures, c .before .if2 .taken, file .ensures .records-are, fields-read (A .b .now) z .0))) (c .refused2 .ensures)
 
 record-there-requires : tie.Need-record-there-requires
 record-there-requires c κs =
     let w = c .before .before in
     let file = w .before .before .before .check in
     let A = w .before .before .before .before .before .args in
-    let z : fileNumber (A .b .now) ≡ 0 = sym (file .ensures .0) ∙ w .before .if1 .left in
+    let z : fileNumber (A .b .now) ≡ 0 = sym (file .ensures .number-is) ∙ w .before .if1 .left in
     record {
       accepted = z;
-      inside = omega (arith, w .wide .ensures, c .before .if2 .left, file .ensures .1, fields-read (A .b .now) z .0);
-      sites-are = file .ensures .2;
-      items-are = file .ensures .3;
-      places-are = file .ensures .5;
+      inside = omega (arith, w .wide .ensures, c .before .if2 .left, file .ensures .records-are, fields-read (A .b .now) z .0);
+      sites-are = file .ensures .sites-are;
+      items-are = file .ensures .items-are;
+      places-are = file .ensures .beside .places-are;
     }
 
 returns-3 : tie.Need-returns-3

@@ -1,65 +1,58 @@
 -- `export_on` tests the room, then writes the file.
-use mathlib.Core.Path.{_≡_, sym, ap, ap₂, _∙_}
-use mathlib.Core.Bool.{cond}
-use mathlib.Core.List.{List}
+use mathlib.Core.Path.{_≡_, ap, _∙_}
 use Prim.Native.Nat.{ℕ, _+_, _-_, _≤_}
 use native.Mathlib.Omega.{arith}
-use lib.ListN.{length, take}
+use lib.ListN.{length}
 use Rattle.words.specs.Words.{part}
 use Rattle.words.proofs.Parts.{part-length}
-use Rattle.network_layout.proofs.Performs.{sites-count, shaped-range}
-use Rattle.history_file.specs.File.{isNumbers, lead, trailerSize, fileOf}
-use Rattle.history_file.proofs.Exports.{state-few, lead-size, lead-few, file-length, export-short, export-done}
-use Rattle.history_export.specs.Asked.{own}
+use Rattle.history_file.specs.File.{lead, trailerSize, fileOf}
+use Rattle.history_file.proofs.Exports.{file-length, export-short, export-done}
+use Rattle.history_units.specs.Asked.{leadMost}
+use Rattle.history_lead.specs.Leads.{own}
+use Rattle.history_lead.proofs.LeadLaws.{few, lead-size}
 use borrow.Author.Needs.{needs}
 use Rattle.history_export.proofs.export_on.Statement.{statement}
 use Rattle.history_export.proofs.export_on.Tie as tie
 
--- how many bytes lead the records
-led : (c : tie.After-lead-size) → c .lead-size .result ≡ cond (isNumbers (own (c .before .before .before .before .before .args .state .now) .places)) 0 (own (c .before .before .before .before .before .args .state .now) .sites)
-led c =
-    let counted = c .before in
-    let placed = counted .before in
-    let w = placed .before .before .before .args .state .now in
-    c .lead-size .ensures
-    ∙ ap₂ (λ (k : ℕ) (l : List ℕ). cond (isNumbers (take k l)) 0 k) (counted .site-count .ensures ∙ sym (sites-count w)) (placed .places .ensures)
+-- what leads the records, and how many bytes that is
+module _ (c : tie.After-size) where
+  abbrev start : tie.Start
+  start = c .before .before .before .before
 
-leading : (c : tie.After-lead-size) → c .lead-size .result ≡ length (lead (own (c .before .before .before .before .before .args .state .now)))
-leading c = let S = c .before .before .before .before .before in lead-size (S .args .state .now) (S .pre .formed) (c .lead-size .result) (led c)
+  leading : c .size .result ≡ length (lead (own (start .args .state .now)))
+  leading = c .size .ensures ∙ lead-size (start .args .state .now) (start .pre) (c .before .lead-of .result) (c .before .lead-of .ensures)
+
+  few-leading : c .size .result ≤ leadMost
+  few-leading =
+      let f = few (start .args .state .now) (start .pre) (c .before .lead-of .result) (c .before .lead-of .ensures) in
+      omega (arith, c .size .ensures, f .few-places, f .few-values)
 
 -- and the file has
-sized : (c : tie.After-body-size) → c .before .lead-size .result + c .body-size .result + trailerSize ≡ length (fileOf (own (c .before .before .before .before .before .before .args .state .now)))
-sized c =
-    let S = c .before .before .before .before .before .before in
-    omega (arith, leading (c .before), c .body-size .ensures .0, file-length (own (S .args .state .now)))
+sized : (c : tie.After-body-size) → c .before .size .result + c .body-size .result + trailerSize ≡ length (fileOf (own (start (c .before) .args .state .now)))
+sized c = omega (arith, leading (c .before), c .body-size .ensures .0, file-length (own (start (c .before) .args .state .now)))
 
-few : (c : tie.After-lead-size) → c .lead-size .result ≤ 8
-few c = let S = c .before .before .before .before .before in lead-few (S .args .state .now) (S .pre .formed) (c .lead-size .result) (led c)
+lead-of-requires : tie.Need-lead-of-requires
+lead-of-requires c κs = search needs
 
-places-requires : tie.Need-places-requires
-places-requires c κs = let S = c .before .before in record { sized = S .pre .sized; ranged = shaped-range (S .args .state .now) (S .pre .formed) }
-
-site-count-requires : tie.Need-site-count-requires
-site-count-requires c κs = search needs
-
-lead-size-requires : tie.Need-lead-size-requires
-lead-size-requires c κs =
-    let S = c .before .before .before .before in
-    omega (arith, c .site-count .ensures, sites-count (S .args .state .now), state-few (S .args .state .now) (S .pre .formed))
+size-requires : tie.Need-size-requires
+size-requires c κs =
+    let S = c .before .before .before in
+    few (S .args .state .now) (S .pre) (c .lead-of .result) (c .lead-of .ensures)
 
 body-size-requires : tie.Need-body-size-requires
 body-size-requires c κs = search needs
 
 add-m : tie.Need-add-m
-add-m c = omega (arith, few (c .before), c .body-size .ensures .1)
+add-m c = omega (arith, few-leading (c .before), c .body-size .ensures .1)
 
 add-e : tie.Need-add-e
-add-e c = omega (arith, few (c .before), c .body-size .ensures .1)
+add-e c = omega (arith, few-leading (c .before), c .body-size .ensures .1)
 
 returns : tie.Need-returns
 returns c =
-    let S = c .before .before .before .before .before .before .before in
-    export-short (S .args .state .now) (S .args .b .now) (S .pre .formed) (c .before .before .lead-size .result + c .before .body-size .result + trailerSize) (sized (c .before)) (c .if1 .taken)
+    let made = c .before in
+    let S = start (made .before) in
+    export-short (S .args .state .now) (S .args .b .now) (S .pre .formed) (made .before .size .result + made .body-size .result + trailerSize) (sized made) (c .if1 .taken)
 
 sub-put-file : tie.Need-sub-put-file
 sub-put-file c = search needs
@@ -74,17 +67,16 @@ put-file-requires : tie.Need-put-file-requires
 put-file-requires c κs =
     let left = c .before in
     let made = left .before in
-    let placed = made .before .before .before in
-    let S = placed .before .before .before in
-    let e = made .before .lead-size .result + made .body-size .result + trailerSize in
+    let S = start (made .before) in
+    let e = made .before .size .result + made .body-size .result + trailerSize in
     let room : length (part (S .args .b .now) 0 (e - 0)) ≡ e = ap (λ (k : ℕ). length (part (S .args .b .now) 0 k)) (let z : e - 0 ≡ e = omega arith in z) ∙ part-length (S .args .b .now) 0 e (omega (arith, left .if1 .left)) in
     record {
       there = S .pre;
-      placed = placed .places .ensures;
-      led = led (made .before);
+      leads = made .before .before .lead-of .ensures;
+      led = made .before .size .ensures;
       filled = omega (arith, made .body-size .ensures .0);
       sized = room;
-      few = omega (arith, room, few (made .before), made .body-size .ensures .1);
+      few = omega (arith, room, few-leading (made .before), made .body-size .ensures .1);
     }
 
 same-length : tie.Need-same-length
@@ -95,16 +87,15 @@ returns-2 c =
     let put = c .before .before in
     let left = put .before .before in
     let made = left .before in
-    let S = made .before .before .before .before .before .before in
-    export-done (S .args .state .now) (S .args .b .now) (S .pre .formed) (made .before .lead-size .result + made .body-size .result + trailerSize) (sized made) (left .if1 .left) (put .put-file .last .0) (put .put-file .ensures)
+    let S = start (made .before) in
+    export-done (S .args .state .now) (S .args .b .now) (S .pre .formed) (made .before .size .result + made .body-size .result + trailerSize) (sized made) (left .if1 .left) (put .put-file .last .0) (put .put-file .ensures)
 
 pub export-on-spec : {M : Type 1} → statement M
 export-on-spec =
     tie.close
     (tie.spec
-    places-requires
-    site-count-requires
-    lead-size-requires
+    lead-of-requires
+    size-requires
     body-size-requires
     add-m
     add-e

@@ -1,17 +1,24 @@
 -- `put_file` writes what leads the records, the records, and the trailer.
-use mathlib.Core.Path.{_≡_, ap, ap₂, _∙_}
-use mathlib.Core.List.{List}
+use mathlib.Core.Path.{_≡_, ap, _∙_}
 use Prim.Native.Nat.{ℕ, _-_}
 use native.Mathlib.Omega.{arith}
-use lib.ListN.{length, take, length-take}
+use lib.ListN.{length}
 use Rattle.words.specs.Words.{part}
 use Rattle.words.proofs.Parts.{part-length}
 use Rattle.history_file.specs.File.{trailer}
-use Rattle.history_file.proofs.Exports.{lead-size, lead-flag, lead-few, lead-taken, file-written}
-use Rattle.history_export.specs.Asked.{own}
+use Rattle.history_file.proofs.Exports.{file-written}
+use Rattle.history_lead.specs.Leads.{own}
+use Rattle.history_lead.proofs.LeadLaws.{lead-size, lead-flag}
 use borrow.Author.Needs.{needs}
 use Rattle.history_export.proofs.put_file.Statement.{statement}
 use Rattle.history_export.proofs.put_file.Tie as tie
+
+-- how many bytes are lent for what leads the records
+lent : (S : tie.Start) → length (part (S .args .b .now) 0 (S .args .a - 0)) ≡ S .args .a
+lent S =
+    let a = S .args .a in
+    let b = S .args .b .now in
+    (let z : a - 0 ≡ a = omega arith in ap (λ (k : ℕ). length (part b 0 k)) z) ∙ part-length b 0 a (omega (arith, S .pre .filled, S .pre .sized))
 
 sub-put-lead : tie.Need-sub-put-lead
 sub-put-lead c = search needs
@@ -25,7 +32,7 @@ part-put-lead-end c = search needs
 put-lead-requires : tie.Need-put-lead-requires
 put-lead-requires c κs =
     let S = c .before .before .before in
-    omega (arith, length-take (S .args .a - 0) (S .args .b .now), lead-few (S .args .state .now) (S .pre .there .formed) (S .args .a) (S .pre .led))
+    record { there = S .pre .there; leads = S .pre .leads; sized = lent S ∙ S .pre .led }
 
 sub-put-records : tie.Need-sub-put-records
 sub-put-records c = search needs
@@ -71,13 +78,11 @@ returns c =
     let b = S .args .b .now in
     let a = S .args .a in
     let p = S .pre in
-    let ns = lead-size w (p .there .formed) a (p .led) in
-    let lent : length (part b 0 (a - 0)) ≡ a = (let z : a - 0 ≡ a = omega arith in ap (λ (k : ℕ). length (part b 0 k)) z) ∙ part-length b 0 a (omega (arith, p .filled, p .sized)) in
-    let lead-is = led .put-lead .ensures ∙ ap₂ (λ (k : ℕ) (l : List ℕ). take k l) lent (p .placed) ∙ lead-taken w (p .there .formed) a (p .led) in
-    let flag-is = flagged .flag .ensures ∙ lead-flag w (p .there .formed) a (p .led) in
+    let ns = p .led ∙ lead-size w (p .there) (S .args .lead) (p .leads) in
+    let flag-is = flagged .flag .ensures ∙ lead-flag w (p .there) (S .args .lead) (p .leads) in
     let h = own w in
     let trailer-is = ended .put-trailer .ensures ∙ ap (λ (f : ℕ). trailer (length (h .records)) (length b) (h .sites) (h .items) f) flag-is in
-    file-written h b a (S .args .m) ns (p .filled) (p .sized) (led .put-lead .last .0) lead-is (filled .put-records .last .0) (filled .put-records .ensures) (ended .put-trailer .last .0) (length b) (p .sized) trailer-is
+    file-written h b a (S .args .m) ns (p .filled) (p .sized) (led .put-lead .last .0) (led .put-lead .ensures) (filled .put-records .last .0) (filled .put-records .ensures) (ended .put-trailer .last .0) (length b) (p .sized) trailer-is
 
 pub put-file-spec : {M : Type 1} → statement M
 put-file-spec =

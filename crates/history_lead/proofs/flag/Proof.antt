@@ -1,15 +1,30 @@
--- `flag` is 1 where some bytes lead the records.
-use mathlib.Core.Path.{sym, ap}
-use mathlib.Core.Bool.{Bool, cond}
-use borrow.Author.Tests.{eq-eqb, ne-eqb}
+-- `flag` adds the two flags.
+use mathlib.Core.Bool.{Bool, true, false, cond}
+use Prim.Native.Nat.{ℕ, _≤_}
+use native.Mathlib.Omega.{arith}
+use lib.Dec.{eqb}
+use borrow.Author.Needs.{needs}
 use Rattle.history_lead.proofs.flag.Statement.{statement}
 use Rattle.history_lead.proofs.flag.Tie as tie
 
-returns : tie.Need-returns
-returns c = sym (ap (λ (t : Bool). cond t 0 1) (eq-eqb (c .before .args .size) 0 (c .if1 .taken)))
+low : (b : Bool) (k : ℕ) → cond b 0 k ≤ k
+low true k = omega arith
+low false k = omega arith
 
-returns-2 : tie.Need-returns-2
-returns-2 c = sym (ap (λ (t : Bool). cond t 0 1) (ne-eqb (c .before .args .size) 0 (c .if1 .left)))
+table-flag-requires : tie.Need-table-flag-requires
+table-flag-requires c κs = search needs
+
+base-flag-requires : tie.Need-base-flag-requires
+base-flag-requires c κs = search needs
+
+add-result : tie.Need-add-result
+add-result c =
+    let table = c .before in
+    let lead = table .before .args .lead in
+    omega (arith, table .table-flag .ensures, c .base-flag .ensures, low (eqb (lead .table) 0) 1, low (eqb (lead .values) 0) 2)
+
+returns : tie.Need-returns
+returns c = search needs
 
 pub flag-spec : {M : Type 1} → statement M
-flag-spec = tie.close (tie.spec returns returns-2)
+flag-spec = tie.close (tie.spec table-flag-requires base-flag-requires add-result returns)

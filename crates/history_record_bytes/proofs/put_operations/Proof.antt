@@ -85,7 +85,7 @@ loop-again c =
     let long : length (A .b .now) ≡ length os * unitSize = omega (arith, start .pre .sized, ops-length (A .n) (A .ops .now)) in
     let less : i < length os = omega (arith, ops-length (A .n) (A .ops .now), turn .loop-test .taken) in
     let is = written .ensures ∙ op-written (A .n) (A .ops .now) i (turn .loop-test .taken) _ _ _ refl refl refl (c .before .before .before .shared-slice-known4 .given (3 * i + 2) .fits) in
-    (omega (arith, turn .loop-test .taken), units-length opBytes op-size (opIn []) os (A .b .now) long i less (at .loop .b) (written .last .0) (at .loop .inv .1) is, units-next opBytes op-size (opIn []) os (A .b .now) long i less (at .loop .b) (written .last .0) (at .loop .inv .2) is)
+    (omega (arith, turn .loop-test .taken), units-length opBytes unitSize op-size (opIn []) os (A .b .now) long i less (at .loop .b) (written .last .0) (at .loop .inv .1) is, units-next opBytes unitSize op-size (opIn []) os (A .b .now) long i less (at .loop .b) (written .last .0) (at .loop .inv .2) is)
 
 same-length : tie.Need-same-length Inv-loop μ-loop
 same-length c = c .before .loop .inv .1
@@ -97,7 +97,7 @@ returns c =
     let A = start .args in
     let os = opsIn (A .n) (A .ops .now) in
     let long : length (A .b .now) ≡ length os * unitSize = omega (arith, start .pre .sized, ops-length (A .n) (A .ops .now)) in
-    units-all opBytes op-size (opIn []) os (A .b .now) long (at .loop .i) (omega (arith, ops-length (A .n) (A .ops .now), c .loop-test .left)) (at .loop .b) (at .loop .inv .2)
+    units-all opBytes unitSize op-size (opIn []) os (A .b .now) long (at .loop .i) (omega (arith, ops-length (A .n) (A .ops .now), c .loop-test .left)) (at .loop .b) (at .loop .inv .2)
 
 pub put-operations-spec : {M : Type 1} → statement M
 put-operations-spec =

@@ -84,7 +84,7 @@ loop-again c =
     let long : length (A .b .now) ≡ length ps * unitSize = omega (arith, start .pre .sized, start .pre .all) in
     let less : i < length ps = omega (arith, start .pre .all, turn .loop-test .taken) in
     let is = unit-put (c .before .before) ∙ tuple-written (A .w .now) i less in
-    (omega (arith, turn .loop-test .taken), units-length pairBytes pair-size noPair ps (A .b .now) long i less (at .loop .b) (written .last .0) (at .loop .inv .1) is, units-next pairBytes pair-size noPair ps (A .b .now) long i less (at .loop .b) (written .last .0) (at .loop .inv .2) is)
+    (omega (arith, turn .loop-test .taken), units-length pairBytes unitSize pair-size noPair ps (A .b .now) long i less (at .loop .b) (written .last .0) (at .loop .inv .1) is, units-next pairBytes unitSize pair-size noPair ps (A .b .now) long i less (at .loop .b) (written .last .0) (at .loop .inv .2) is)
 
 same-length : tie.Need-same-length Inv-loop μ-loop
 same-length c = c .before .loop .inv .1
@@ -96,7 +96,7 @@ returns c =
     let A = start .args in
     let ps = stampIn (A .w .now) .tuples in
     let long : length (A .b .now) ≡ length ps * unitSize = omega (arith, start .pre .sized, start .pre .all) in
-    units-all pairBytes pair-size noPair ps (A .b .now) long (at .loop .i) (omega (arith, start .pre .all, c .loop-test .left)) (at .loop .b) (at .loop .inv .2)
+    units-all pairBytes unitSize pair-size noPair ps (A .b .now) long (at .loop .i) (omega (arith, start .pre .all, c .loop-test .left)) (at .loop .b) (at .loop .inv .2)
 
 pub put-tuples-spec : {M : Type 1} → statement M
 put-tuples-spec =

@@ -43,10 +43,10 @@ returns : tie.Need-returns
 returns c = search needs
 
 array-share-prefix-file : tie.Need-array-share-prefix-file
-array-share-prefix-file c = omega (arith, within (meaning (c .before .before .before .before .before .args .state .now)) (replicate 34840 0) (c .before .before .before .export .ensures), c .before .before .before .export .kept .1 .0)
+array-share-prefix-file c = omega (arith, within (meaning (c .before .before .before .before .before .args .state .now)) (replicate 35096 0) (c .before .before .before .export .ensures), c .before .before .before .export .kept .1 .0)
 
 slice-aggregate-write-all : tie.Need-slice-aggregate-write-all
-slice-aggregate-write-all c = sym (length-take-le (c .before .before .before .before .export .result .length) (c .before .before .before .before .export .last .1 .0) (omega (arith, within (meaning (c .before .before .before .before .before .before .args .state .now)) (replicate 34840 0) (c .before .before .before .before .export .ensures), c .before .before .before .before .export .kept .1 .0)))
+slice-aggregate-write-all c = sym (length-take-le (c .before .before .before .before .export .result .length) (c .before .before .before .before .export .last .1 .0) (omega (arith, within (meaning (c .before .before .before .before .before .before .args .state .now)) (replicate 35096 0) (c .before .before .before .before .export .ensures), c .before .before .before .before .export .kept .1 .0)))
 
 write-all-requires : tie.Need-write-all-requires
 write-all-requires c κs = search needs

@@ -7,10 +7,11 @@ use lib.ListN.{length, getD, drop}
 use Rattle.lists.proofs.Folds.{fold-next, fold-done}
 use Rattle.site_operations.specs.Operations.{Op, noOp, writtenItem}
 use Rattle.records.specs.Records.{Record}
+use Rattle.records.proofs.Laws.{op-there}
 use Rattle.protocol.specs.Network.{Network, nthRecord}
 use Rattle.network_layout.specs.InWords.{networkIn}
 use Rattle.network_earliest_writes.specs.Noted.{noteItem, noteOps, IsMet}
-use Rattle.network_earliest_writes.proofs.NotedLaws.{not-sooner, op-there}
+use Rattle.network_earliest_writes.proofs.NotedLaws.{not-sooner}
 use borrow.Author.Needs.{needs}
 use Rattle.network_earliest_writes.proofs.note_record.Statement.{statement}
 use Rattle.network_earliest_writes.proofs.note_record.Tie as tie

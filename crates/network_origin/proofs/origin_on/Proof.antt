@@ -1,5 +1,6 @@
 -- `origin_on` refuses with the number, names the reader after its own write, or the last writer before it.
 use mathlib.Core.Path.{_≡_, sym, ap, subst, _∙_}
+use mathlib.Core.Bool.{Bool}
 use Prim.Native.Nat.{ℕ}
 use lib.ListN.{length}
 use borrow.Author.Tests.{eq-eqb}
@@ -8,8 +9,8 @@ use Rattle.protocol.specs.Questions.{nthOp, askedRead}
 use Rattle.origins.specs.Origin.{opsBefore, ownWrite}
 use Rattle.network_layout.specs.declared.Origin.{Origin}
 use Rattle.network_layout.specs.InWords.{networkIn}
-use Rattle.network_writers.specs.Writers.{LastSoFar}
-use Rattle.network_origin.specs.Answer.{OriginAnswered}
+use Rattle.network_writers.specs.Writers.{writerOf, LastSoFar, isWriter}
+use Rattle.network_origin.specs.Answer.{named, OriginAnswered}
 use Rattle.network_origin.proofs.OriginLaws.{origin-refused, reader-there, origin-own, origin-found}
 use borrow.Author.Needs.{needs}
 use Rattle.network_origin.proofs.origin_on.Statement.{statement}
@@ -61,20 +62,24 @@ last-writer-requires c κs =
     let A = start .args in
     reader-there (A .state .now) (A .reader) (A .operation) (start .pre) (free accepted)
 
+is-folded-requires : tie.Need-is-folded-requires
+is-folded-requires c κs = search needs
+
 named-requires : tie.Need-named-requires
 named-requires c κs = search needs
 
 returns-3 : tie.Need-returns-3
 returns-3 c =
-    let found = c .before in
+    let flag = c .before .is-folded in
+    let found = c .before .before in
     let other = found .before in
     let accepted = other .before .before in
     let start = accepted .before .before .before .before in
     let A = start .args in
     let n = networkIn (A .state .now) in
     let b = found .last-writer .result in
-    let of-item = subst (λ (x : ℕ). LastSoFar n (A .reader) x (length (n .history)) b) (item-read accepted) (found .last-writer .ensures) in
-    subst (λ (r : Origin). OriginAnswered (A .reader) (A .operation) (A .state .now) r) (sym (c .named .ensures))
+    let of-item = subst (λ (x : ℕ). LastSoFar n (isWriter n (A .reader) x) (length (n .history)) b) (item-read accepted) (found .last-writer .ensures) in
+    subst (λ (r : Origin). OriginAnswered (A .reader) (A .operation) (A .state .now) r) (sym (c .named .ensures ∙ ap (λ (f : Bool). named f (writerOf b)) (flag .ensures)))
     (origin-found (A .state .now) (A .reader) (A .operation) (start .pre) (free accepted) (sym (own-asked (other .before)) ∙ other .if2 .left) b of-item)
 
 pub origin-on-spec : {M : Type 1} → statement M
@@ -86,5 +91,6 @@ origin-on-spec =
     own-write-requires
     returns-2
     last-writer-requires
+    is-folded-requires
     named-requires
     returns-3)

@@ -7,14 +7,14 @@ use Rattle.network_layout.specs.InWords.{networkIn}
 use Rattle.network_layout.specs.At.{AtState}
 use Rattle.network_layout.proofs.Performs.{records-count}
 use Rattle.network_layout.proofs.OnNetwork.{at-state, at-record}
-use Rattle.network_writers.specs.Writers.{LastSoFar}
+use Rattle.network_writers.specs.Writers.{LastSoFar, isWriter}
 use Rattle.network_writers.proofs.WriterLaws.{none-looked-at}
 use borrow.Author.Needs.{needs}
 use Rattle.network_writers.proofs.last_writer.Statement.{statement}
 use Rattle.network_writers.proofs.last_writer.Tie as tie
 
 abbrev Inv-loop : tie.InvT-loop
-Inv-loop state k item made reader places best₀ j₀ best j = (j ≤ made) × LastSoFar (networkIn state) reader item j best
+Inv-loop state k item made reader places best₀ j₀ best j = (j ≤ made) × LastSoFar (networkIn state) (isWriter (networkIn state) reader item) j best
 
 abbrev μ-loop : tie.MeasureT-loop
 μ-loop state k item made reader places best₀ j₀ best j = made - j
@@ -38,7 +38,8 @@ places-requires c κs =
 loop-holds : tie.Need-loop-holds Inv-loop μ-loop
 loop-holds c =
     let A = c .before .before .before .before .before .args in
-    (omega arith, none-looked-at (networkIn (A .state .now)) (c .before .wide2 .result) (A .item))
+    let n = networkIn (A .state .now) in
+    (omega arith, none-looked-at n (isWriter n (c .before .wide2 .result) (A .item)))
 
 -- ---- at the loop
 module _ (h : tie.At-loop Inv-loop μ-loop) where
@@ -85,8 +86,8 @@ returns c =
     let A = start h .args in
     let n = networkIn (A .state .now) in
     let all : h .loop .j ≡ length (n .history) = omega (arith, made-is h, c .loop-test .left, h .loop .inv .0) in
-    subst (λ (k : ℕ). LastSoFar n k (A .item) (length (n .history)) (h .loop .best)) (reader-is h)
-    (subst (λ (j : ℕ). LastSoFar n (counted h .wide2 .result) (A .item) j (h .loop .best)) all (h .loop .inv .1))
+    subst (λ (k : ℕ). LastSoFar n (isWriter n k (A .item)) (length (n .history)) (h .loop .best)) (reader-is h)
+    (subst (λ (j : ℕ). LastSoFar n (isWriter n (counted h .wide2 .result) (A .item)) j (h .loop .best)) all (h .loop .inv .1))
 
 pub last-writer-spec : {M : Type 1} → statement M
 last-writer-spec =

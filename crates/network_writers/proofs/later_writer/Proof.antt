@@ -1,21 +1,22 @@
--- `later_writer` takes record j where it writes the item before the reader and there was none, or that one comes before it.
-use mathlib.Core.Path.{_≡_, sym, _∙_}
-use mathlib.Core.Bool.{Bool, true, false, cond}
-use Prim.Native.Nat.{_+_}
-use native.Mathlib.Omega.{arith}
+-- `later_writer` passes record j over unless it writes the item before the reader; else it takes the last of the two.
+use mathlib.Core.Path.{_≡_, sym, subst, _∙_}
+use mathlib.Core.Bool.{Bool, true, false}
+use Prim.Native.Nat.{ℕ, _+_}
 use borrow.Author.Tests.{not-true, not-false}
 use Rattle.site_operations.specs.Operations.{touches}
 use Rattle.protocol.specs.Network.{Network, nthRecord}
 use Rattle.network_layout.specs.InWords.{networkIn}
-use Rattle.network_layout.specs.At.{HasRecord}
-use Rattle.network_writers.specs.Writers.{comesBefore, LastSoFar}
-use Rattle.network_writers.proofs.WriterLaws.{not-written, not-before, last-below, taken-first, taken-last}
+use Rattle.network_writers.specs.Writers.{comesBefore, LastSoFar, isWriter}
+use Rattle.network_writers.proofs.WriterLaws.{passed-over, best-there, taken}
 use borrow.Author.Needs.{needs}
 use Rattle.network_writers.proofs.later_writer.Statement.{statement}
 use Rattle.network_writers.proofs.later_writer.Tie as tie
 
 abbrev net : tie.Start → Network
 net start = networkIn (start .args .state .now)
+
+abbrev test : tie.Start → ℕ → Bool
+test start = isWriter (net start) (start .args .reader) (start .args .item)
 
 -- whether record j writes the item
 module _ (c : tie.After-record-touches) where
@@ -25,16 +26,22 @@ module _ (c : tie.After-record-touches) where
   touched : touches (start .args .item) (nthRecord (net start) (start .args .j) .ops) ≡ c .record-touches .result
   touched = sym (c .record-touches .ensures)
 
--- it does, and comes before the reader
-module _ (c : tie.Else2) where
+-- and comes before the reader
+module _ (c : tie.After-precedes) where
   abbrev tested : tie.After-record-touches
-  tested = c .before .before .before
+  tested = c .before .before
 
-  written : touches (start tested .args .item) (nthRecord (net (start tested)) (start tested .args .j) .ops) ≡ true
-  written = touched tested ∙ not-false (tested .record-touches .result) (c .before .before .if1 .left)
+  abbrev begun : tie.Start
+  begun = start tested
 
-  before : comesBefore (net (start tested)) (start tested .args .j) (start tested .args .reader) ≡ true
-  before = sym (c .before .precedes .ensures) ∙ not-false (c .before .precedes .result) (c .if2 .left)
+  written : touches (begun .args .item) (nthRecord (net begun) (begun .args .j) .ops) ≡ true
+  written = touched tested ∙ not-false (tested .record-touches .result) (c .before .if1 .left)
+
+  before : comesBefore (net begun) (begun .args .j) (begun .args .reader) ≡ c .precedes .result
+  before = sym (c .precedes .ensures)
+
+  passes-as : (b : Bool) → c .precedes .result ≡ b → test begun (begun .args .j) ≡ b
+  passes-as b e = rw (written, before ∙ e)
 
 record-touches-requires : tie.Need-record-touches-requires
 record-touches-requires c κs = search needs
@@ -43,50 +50,30 @@ returns : tie.Need-returns
 returns c =
     let S = start (c .before) in
     let A = S .args in
-    not-written (net S) (A .reader) (A .item) (A .j) (A .best) (S .pre .so-far) (touched (c .before) ∙ not-true (c .before .record-touches .result) (c .if1 .taken))
+    passed-over (net S) (test S) (A .j) (A .best) (S .pre .so-far) (rw (touched (c .before) ∙ not-true (c .before .record-touches .result) (c .if1 .taken)))
 
 precedes-requires : tie.Need-precedes-requires
 precedes-requires c κs = search needs
 
 returns-2 : tie.Need-returns-2
 returns-2 c =
-    let asked = c .before in
-    let T = asked .before .before in
-    let S = start T in
+    let S = begun (c .before) in
     let A = S .args in
-    not-before (net S) (A .reader) (A .item) (A .j) (A .best) (S .pre .so-far) (touched T ∙ not-false (T .record-touches .result) (asked .before .if1 .left))
-    (sym (asked .precedes .ensures) ∙ not-true (asked .precedes .result) (c .if2 .taken))
+    passed-over (net S) (test S) (A .j) (A .best) (S .pre .so-far) (passes-as (c .before) false (not-true (c .before .precedes .result) (c .if2 .taken)))
+
+later-of-requires : tie.Need-later-of-requires
+later-of-requires c κs =
+    let S = begun (c .before) in
+    let A = S .args in
+    record { best = best-there (net S) (test S) (A .j) (A .best) (S .pre .so-far) (A .state .now) (S .pre .next); next = S .pre .next; places-are = S .pre .places-are }
 
 returns-3 : tie.Need-returns-3
 returns-3 c =
-    let S = start (tested (c .before)) in
+    let asked = c .before .before in
+    let S = begun asked in
     let A = S .args in
-    taken-first (net S) (A .reader) (A .item) (A .j) (A .best) (S .pre .so-far) (written (c .before)) (before (c .before)) (S .pre .next .few) (c .if3 .taken)
-
-precedes-requires-2 : tie.Need-precedes-requires-2
-precedes-requires-2 c κs =
-    let S = start (tested (c .before)) in
-    let A = S .args in
-    let low = last-below (net S) (A .reader) (A .item) (A .j) (A .best) (S .pre .so-far) (c .if3 .left) .low in
-    let best : HasRecord (A .state .now) (A .best) = record { sized = S .pre .next .sized; there = omega (arith, low, S .pre .next .there); few = c .if3 .left } in
-    let next = S .pre .next in
-    search needs
-
--- the one of the two that comes last
-last-of-two : (c : tie.After-precedes2) (b : Bool) → c .precedes2 .result ≡ b
-    → let S = start (tested (c .before .before)) in LastSoFar (net S) (S .args .reader) (S .args .item) (S .args .j + 1) (cond b (S .args .j) (S .args .best))
-last-of-two c b e =
-    let two = c .before .before in
-    let S = start (tested two) in
-    let A = S .args in
-    let order : comesBefore (net S) (A .best) (A .j) ≡ c .precedes2 .result = sym (c .precedes2 .ensures) in
-    taken-last (net S) (A .reader) (A .item) (A .j) (A .best) (S .pre .so-far) (written two) (before two) (c .before .if3 .left) (S .pre .next .few) b (order ∙ e)
-
-returns-4 : tie.Need-returns-4
-returns-4 c = last-of-two (c .before) true (c .if4 .taken)
-
-returns-5 : tie.Need-returns-5
-returns-5 c = last-of-two (c .before) false (c .if4 .left)
+    subst (LastSoFar (net S) (test S) (A .j + 1)) (sym (c .later-of .ensures))
+    (taken (net S) (test S) (A .j) (A .best) (S .pre .so-far) (passes-as asked true (not-false (asked .precedes .result) (c .before .if2 .left))) (S .pre .next .few))
 
 pub later-writer-spec : {M : Type 1} → statement M
 later-writer-spec =
@@ -96,7 +83,5 @@ later-writer-spec =
     returns
     precedes-requires
     returns-2
-    returns-3
-    precedes-requires-2
-    returns-4
-    returns-5)
+    later-of-requires
+    returns-3)
