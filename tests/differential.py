@@ -298,6 +298,12 @@ def shown_by_collect(n):
             model.write(base, n.history[k][2])
         return base
 
+    def folded_backward():
+        base = list(n.base)
+        for k in gone:
+            model.write(base, n.history[k][2][::-1])
+        return base
+
     left = folded(gone)
     both = list(zip(n.base, left))
     stale = {line: [isinstance(k, int) and past[k] for k in messages] for line, messages in n.held.items()}
@@ -317,7 +323,7 @@ def shown_by_collect(n):
         "not the first ones made": some and not all(past[:count]),
         "not in the order made": some and left != folded(sorted(gone)),
         "not the last made first of equal timestamps": some and left != folded(sorted(gone, key=lambda k: (keys[k], -k))),
-        "not the first of two writes in a commit": some and any(len(set(items)) < len(items) for items in written),
+        "not the first of two writes in a commit": some and left != folded_backward(),
         "a base value that stays": some and any(value != 0 and all(x not in items for items in written) for x, value in enumerate(left)),
         "a base value that is written over": some and any(before not in (0, after) for before, after in both),
         "a flag without a base value": some and not any(left),

@@ -67,7 +67,7 @@ extern "C" {
 #define GEVROLEN_NO_SUCH_PRIMARY 3     /* an item's primary is no site: correct it */
 #define GEVROLEN_WRONG_MASK 4          /* an item's mask names a missing site, or the primary itself: clear that bit */
 #define GEVROLEN_CYCLE 5               /* the lines form a cycle: leave out a copy or move a primary, so that no site hears of itself */
-#define GEVROLEN_NO_STATE 6            /* the words are no state: set up first, or load the saved state again; somebody else has written to it */
+#define GEVROLEN_NO_STATE 6            /* the words are no state: set up first, or load the saved state again; somebody else has written to it. Of a collect also: a message names a commit to be folded */
 #define GEVROLEN_NO_SUCH_SITE 7        /* no site has that number: correct it */
 #define GEVROLEN_WRONG_OPERATIONS 8    /* operations not 1 to 8, or separate lists of different lengths: split the commit, or mend the lists */
 #define GEVROLEN_UNKNOWN_OPERATION 9   /* an operation's kind is not 0 or 1, or no item has its number: correct it */
@@ -188,7 +188,7 @@ struct gevrolen_progress {
 
 /* Starts a group anew, whatever the words were: for each item its primary site and its mask of copies, in which the bit of weight 2 to the power k names site k.
    A copy may be at any site but the primary. 1 to 5: the items are taken in turn for 3 and 4, and where all pass, 5 says that the lines form a cycle. Both lists have as
-   many elements as there are items; other lengths are refused by 2. Lines and history are empty then, every value 0. */
+   many elements as there are items; other lengths are refused by 2. Lines and history are empty then, every value and base value 0, and no record counts as removed. */
 uint32_t gevrolen_set_up(
     uint32_t state[GEVROLEN_WORDS],
     uint32_t sites,

@@ -5,11 +5,11 @@ use Prim.Native.Nat.{ℕ, _+_, _*_, _<_}
 use native.Mathlib.Omega.{arith}
 use native.Mathlib.Numerals.{add-one}
 use lib.IntN.{ℤ, pos}
-use lib.ListN.{length, getD, set, take, length-map, List·getD-map}
+use lib.ListN.{length, getD, set, take}
 use lib.Seq.{take-suc, take-suc-set}
 use Rattle.words.specs.Words.{part, chunks}
-use Rattle.words.proofs.Chunks.{chunks-length, chunks-at}
 use Rattle.history_file.specs.Bytes.{numberAt, valueSize, valueRead}
+use Rattle.history_file.proofs.Units.{read-length, read-at}
 
 no-value : pos 0 ≡ valueRead []
 unfolding numberAt
@@ -20,10 +20,10 @@ module _ (b : List ℕ) (n : ℕ) where
   valuesOf = map valueRead (chunks valueSize n b)
 
   pub values-count : length valuesOf ≡ n
-  values-count = length-map (chunks valueSize n b) valueRead ∙ chunks-length valueSize n b
+  values-count = read-length valueRead valueSize n b
 
-  pub value-there : (x : ℕ) → x < n → getD valuesOf x (pos 0) ≡ valueRead (part b (x * valueSize) valueSize)
-  value-there x h = ap (getD valuesOf x) no-value ∙ List·getD-map valueRead (chunks valueSize n b) x [] ∙ ap valueRead (chunks-at valueSize n b x h)
+  value-there : (x : ℕ) → x < n → getD valuesOf x (pos 0) ≡ valueRead (part b (x * valueSize) valueSize)
+  value-there = read-at valueRead valueSize n b (pos 0) no-value
 
   -- one more placed
   pub placed-next : (found : List ℤ) (x : ℕ) (v : ℤ) → x < n → x < length found → take x found ≡ take x valuesOf → v ≡ valueRead (part b (x * valueSize) valueSize)

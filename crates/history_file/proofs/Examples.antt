@@ -9,6 +9,7 @@ use Rattle.timestamp_order.specs.Timestamp.{appendedOrSame, raisedOrSame}
 use Rattle.placement.specs.Placement.{itemNumber, isLine, hasParents}
 use Rattle.placement.specs.Places.{orderFrom, placesOf, placeOf, cyclic, placementNumber}
 use Rattle.protocol.specs.Steps.{setUpNumber, setUpNetwork, commitNumber, commitNetwork, dummyNumber, dummyNetwork, deliverNumber, deliverNetwork, scheduleNumber, earliest, scheduleNetwork}
+use Rattle.protocol.specs.Earliest.{earliestStamp}
 use Rattle.protocol.specs.Collect.{collectNumber, collectNetwork}
 use Rattle.protocol.specs.Calls.{perform}
 use Rattle.history_file.specs.Bytes.{valueBytes, unit, numberAt}
@@ -33,7 +34,7 @@ unfolding numberAt recordsFill placesRead partRead holdsEach tableFits valid fil
 table-accepted = refl
 
 pub folded-bytes : (fileAfter foldedState ≡ foldedBytes) × (fileAfter bothState ≡ bothBytes)
-unfolding numberOrder placeOrder pairOrder tuplesOrder orderBy appendedOrSame raisedOrSame worked itemNumber isLine hasParents orderFrom placesOf placeOf cyclic placementNumber setUpNumber setUpNetwork commitNumber commitNetwork dummyNumber dummyNetwork deliverNumber deliverNetwork scheduleNumber earliest scheduleNetwork collectNumber collectNetwork perform valueBytes unit recordBytes lead flag trailer fileOf
+unfolding numberOrder placeOrder pairOrder tuplesOrder orderBy appendedOrSame raisedOrSame worked itemNumber isLine hasParents orderFrom placesOf placeOf cyclic placementNumber setUpNumber setUpNetwork commitNumber commitNetwork dummyNumber dummyNetwork deliverNumber deliverNetwork scheduleNumber earliest scheduleNetwork earliestStamp collectNumber collectNetwork perform valueBytes unit recordBytes lead flag trailer fileOf
 folded-bytes = (refl, refl)
 
 pub folded-accepted : (fileNumber foldedBytes ≡ 0) × (fileNumber bothBytes ≡ 0)

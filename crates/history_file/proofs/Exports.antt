@@ -16,7 +16,7 @@ use Rattle.protocol.specs.Network.{Network, noRecord}
 use Rattle.protocol.proofs.WellShaped.{shape-parts}
 use Rattle.network_layout.specs.InWords.{networkIn, shaped, meaning}
 use Rattle.network_layout.proofs.Assembled.{partsOf, range-parts}
-use Rattle.network_layout.proofs.Performs.{sites-count, records-count, shaped-range, shaped-well}
+use Rattle.network_layout.proofs.Performs.{sites-count, records-few, shaped-range, shaped-well}
 use Rattle.history_file.specs.Bytes.{byte, joined}
 use Rattle.history_file.specs.File.{History, historyOf, recordBytes, lead, flag, trailer, trailerSize, body, fileOf}
 use Rattle.history_file.specs.Promises.{exportOf}
@@ -131,8 +131,7 @@ module _ (w : List ℕ) (e : shaped w ≡ true) where
   state-places = group-places (length (group .sites)) (group .items) state-few (shape-parts group (shaped-well w e) .placed)
 
   pub few-records : length (group .history) ≤ recordsMost
-  unfolding partsOf
-  few-records = omega (arith, records-count w, range-parts w (shaped-range w e) .few-records)
+  few-records = records-few w (shaped-range w e)
 
 -- ---- an export
 module _ (w b : List ℕ) where

@@ -74,6 +74,14 @@ module _ (b : List ℕ) (n from i : ℕ) (low : from ≤ 4) (e : every (padded f
     pub pad-passes : r ≡ true → every (padded from) (chunks unitSize n b) ≡ every (padded from) (drop (i + 1) (chunks unitSize n b))
     pad-passes t = unit-passes (padded from) n b i e h (pad-is ∙ t)
 
+-- ---- what n chunks of bytes are read as, one after another
+module _ {A : Type 0} (read : List ℕ → A) (size n : ℕ) (b : List ℕ) where
+  pub read-length : length (map read (chunks size n b)) ≡ n
+  read-length = length-map (chunks size n b) read ∙ chunks-length size n b
+
+  pub read-at : (none : A) → none ≡ read [] → (i : ℕ) → i < n → getD (map read (chunks size n b)) i none ≡ read (part b (i * size) size)
+  read-at none e i h = ap (getD (map read (chunks size n b)) i) e ∙ List·getD-map read (chunks size n b) i [] ∙ ap read (chunks-at size n b i h)
+
 -- ---- tuples
 no-pair : noPair ≡ pairRead []
 unfolding numberAt
@@ -84,10 +92,10 @@ module _ (b : List ℕ) (n : ℕ) where
   pairsOf = map pairRead (chunks unitSize n b)
 
   pub pairs-length : length pairsOf ≡ n
-  pairs-length = length-map (chunks unitSize n b) pairRead ∙ chunks-length unitSize n b
+  pairs-length = read-length pairRead unitSize n b
 
   pub pair-at : (i : ℕ) → i < n → getD pairsOf i noPair ≡ pairRead (part b (i * unitSize) unitSize)
-  pair-at i h = ap (getD pairsOf i) no-pair ∙ List·getD-map pairRead (chunks unitSize n b) i [] ∙ ap pairRead (chunks-at unitSize n b i h)
+  pair-at = read-at pairRead unitSize n b noPair no-pair
 
   pub pair-site : (i at : ℕ) → i < n → at ≡ i * unitSize → getD pairsOf i noPair .site ≡ getD b at 0
   pair-site i at h e =

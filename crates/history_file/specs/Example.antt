@@ -93,8 +93,8 @@ pub record LeadsRefused : Type 0 where
   pub place-twice : fileNumber (tabled (2 ∷ 0 ∷ 2 ∷ 1 ∷ []) 20 1) ≡ 23
   pub place-missing : fileNumber (tabled (2 ∷ 0 ∷ 4 ∷ 1 ∷ []) 20 1) ≡ 23
   pub numbers : fileNumber (tabled (0 ∷ 1 ∷ 2 ∷ 3 ∷ []) 20 1) ≡ 23
-  pub flag-of-4 : fileNumber (tabled both 28 4) ≡ 23
+  pub flag-of-4 : fileNumber (tabled [] 16 4) ≡ 23
   pub too-near : fileNumber (tabled (2 ∷ 0 ∷ 3 ∷ 1 ∷ []) 19 1) ≡ 23
   pub no-values : fileNumber (tabled (2 ∷ 0 ∷ 3 ∷ 1 ∷ []) 20 2) ≡ 23
-  pub values-too-near : fileNumber (tabled both 27 3) ≡ 23
+  pub values-too-near : fileNumber (tabled (5 ∷ 0 ∷ 0 ∷ 0 ∷ 0 ∷ 0 ∷ 0 ∷ 0 ∷ []) 23 2) ≡ 23
   pub values-unsaid : fileNumber (tabled both 28 1) ≡ 23

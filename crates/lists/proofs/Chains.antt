@@ -1,6 +1,6 @@
 -- What holds of each element of a list, and of each with those after it; by places, of those that pass a test, and of numbers in turn too.
 use mathlib.Core.Path.{_≡_, refl, sym, ap, ap₂, _∙_}
-use mathlib.Core.Bool.{Bool, true, false, not, cond, false≢true}
+use mathlib.Core.Bool.{Bool, true, false, not, cond, _||_, false≢true}
 use mathlib.Core.List.{List, [], _∷_, _++_, map}
 use Prim.Native.Nat.{ℕ, zero, suc, _+_, _≤_, _<_}
 use native.Mathlib.Omega.{arith}
@@ -132,6 +132,11 @@ chain-split {A = A} p (x ∷ xs) h = go (p x) refl (chain-split p xs (h .1))
 pub map-same : {A B : Type 0} (f g : A → B) (xs : List A) → Each (λ x. f x ≡ g x) xs → map f xs ≡ map g xs
 map-same f g [] h = refl
 map-same {B = B} f g (x ∷ xs) h = ap₂ {C = List B} (λ y ys. y ∷ ys) (h .0) (map-same f g xs (h .1))
+
+-- two tests that do
+pub any-same : {A : Type 0} (p q : A → Bool) (xs : List A) → Each (λ x. p x ≡ q x) xs → any p xs ≡ any q xs
+any-same p q [] h = refl
+any-same p q (x ∷ xs) h = ap₂ (λ (a b : Bool). a || b) (h .0) (any-same p q xs (h .1))
 
 -- none of what a function gives passes a test
 pub map-none : {A B : Type 0} (f : A → B) (p : B → Bool) (xs : List A) → Each (λ x. p (f x) ≡ false) xs → any p (map f xs) ≡ false

@@ -6,14 +6,10 @@ use Prim.Native.Nat.{ℕ, zero, suc, _≤_, _<_}
 use native.Mathlib.Omega.{arith}
 use lib.ListN.{length, getD, take, drop}
 use Rattle.lists.specs.Lists.{beforeFirst, fold}
-use Rattle.lists.specs.Sorting.{insert, placeIn, sorted}
+use Rattle.lists.specs.Sorting.{insert, placeIn, sorted, former}
 
 module _ {A : Type 0} (before : A → A → Bool) where
-  -- of two the one that may stand before the other
-  abbrev pub former : A → A → A
-  former x y = cond (before x y) x y
-
-  first-two : (x y d : A) (zs : List A) → getD (insert before x (insert before y zs)) 0 d ≡ former x (getD (insert before y zs) 0 d)
+  first-two : (x y d : A) (zs : List A) → getD (insert before x (insert before y zs)) 0 d ≡ former before x (getD (insert before y zs) 0 d)
   first-two x y d [] = go (before x y)
     where
       go : (b : Bool) → getD (cond b (x ∷ (y ∷ [])) (y ∷ (x ∷ []))) 0 d ≡ cond b x y
@@ -25,32 +21,32 @@ module _ {A : Type 0} (before : A → A → Bool) where
       inner u us true = refl
       inner u us false = refl
 
-      outer : (b : Bool) → getD (insert before x (cond b (y ∷ (z ∷ zs)) (z ∷ insert before y zs))) 0 d ≡ former x (getD (cond b (y ∷ (z ∷ zs)) (z ∷ insert before y zs)) 0 d)
+      outer : (b : Bool) → getD (insert before x (cond b (y ∷ (z ∷ zs)) (z ∷ insert before y zs))) 0 d ≡ former before x (getD (cond b (y ∷ (z ∷ zs)) (z ∷ insert before y zs)) 0 d)
       outer true = inner y (z ∷ zs) (before x y)
       outer false = inner z (insert before y zs) (before x z)
 
   -- a test that goes along, and of any two lets one stand before the other
   module _ (along : (x y z : A) → before x y ≡ true → before y z ≡ true → before x z ≡ true) (either : (x y : A) → before x y ≡ false → before y x ≡ true) where
-    former-three : (x y z : A) → former x (former y z) ≡ former (former x y) z
+    former-three : (x y z : A) → former before x (former before y z) ≡ former before (former before x y) z
     former-three x y z = go (before x y) refl (before y z) refl
       where
         later : before x y ≡ false → before y z ≡ false → (c : Bool) → before x z ≡ c → cond c x z ≡ z
         later e f true g = absurd (true≢false (sym (along x z y g (either y z f)) ∙ e))
         later e f false g = refl
 
-        go : (a : Bool) → before x y ≡ a → (b : Bool) → before y z ≡ b → former x (cond b y z) ≡ former (cond a x y) z
+        go : (a : Bool) → before x y ≡ a → (b : Bool) → before y z ≡ b → former before x (cond b y z) ≡ former before (cond a x y) z
         go true e true f = rw (e, along x y z e f)
         go true e false f = refl
         go false e true f = rw (e, f)
         go false e false f = rw f (later e f (before x z) refl)
 
-    former-fold : (x y : A) (zs : List A) → former x (fold former y zs) ≡ fold former (former x y) zs
+    former-fold : (x y : A) (zs : List A) → former before x (fold (former before) y zs) ≡ fold (former before) (former before x y) zs
     former-fold x y [] = refl
-    former-fold x y (z ∷ zs) = former-fold x (former y z) zs ∙ ap (λ (u : A). fold former u zs) (former-three x y z)
+    former-fold x y (z ∷ zs) = former-fold x (former before y z) zs ∙ ap (λ (u : A). fold (former before) u zs) (former-three x y z)
 
-    pub first-sorted : (d x : A) (ys : List A) → getD (sorted before (x ∷ ys)) 0 d ≡ fold former x ys
+    pub first-sorted : (d x : A) (ys : List A) → getD (sorted before (x ∷ ys)) 0 d ≡ fold (former before) x ys
     first-sorted d x [] = refl
-    first-sorted d x (y ∷ ys) = first-two x y d (sorted before ys) ∙ ap (former x) (first-sorted d y ys) ∙ former-fold x y ys
+    first-sorted d x (y ∷ ys) = first-two x y d (sorted before ys) ∙ ap (former before x) (first-sorted d y ys) ∙ former-fold x y ys
 
   -- ---- where an element is inserted
   pub insert-placed : (x : A) (ys : List A) → insert before x ys ≡ take (placeIn before x ys) ys ++ (x ∷ drop (placeIn before x ys) ys)

@@ -17,3 +17,7 @@ placeIn before x ys = length (beforeFirst (before x) ys)
 abbrev pub sorted : {A : Type 0} → (A → A → Bool) → List A → List A
 sorted before [] = []
 sorted before (x ∷ xs) = insert before x (sorted before xs)
+
+-- of two the one that may stand before the other
+abbrev pub former : {A : Type 0} → (A → A → Bool) → A → A → A
+former before x y = cond (before x y) x y

@@ -1,7 +1,7 @@
 -- Collect: its number, and the network after it, by the table of names.
-use mathlib.Core.Path.{_≡_, refl, sym, ap, ap₂, subst, _∙_}
+use mathlib.Core.Path.{_≡_, refl, sym, ap, subst, _∙_}
 use mathlib.Core.Bool.{Bool, true, false, not, _||_, Bool·not-not}
-use mathlib.Core.List.{List, [], _∷_, map}
+use mathlib.Core.List.{List, [], map}
 use Prim.Native.Nat.{ℕ, _/_, _<_}
 use native.Mathlib.Omega.{arith}
 use lib.ListN.{length, getD}
@@ -10,10 +10,9 @@ use borrow.Author.Tests.{ltb-true}
 use Rattle.limits.specs.Limits.{sitesMost}
 use Rattle.lists.specs.Lists.{any, every, someBelow, countBelow, keepFrom}
 use Rattle.lists.specs.Numbers.{numberIf}
-use Rattle.lists.proofs.Every.{and-true}
-use Rattle.lists.proofs.Numbers.{or-false}
+use Rattle.lists.proofs.Every.{and-true, every-at}
 use Rattle.lists.proofs.Some.{none-at, some-below-same}
-use Rattle.lists.proofs.Chains.{Each, each-by, map-same}
+use Rattle.lists.proofs.Chains.{each-by, map-same, any-same}
 use Rattle.lists.proofs.Renumber.{count-same}
 use Rattle.lists.proofs.KeptFrom.{each-from, kept-same}
 use Rattle.messages.specs.Messages.{Message, commit, dummy}
@@ -57,31 +56,29 @@ module _ (n : Network) (shape : Shape n) (names : List ℕ) (named : Names (isPa
   message-tells p (commit k) f = gone-is k (known p k f)
   message-tells p (dummy t) f = refl
 
-  messages-tell : (p : ℕ) (ms : List Message) → every (fits p) ms ≡ true → any (namesGone names) ms ≡ any (namesOne goes) ms
-  messages-tell p [] f = refl
-  messages-tell p (m ∷ ms) f = let both = and-true (fits p m) (every (fits p) ms) f in ap₂ (λ (a b : Bool). a || b) (message-tells p m (both .0)) (messages-tell p ms (both .1))
-
   message-renamed : (p : ℕ) (m : Message) → fits p m ≡ true → namesOne goes m ≡ false → renamedBy names m ≡ renamed goes m
   message-renamed p (commit k) f e = ap {B = Message} commit (new-name goes (length h) names named k (known p k f) e)
   message-renamed p (dummy t) f e = refl
 
-  messages-renamed : (p : ℕ) (ms : List Message) → every (fits p) ms ≡ true → any (namesOne goes) ms ≡ false → map (renamedBy names) ms ≡ map (renamed goes) ms
-  messages-renamed p [] f e = refl
-  messages-renamed p (m ∷ ms) f e =
-      let both = and-true (fits p m) (every (fits p) ms) f in
-      let none = or-false (namesOne goes m) (any (namesOne goes) ms) e in
-      ap₂ {C = List Message} (λ x xs. x ∷ xs) (message-renamed p m (both .0) (none .0)) (messages-renamed p ms (both .1) (none .1))
+  module _ (p : ℕ) (ms : List Message) (fit : every (fits p) ms ≡ true) where
+    abbrev nth : ℕ → Message
+    nth a = getD ms a (commit 0)
+
+    fits-at : (a : ℕ) → a < length ms → fits p (nth a) ≡ true
+    fits-at a l = every-at (fits p) ms a (commit 0) fit l
+
+    messages-tell : any (namesGone names) ms ≡ any (namesOne goes) ms
+    messages-tell = any-same _ _ ms (each-by _ ms (commit 0) (λ a l. message-tells p (nth a) (fits-at a l)))
+
+    messages-renamed : any (namesOne goes) ms ≡ false → map (renamedBy names) ms ≡ map (renamed goes) ms
+    messages-renamed e = map-same _ _ ms (each-by _ ms (commit 0) (λ a l. message-renamed p (nth a) (fits-at a l) (none-at (namesOne goes) ms a (commit 0) e l)))
 
   -- ---- on all lines
-  some-same : (p q : Line → Bool) (ls : List Line) → Each (λ l. p l ≡ q l) ls → any p ls ≡ any q ls
-  some-same p q [] e = refl
-  some-same p q (l ∷ ls) e = ap₂ (λ (a b : Bool). a || b) (e .0) (some-same p q ls (e .1))
-
   abbrev names-past : Line → Bool
   names-past l = any (namesOne goes) (l .messages)
 
   lines-tell : someGone names n ≡ any names-past (n .lines)
-  lines-tell = some-same (lineGone names) names-past (n .lines) (each-by _ (n .lines) noLine (λ k l. messages-tell (k / sitesMost) (getD (n .lines) k noLine .messages) (shape .lined k l .fitting)))
+  lines-tell = any-same (lineGone names) names-past (n .lines) (each-by _ (n .lines) noLine (λ k l. messages-tell (k / sitesMost) (getD (n .lines) k noLine .messages) (shape .lined k l .fitting)))
 
   pub number-is : numberIf (someGone names n) 6 ≡ collectNumber n
   unfolding collectNumber

@@ -1,5 +1,5 @@
 // Commit: its operations on the site's table, its record in the history, a message to each child due one.
-mod causes; // causes.rt: whether each operation may be done
+mod operation_causes; // operation_causes.rt: whether each operation may be done
 mod operations; // operations.rt: a commit's operations in words, and the values read
 
 use messages::Message;
@@ -92,7 +92,7 @@ fn commit_cause(state: &[u32], site: u32, ops: &[u32], n: usize, mask: u32) -> u
     requires { ⌜ Masked (now state) site n mask (opsIn n (now ops)) ⌝ }
     ensures { λ r. ⌜ r ≡ firstNumber (commitCauses (networkIn (now (state .entry))) site (opsIn n (now (ops .entry)))) ⌝ }
 {
-    let cause = causes::ops_number(state, site, ops, n);
+    let cause = operation_causes::ops_number(state, site, ops, n);
     if cause != 0 {
         return cause;
     }

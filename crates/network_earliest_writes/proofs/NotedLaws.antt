@@ -4,41 +4,29 @@ use mathlib.Core.Bool.{Bool, true, false, cond, true≢false}
 use mathlib.Core.List.{List, [], _∷_, map}
 use Prim.Native.Nat.{ℕ, _≤_, _<_}
 use native.Mathlib.Omega.{arith}
-use lib.ListN.{length, getD, set, replicate, length-replicate, getD-replicate, List·getD-eq-default}
-use lib.Seq.{set-out, set-getD}
+use lib.ListN.{length, getD, replicate, length-replicate, getD-replicate, List·getD-eq-default}
 use lib.Dec.{ltb}
 use borrow.Author.Tests.{lt-ltb, le-ltb, ltb-true, ltb-false}
 use Rattle.limits.specs.Limits.{itemsMost, recordsMost}
 use Rattle.lists.specs.Lists.{any, keep, fold}
-use Rattle.lists.specs.Sorting.{sorted}
+use Rattle.lists.specs.Sorting.{former}
 use Rattle.lists.proofs.Chains.{Each, each-all, each-keep}
 use Rattle.lists.proofs.Some.{some-kept, none-kept}
-use Rattle.lists.proofs.First.{former, first-sorted}
 use Rattle.timestamp_order.specs.Timestamp.{Stamp}
 use Rattle.site_operations.specs.Operations.{touches}
 use Rattle.site_operations.proofs.ChangedItems.{changed-length, written-changed}
 use Rattle.messages.specs.Messages.{Message, commit, dummy, nameOf}
 use Rattle.records.specs.Records.{Record}
-use Rattle.protocol.specs.Network.{Network, noRecord, recordAt, noStamp, messageOps, messageStamp}
-use Rattle.protocol.specs.Waiting.{into, carries, noLater, earliestWrite}
-use Rattle.protocol.proofs.Places.{timesAt}
-use Rattle.protocol.proofs.Times.{Times}
-use Rattle.protocol.proofs.WaitingLaws.{no-later-along, no-later-either}
-use Rattle.network_layout.specs.Layout.{recordCount}
+use Rattle.protocol.specs.Network.{Network, noRecord, recordAt, placeOf, messageOps, messageStamp}
+use Rattle.protocol.specs.Earliest.{noLater, earliestStamp}
+use Rattle.protocol.specs.Waiting.{into, carries, earliestWrite}
+use Rattle.protocol.proofs.Earliest.{earlier-former, earliest-fold}
 use Rattle.network_layout.specs.InWords.{networkIn}
-use Rattle.network_layout.specs.At.{AtState, HasRecord}
-use Rattle.network_layout.proofs.Assembled.{partsOf, range-parts}
-use Rattle.network_layout.proofs.Performs.{records-count}
-use Rattle.network_earliest_writes.specs.Noted.{stampAt, isSooner, sooner, noteItem, noteOps, noteMessage, noteMessages, earliestWriters, EarliestAre}
-
--- ---- what the code has compared and tested
-pub few-made : (w : List ℕ) → AtState w → length (networkIn w .history) ≤ recordsMost
-unfolding partsOf
-few-made w at = omega (arith, records-count w, range-parts w (at .ranged) .few-records)
-
--- a number below that of the records is one's name
-pub noted-there : (w : List ℕ) → AtState w → (k : ℕ) → k < recordCount w → HasRecord w k
-noted-there w at k l = record { sized = at .sized; there = l; few = omega (arith, l, records-count w, few-made w at) }
+use Rattle.network_layout.specs.At.{AtState}
+use Rattle.network_layout.proofs.Performs.{records-few}
+use Rattle.network_noting.specs.Noting.{stampAt, isSooner, notedThen, noteOps}
+use Rattle.network_noting.proofs.NotingLaws.{noted-then-twice}
+use Rattle.network_earliest_writes.specs.Noted.{noteMessage, noteMessages, earliestWriters, EarliestAre}
 
 -- a message is noted by its name
 module _ (w : List ℕ) (at : AtState w) (m : Message) (x : ℕ) (is : x ≡ nameOf m) where
@@ -47,75 +35,36 @@ module _ (w : List ℕ) (at : AtState w) (m : Message) (x : ℕ) (is : x ≡ nam
 
   ops-by-name : (m : Message) → messageOps h m ≡ recordAt h (nameOf m) .ops
   ops-by-name (commit k) = refl
-  ops-by-name (dummy t) = sym (ap (λ (r : Record). r .ops) (List·getD-eq-default h noRecord {n = recordsMost} (few-made w at)))
+  ops-by-name (dummy t) = sym (ap (λ (r : Record). r .ops) (List·getD-eq-default h noRecord {n = recordsMost} (records-few w (at .ranged))))
 
-  pub message-noted : (vs : List ℕ) → noteOps (networkIn w) x vs (recordAt h x .ops) ≡ noteMessage (networkIn w) vs m
-  message-noted vs = ap (λ (k : ℕ). noteOps (networkIn w) k vs (recordAt h k .ops)) is ∙ ap (noteOps (networkIn w) (nameOf m) vs) (sym (ops-by-name m))
+  pub message-noted : (vs : List ℕ) → noteOps false (networkIn w) x vs (recordAt h x .ops) ≡ noteMessage (networkIn w) vs m
+  message-noted vs = ap (λ (k : ℕ). noteOps false (networkIn w) k vs (recordAt h k .ops)) is ∙ ap (noteOps false (networkIn w) (nameOf m) vs) (sym (ops-by-name m))
 
   -- one that names no record writes nothing
   pub none-noted : length h ≤ x → (vs : List ℕ) → vs ≡ noteMessage (networkIn w) vs m
-  none-noted high vs = sym (ap (λ (r : Record). noteOps (networkIn w) x vs (r .ops)) (List·getD-eq-default h noRecord {n = x} high)) ∙ message-noted vs
-
-module _ (n : Network) (r : ℕ) (vs : List ℕ) (item x : ℕ) (at : x ≡ item) where
-  write-noted : (ws : List ℕ) → ws ≡ noteItem n r vs x → ws ≡ noteItem n r vs item
-  write-noted ws e = e ∙ ap (noteItem n r vs) at
-
-  pub none-there : length vs ≤ x → vs ≡ noteItem n r vs item
-  none-there h = write-noted vs (sym (set-out vs x (sooner n (getD vs x 0) r) h))
-
-  pub first-there : length (n .history) ≤ getD vs x 0 → set vs x r ≡ noteItem n r vs item
-  first-there h = write-noted (set vs x r) (ap (set vs x) (sym (rw (le-ltb (getD vs x 0) (length (n .history)) h))))
-
-  module _ (low : getD vs x 0 < length (n .history)) where
-    pub sooner-there : isSooner n r (getD vs x 0) ≡ true → set vs x r ≡ noteItem n r vs item
-    sooner-there e = write-noted (set vs x r) (ap (set vs x) (sym (rw (lt-ltb (getD vs x 0) (length (n .history)) low, e))))
-
-    pub sooner-stays : isSooner n r (getD vs x 0) ≡ false → vs ≡ noteItem n r vs item
-    sooner-stays e = write-noted vs (sym (ap (set vs x) (rw (lt-ltb (getD vs x 0) (length (n .history)) low, e)) ∙ set-getD vs x 0))
+  none-noted high vs = sym (ap (λ (r : Record). noteOps false (networkIn w) x vs (r .ops)) (List·getD-eq-default h noRecord {n = x} high)) ∙ message-noted vs
 
 module _ (n : Network) where
-  open Times (timesAt n) using (upto-self, before-test, test-fails, fails-later)
-
-  pub not-sooner : (r : ℕ) → false ≡ isSooner n r r
-  not-sooner r = sym (test-fails (stampAt n r) (stampAt n r) (upto-self (stampAt n r)))
-
-  -- ---- what is noted of one item, where record r writes items
-  abbrev noting : ℕ → ℕ → ℕ
-  noting r noted = sooner n noted r
-
-  module _ (r : ℕ) where
-    sooner-self : sooner n r r ≡ r
-    sooner-self = go (ltb r (length (n .history))) (isSooner n r r)
-      where
-        go : (a b : Bool) → cond a (cond b r r) r ≡ r
-        go true true = refl
-        go true false = refl
-        go false b = refl
-
-    sooner-twice : (f : ℕ) → sooner n (sooner n f r) r ≡ sooner n f r
-    sooner-twice f = go (ltb f (length (n .history))) refl (isSooner n r f) refl
-      where
-        go : (a : Bool) → ltb f (length (n .history)) ≡ a → (b : Bool) → isSooner n r f ≡ b → sooner n (cond a (cond b r f) r) r ≡ cond a (cond b r f) r
-        go true d true e = sooner-self
-        go true d false e = rw (d, e)
-        go false d b e = sooner-self
+  -- ---- what is noted of one item: r where it is earlier than the record noted, or none is
+  abbrev sooner : ℕ → ℕ → ℕ
+  sooner r noted = notedThen false n noted r
 
   messages-length : (vs : List ℕ) (ms : List Message) → length (noteMessages n vs ms) ≡ length vs
   messages-length vs [] = refl
-  messages-length vs (m ∷ ms) = messages-length (noteMessage n vs m) ms ∙ changed-length (noting (nameOf m)) vs (messageOps (n .history) m)
+  messages-length vs (m ∷ ms) = messages-length (noteMessage n vs m) ms ∙ changed-length (sooner (nameOf m)) vs (messageOps (n .history) m)
 
   -- ---- the records that messages name, one after another
   abbrev soonest : ℕ → List Message → ℕ
-  soonest f ms = fold (λ g m. sooner n g (nameOf m)) f ms
+  soonest f ms = fold (λ g m. sooner (nameOf m) g) f ms
 
   messages-noted : (x : ℕ) → x < itemsMost → (vs : List ℕ) (ms : List Message) → x < length vs → getD (noteMessages n vs ms) x 0 ≡ soonest (getD vs x 0) (keep (carries n x) ms)
   messages-noted x few vs [] l = refl
   messages-noted x few vs (m ∷ ms) l =
-      messages-noted x few (noteMessage n vs m) ms (omega (arith, changed-length (noting (nameOf m)) vs (messageOps (n .history) m)))
-      ∙ ap (λ (f : ℕ). soonest f (keep (carries n x) ms)) (written-changed (noting (nameOf m)) x few (sooner-twice (nameOf m)) vs (messageOps (n .history) m) l)
+      messages-noted x few (noteMessage n vs m) ms (omega (arith, changed-length (sooner (nameOf m)) vs (messageOps (n .history) m)))
+      ∙ ap (λ (f : ℕ). soonest f (keep (carries n x) ms)) (written-changed (sooner (nameOf m)) x few (noted-then-twice false n (nameOf m)) vs (messageOps (n .history) m) l)
       ∙ go (carries n x m)
     where
-      go : (b : Bool) → soonest (cond b (sooner n (getD vs x 0) (nameOf m)) (getD vs x 0)) (keep (carries n x) ms) ≡ soonest (getD vs x 0) (cond b (m ∷ keep (carries n x) ms) (keep (carries n x) ms))
+      go : (b : Bool) → soonest (cond b (sooner (nameOf m) (getD vs x 0)) (getD vs x 0)) (keep (carries n x) ms) ≡ soonest (getD vs x 0) (cond b (m ∷ keep (carries n x) ms) (keep (carries n x) ms))
       go true = refl
       go false = refl
 
@@ -132,15 +81,14 @@ module _ (n : Network) where
       go false t = absurd (true≢false (sym e ∙ ap (λ (q : Record). touches x (q .ops)) (List·getD-eq-default (n .history) noRecord {n = k} (ltb-false k (length (n .history)) t))))
   named x (dummy t) e = absurd (true≢false (sym e))
 
-  -- of two records the sooner has the former timestamp
-  sooner-stamp : (f r : ℕ) → f < length (n .history) → stampAt n (sooner n f r) ≡ former (noLater n) (stampAt n f) (stampAt n r)
-  sooner-stamp f r l = rw (lt-ltb f (length (n .history)) l) (go (noLater n (stampAt n f) (stampAt n r)) refl)
-    where
-      go : (b : Bool) → noLater n (stampAt n f) (stampAt n r) ≡ b → stampAt n (cond (isSooner n r f) r f) ≡ cond b (stampAt n f) (stampAt n r)
-      go true e = rw (test-fails (stampAt n r) (stampAt n f) e) refl
-      go false e = rw (before-test (stampAt n r) (stampAt n f) (fails-later (stampAt n f) (stampAt n r) e)) refl
+  abbrev noLaterAt : Stamp → Stamp → Bool
+  noLaterAt = noLater (placeOf (n .items))
 
-  sooner-named : (f r : ℕ) → f < length (n .history) → r < length (n .history) → sooner n f r < length (n .history)
+  -- of two records the sooner has the former timestamp
+  sooner-stamp : (f r : ℕ) → f < length (n .history) → stampAt n (sooner r f) ≡ former noLaterAt (stampAt n f) (stampAt n r)
+  sooner-stamp f r l = rw (lt-ltb f (length (n .history)) l) (earlier-former (placeOf (n .items)) (stampAt n) f r)
+
+  sooner-named : (f r : ℕ) → f < length (n .history) → r < length (n .history) → sooner r f < length (n .history)
   sooner-named f r l m = go (ltb f (length (n .history))) (isSooner n r f)
     where
       go : (a b : Bool) → cond a (cond b r f) r < length (n .history)
@@ -152,26 +100,26 @@ module _ (n : Network) where
   stampsOf ms = map (messageStamp (n .history)) ms
 
   earliest-noted : (f : ℕ) (ms : List Message) → f < length (n .history) → Each Named ms
-      → (soonest f ms < length (n .history)) × (stampAt n (soonest f ms) ≡ fold (former (noLater n)) (stampAt n f) (stampsOf ms))
+      → (soonest f ms < length (n .history)) × (stampAt n (soonest f ms) ≡ fold (former noLaterAt) (stampAt n f) (stampsOf ms))
   earliest-noted f [] l h = (l, refl)
   earliest-noted f (m ∷ ms) l h =
-      let rest = earliest-noted (sooner n f (nameOf m)) ms (sooner-named f (nameOf m) l (h .0 .there)) (h .1) in
-      let next : stampAt n (sooner n f (nameOf m)) ≡ former (noLater n) (stampAt n f) (messageStamp (n .history) m)
-      = sooner-stamp f (nameOf m) l ∙ ap (former (noLater n) (stampAt n f)) (sym (h .0 .stamp-is)) in
-      (rest .0, rest .1 ∙ ap (λ (s : Stamp). fold (former (noLater n)) s (stampsOf ms)) next)
+      let rest = earliest-noted (sooner (nameOf m) f) ms (sooner-named f (nameOf m) l (h .0 .there)) (h .1) in
+      let next : stampAt n (sooner (nameOf m) f) ≡ former noLaterAt (stampAt n f) (messageStamp (n .history) m)
+      = sooner-stamp f (nameOf m) l ∙ ap (former noLaterAt (stampAt n f)) (sym (h .0 .stamp-is)) in
+      (rest .0, rest .1 ∙ ap (λ (s : Stamp). fold (former noLaterAt) s (stampsOf ms)) next)
 
   -- from a number that no record has on
   module _ (none : ℕ) (high : length (n .history) ≤ none) where
     first-noted : (ms : List Message) → Each Named ms → 0 < length ms
-        → (soonest none ms < length (n .history)) × (stampAt n (soonest none ms) ≡ getD (sorted (noLater n) (stampsOf ms)) 0 noStamp)
+        → (soonest none ms < length (n .history)) × (stampAt n (soonest none ms) ≡ earliestStamp (placeOf (n .items)) (stampsOf ms))
     first-noted [] h l = absurd (omega arith)
     first-noted (m ∷ ms) h l =
-        let start : sooner n none (nameOf m) ≡ nameOf m = rw (le-ltb none (length (n .history)) high) in
+        let start : sooner (nameOf m) none ≡ nameOf m = rw (le-ltb none (length (n .history)) high) in
         let all = earliest-noted (nameOf m) ms (h .0 .there) (h .1) in (
           rw start (all .0),
           rw start (all .1)
-              ∙ ap (λ (s : Stamp). fold (former (noLater n)) s (stampsOf ms)) (sym (h .0 .stamp-is))
-              ∙ sym (first-sorted (noLater n) (no-later-along n) (no-later-either n) noStamp (messageStamp (n .history) m) (stampsOf ms)),
+              ∙ ap (λ (s : Stamp). fold (former noLaterAt) s (stampsOf ms)) (sym (h .0 .stamp-is))
+              ∙ sym (earliest-fold (placeOf (n .items)) (messageStamp (n .history) m) (stampsOf ms)),
         )
 
     module _ (i : ℕ) where
@@ -214,4 +162,4 @@ module _ (n : Network) where
           earliest x few l false e = absurd (omega (arith, l, not-written x few e))
 
 pub writers-are : (w : List ℕ) → AtState w → (i : ℕ) → EarliestAre (networkIn w) i (earliestWriters (networkIn w) i)
-writers-are w at i = earliest-are (networkIn w) recordsMost (few-made w at) i
+writers-are w at i = earliest-are (networkIn w) recordsMost (records-few w (at .ranged)) i

@@ -1,21 +1,26 @@
--- Laws of a table of last writes: one record more, and what its entries are.
+-- Laws of a table of last writes: none yet, and one record more.
 use mathlib.Core.Path.{_≡_, refl, sym, ap, subst, _∙_}
 use mathlib.Core.Bool.{Bool, true, false, cond, _||_}
 use mathlib.Core.List.{List}
-use Prim.Native.Nat.{ℕ, _+_, _<_}
+use Prim.Native.Nat.{ℕ, _+_, _≤_, _<_}
 use native.Mathlib.Omega.{arith}
-use lib.ListN.{getD, replicate, length-set, length-replicate, getD-replicate}
-use lib.Dec.{eqb, leb}
+use lib.ListN.{length, getD, replicate, length-replicate, getD-replicate}
+use lib.Dec.{leb}
+use borrow.Author.Tests.{lt-ltb, le-ltb, leb-true, leb-false}
 use Rattle.limits.specs.Limits.{itemsMost, recordsMost}
 use Rattle.site_operations.specs.Operations.{Op, touches}
-use Rattle.site_operations.proofs.ChangedItems.{changed-length, item-changed, written-changed}
-use Rattle.protocol.specs.Network.{Network, nthRecord}
+use Rattle.site_operations.proofs.ChangedItems.{changed-length, written-changed}
+use Rattle.protocol.specs.Network.{Network, nthRecord, placeOf}
 use Rattle.protocol.specs.Collect.{isPast}
-use Rattle.network_layout.specs.InWords.{networkIn}
-use Rattle.network_layout.specs.At.{HasRecord}
+use Rattle.protocol.proofs.Places.{timesAt}
+use Rattle.protocol.proofs.Times.{Times}
+use Rattle.protocol.proofs.Precedes.{numberOf, stampOf, lower-is}
+use Rattle.origins.specs.Statements.{turnAt}
+use Rattle.network_noting.specs.Noting.{stampAt, notedThen, noteOps}
+use Rattle.network_noting.proofs.NotingLaws.{noted-then-twice}
 use Rattle.network_writers.specs.Writers.{comesBefore, laterOf, LastSoFar}
-use Rattle.network_writers.proofs.WriterLaws.{none-looked-at, passed-over, best-there, taken}
-use Rattle.network_last_writes.specs.LastWrites.{isFolded, LastWrites, noteItem, noteOps, Named}
+use Rattle.network_writers.proofs.WriterLaws.{none-looked-at, passed-over, last-below, taken}
+use Rattle.network_last_writes.specs.LastWrites.{isFolded, LastWrites}
 
 pub none-noted : (n : Network) → LastWrites n 0 (replicate itemsMost recordsMost)
 none-noted n =
@@ -24,64 +29,40 @@ none-noted n =
       each = λ x few. subst (LastSoFar n (isFolded n x) 0) (sym (getD-replicate itemsMost x recordsMost 0 few)) (none-looked-at n (isFolded n x));
     }
 
-module _ (n : Network) (j : ℕ) where
-  abbrev noting : ℕ → ℕ
-  noting b = laterOf n b j
+-- ---- one record more
+module _ (n : Network) (j : ℕ) (table : List ℕ) (so-far : LastWrites n j table) where
+  pub record-stays : isPast n j ≡ false → LastWrites n (j + 1) table
+  record-stays stays = record { sized = so-far .sized; each = λ x few. passed-over n (isFolded n x) j (getD table x 0) (so-far .each x few) (rw stays) }
 
-  -- the last in turn of two records is one of them
-  pub later-either : (P : ℕ → Type 0) (b : ℕ) → P b → P j → P (noting b)
-  later-either P b first second = go (leb recordsMost b || comesBefore n b j)
-    where
-      go : (c : Bool) → P (cond c j b)
-      go true = second
-      go false = first
+  module _ (there : j < length (n .history)) (few-made : length (n .history) ≤ recordsMost) where
+    open Times (timesAt n) using (upto-turned)
 
-  -- a record noted again
-  noting-again : (b : ℕ) → noting (noting b) ≡ noting b
-  noting-again b = go (leb recordsMost b || comesBefore n b j) refl
-    where
-      itself : (c : Bool) → cond c j j ≡ j
-      itself true = refl
-      itself false = refl
+    abbrev noting : ℕ → ℕ
+    noting b = notedThen true n b j
 
-      go : (c : Bool) → (leb recordsMost b || comesBefore n b j) ≡ c → noting (cond c j b) ≡ cond c j b
-      go true e = itself (leb recordsMost j || comesBefore n j j)
-      go false e = ap (λ (c : Bool). cond c j b) e
-
-  -- ---- one record more
-  module _ (table : List ℕ) (so-far : LastWrites n j table) where
     abbrev ops : List Op
     ops = nthRecord n j .ops
 
-    pub record-stays : isPast n j ≡ false → LastWrites n (j + 1) table
-    record-stays stays = record { sized = so-far .sized; each = λ x few. passed-over n (isFolded n x) j (getD table x 0) (so-far .each x few) (rw stays) }
+    -- the record noted stands below it, so that the later of the two is the last in turn
+    last-noted : (x b : ℕ) → LastSoFar n (isFolded n x) j b → laterOf n b j ≡ noting b
+    last-noted x b best = go (leb recordsMost b) refl
+      where
+        go : (c : Bool) → leb recordsMost b ≡ c → cond (c || comesBefore n b j) j b ≡ noting b
+        go true e = rw (le-ltb b (length (n .history)) (omega (arith, leb-true recordsMost b e)))
+        go false e =
+            let below : b < j = last-below n (isFolded n x) j b best (leb-false recordsMost b e) .low in
+            rw (lt-ltb b (length (n .history)) (omega (arith, below)))
+            (ap (λ (c : Bool). cond c j b) (lower-is (placeOf (n .items)) numberOf stampOf (turnAt (n .history) b) (turnAt (n .history) j) below ∙ sym (upto-turned (stampAt n b) (stampAt n j))))
 
-    pub record-goes : isPast n j ≡ true → j < recordsMost → LastWrites n (j + 1) (noteOps n j table ops)
-    record-goes goes low =
+    pub record-goes : isPast n j ≡ true → LastWrites n (j + 1) (noteOps true n j table ops)
+    record-goes goes =
         record {
           sized = changed-length noting table ops ∙ so-far .sized;
-          each = λ x few. subst (LastSoFar n (isFolded n x) (j + 1)) (sym (written-changed noting x few noting-again table ops (omega (arith, so-far .sized)))) (go x few (touches x ops) refl);
+          each = λ x few. subst (LastSoFar n (isFolded n x) (j + 1)) (sym (written-changed noting x few (noted-then-twice true n j) table ops (omega (arith, so-far .sized)))) (go x few (touches x ops) refl);
         }
       where
         go : (x : ℕ) → x < itemsMost → (t : Bool) → touches x ops ≡ t → LastSoFar n (isFolded n x) (j + 1) (cond t (noting (getD table x 0)) (getD table x 0))
-        go x few true e = taken n (isFolded n x) j (getD table x 0) (so-far .each x few) (rw (goes, e)) low
+        go x few true e =
+            let best = so-far .each x few in
+            subst (LastSoFar n (isFolded n x) (j + 1)) (last-noted x (getD table x 0) best) (taken n (isFolded n x) j (getD table x 0) best (rw (goes, e)) (omega arith))
         go x few false e = passed-over n (isFolded n x) j (getD table x 0) (so-far .each x few) (rw (goes, e))
-
--- ---- each entry is a record's number, or one that no record has
-module _ (w : List ℕ) (j : ℕ) (next : HasRecord w j) (table : List ℕ) where
-  pub all-named : LastWrites (networkIn w) j table → Named w table
-  all-named so-far = record { sized = so-far .sized; each = λ x few. best-there (networkIn w) (isFolded (networkIn w) x) j (getD table x 0) (so-far .each x few) w next }
-
-  pub named-next : Named w table → (y : ℕ) → Named w (noteItem (networkIn w) j table y)
-  named-next named y =
-      record {
-        sized = length-set table y (noting (networkIn w) j (getD table y 0)) ∙ named .sized;
-        each = λ x few. subst There (sym (item-changed (noting (networkIn w) j) x table y (omega (arith, named .sized)))) (go x few (eqb y x));
-      }
-    where
-      There : ℕ → Type 0
-      There b = b < recordsMost → HasRecord w b
-
-      go : (x : ℕ) → x < itemsMost → (c : Bool) → There (cond c (noting (networkIn w) j (getD table x 0)) (getD table x 0))
-      go x few true = later-either (networkIn w) j There (getD table x 0) (named .each x few) (λ low. next)
-      go x few false = named .each x few

@@ -4,15 +4,14 @@ use mathlib.Core.Bool.{Bool, _&&_}
 use mathlib.Core.List.{List}
 use Prim.Native.Nat.{ℕ, _<_}
 use lib.ListN.{length, getD}
-use Rattle.limits.specs.Limits.{itemsMost, recordsMost}
-use Rattle.site_operations.specs.Operations.{Op, touches}
-use Rattle.site_operations.specs.ChangedItems.{changeItem, changeWritten}
+use Rattle.limits.specs.Limits.{itemsMost}
+use Rattle.site_operations.specs.Operations.{touches}
 use Rattle.record_names.specs.Names.{Names}
 use Rattle.protocol.specs.Network.{Network, nthRecord}
 use Rattle.protocol.specs.Collect.{isPast}
 use Rattle.network_layout.specs.InWords.{networkIn}
 use Rattle.network_layout.specs.At.{AtState, HasRecord, PlacesAre}
-use Rattle.network_writers.specs.Writers.{laterOf, LastSoFar, Choosing}
+use Rattle.network_writers.specs.Writers.{LastSoFar}
 
 -- record i is to be folded, and writes item x
 abbrev pub isFolded : Network → ℕ → ℕ → Bool
@@ -22,15 +21,6 @@ isFolded n x i = isPast n i && touches x (nthRecord n i .ops)
 pub record LastWrites (n : Network) (j : ℕ) (table : List ℕ) : Type 0 where
   pub sized : length table ≡ itemsMost
   pub each : (x : ℕ) → x < itemsMost → LastSoFar n (isFolded n x) j (getD table x 0)
-
--- ---- record j noted in a table
--- for item x
-abbrev pub noteItem : Network → ℕ → List ℕ → ℕ → List ℕ
-noteItem n j table x = changeItem (λ noted. laterOf n noted j) table x
-
--- for each item that operations write
-abbrev pub noteOps : Network → ℕ → List ℕ → List Op → List ℕ
-noteOps n j table os = changeWritten (λ noted. laterOf n noted j) table os
 
 -- ---- what is asked
 -- the names by which the records not later than the point go, and the places of the sites
@@ -44,28 +34,3 @@ pub record NotingNext (w names table : List ℕ) (j : ℕ) (places : List ℕ) :
   pub folding : Folding w names places
   pub next : HasRecord w j
   pub so-far : LastWrites (networkIn w) j table
-
--- each entry of a table is a record's number, or one that no record has
-pub record Named (w table : List ℕ) : Type 0 where
-  pub sized : length table ≡ itemsMost
-  pub each : (x : ℕ) → x < itemsMost → getD table x 0 < recordsMost → HasRecord w (getD table x 0)
-
--- .. with record j, and the places of the sites
-pub record Noting (w table : List ℕ) (j : ℕ) (places : List ℕ) : Type 0 where
-  pub named : Named w table
-  pub next : HasRecord w j
-  pub places-are : PlacesAre w places
-
--- the last comparison of record j is known: with which record, and the last in turn of the two
-abbrev pub IsMet : List ℕ → ℕ → ℕ → ℕ → Type 0
-IsMet w j other later = later ≡ laterOf (networkIn w) other j
-
--- .. and an item is written
-pub record Writing (w table : List ℕ) (j other later : ℕ) (places : List ℕ) : Type 0 where
-  pub note : Noting w table j places
-  pub met : IsMet w j other later
-
--- .. or another is to be made
-pub record Meeting (w : List ℕ) (noted j other later : ℕ) (places : List ℕ) : Type 0 where
-  pub choosing : Choosing w noted j places
-  pub met : IsMet w j other later

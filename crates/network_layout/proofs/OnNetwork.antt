@@ -14,11 +14,16 @@ use Rattle.timestamp_order.specs.Order.{rank, orderBy}
 use Rattle.timestamp_order.specs.Parting.{Compares}
 use Rattle.protocol.specs.Network.{Network, noStamp, lineNumber, placeOf, wellShaped}
 use Rattle.protocol.specs.Calls.{Call, Outcome, refused, judged, perform}
+use Rattle.network_layout.specs.Layout.{recordCount}
 use Rattle.network_layout.specs.InWords.{networkIn, inRange, shaped, meaning}
 use Rattle.network_layout.specs.Promises.{Performed}
 use Rattle.network_layout.specs.At.{AtState, AtSite, AtLine, PlacesAre, HasRecord, AtNetwork}
 use Rattle.network_layout.proofs.Assembled.{partsOf, range-parts}
-use Rattle.network_layout.proofs.Performs.{sites-count, items-count, records-count, shaped-range, shaped-well, number-shaped, performs-refused, performs-accepted, meaning-some}
+use Rattle.network_layout.proofs.Performs.{sites-count, items-count, records-count, records-few, shaped-range, shaped-well, number-shaped, performs-refused, performs-accepted, meaning-some}
+
+-- a number below that of the records is one's name
+pub has-record : (w : List ℕ) → AtState w → (k : ℕ) → k < recordCount w → HasRecord w k
+has-record w at k there = record { sized = at .sized; there = there; few = omega (arith, there, records-count w, records-few w (at .ranged)) }
 
 module _ (w : List ℕ) (net : AtNetwork w) where
   pub ranged-on : inRange w ≡ true
@@ -50,13 +55,7 @@ module _ (w : List ℕ) (net : AtNetwork w) where
         }
 
     pub at-record : i < length (networkIn w .history) → HasRecord w k
-    unfolding partsOf
-    at-record there =
-        record {
-          sized = net .sized;
-          there = omega (arith, there, same, records-count w);
-          few = omega (arith, there, same, records-count w, range-parts w ranged-on .few-records);
-        }
+    at-record there = has-record w at-state k (omega (arith, there, same, records-count w))
 
   pub at-line : (p c k : ℕ) → k ≡ lineNumber p c → p < sitesMost → c < sitesMost → AtLine w k
   at-line p c k same from to = record { sized = net .sized; ranged = ranged-on; few = omega (arith, same, from, to) }

@@ -21,7 +21,7 @@ use Rattle.site.specs.InWords.{siteIn, siteSize}
 use Rattle.placement.specs.Placement.{noItem}
 use Rattle.lists.specs.Numbers.{numberIf}
 use Rattle.placement.specs.InWords.{itemsIn, itemAt}
-use Rattle.limits.specs.Limits.{itemsMost, sitesMost}
+use Rattle.limits.specs.Limits.{itemsMost, sitesMost, recordsMost}
 use Rattle.placement.proofs.Items.{items-length, items-at}
 use Rattle.lines.specs.InWords.{lineIn, lineSize}
 use Rattle.records.specs.InWords.{recordIn, recordSize}
@@ -47,6 +47,10 @@ module _ (w : List ℕ) where
   pub records-count : length (networkIn w .history) ≡ getD w 2 0
   unfolding networkIn
   records-count = length-map (recordWords w) recordIn ∙ chunks-length recordSize (getD w 2 0) (part w historyAt historySize)
+
+  pub records-few : inRange w ≡ true → length (networkIn w .history) ≤ recordsMost
+  unfolding partsOf
+  records-few e = omega (arith, records-count, range-parts w e .few-records)
 
   -- the items, as the placement's functions read them
   pub items-asked : inRange w ≡ true → (n : ℕ) → n ≡ getD w 1 0 → itemsIn (min n itemsMost) (part w itemsAt itemsSize) ≡ networkIn w .items

@@ -1,61 +1,57 @@
 -- One more site looked at for the point; one more record named.
 use mathlib.Core.Path.{_≡_, refl, sym, ap, ap₂, _∙_}
 use mathlib.Core.Bool.{Bool, true, false, not, cond}
-use mathlib.Core.List.{List, [], _∷_, map}
+use mathlib.Core.List.{List, [], _∷_}
 use Prim.Native.Nat.{ℕ, _+_, _≤_, _<_}
 use native.Mathlib.Omega.{arith}
-use lib.ListN.{length, getD, set, drop, length-set, length-map, List·getD-map}
+use lib.ListN.{length, getD, set, drop, length-set}
 use lib.Seq.{getD-set-same, getD-set-other}
 use lib.Dec.{eqb}
 use borrow.Author.Tests.{eqb-true, eqb-false}
 use Rattle.limits.specs.Limits.{recordsMost}
 use Rattle.lists.specs.Lists.{fold}
+use Rattle.lists.specs.Sorting.{former}
 use Rattle.lists.proofs.Folds.{fold-next, fold-done}
 use Rattle.lists.proofs.Renumber.{count-next}
 use Rattle.timestamp_order.specs.Timestamp.{Stamp}
 use Rattle.timestamp_order.specs.Order.{orderBy, isEarlier}
-use Rattle.site.specs.Site.{Site}
-use Rattle.protocol.specs.Network.{Network, noStamp, noSite, siteAt, placeOf}
-use Rattle.protocol.specs.Collect.{earlierStamp, earliestStamp, pointOf, newNumber}
+use Rattle.protocol.specs.Network.{Network, noStamp, siteAt, siteStamps, placeOf}
+use Rattle.protocol.specs.Earliest.{noLater, earliestStamp}
+use Rattle.protocol.specs.Collect.{pointOf, newNumber}
+use Rattle.protocol.proofs.Earliest.{earlier-former, earliest-fold}
+use Rattle.protocol.proofs.Point.{stamps-many, stamps-at}
 use Rattle.network_point.specs.Point.{EarliestSoFar, NamedNext}
 
 -- ---- the point
-earliest-first : (place : ℕ → ℕ) (ts : List Stamp) → 1 ≤ length ts → earliestStamp place ts ≡ fold (earlierStamp place) (getD ts 0 noStamp) (drop 1 ts)
+earliest-first : (place : ℕ → ℕ) (ts : List Stamp) → 1 ≤ length ts → earliestStamp place ts ≡ fold (former (noLater place)) (getD ts 0 noStamp) (drop 1 ts)
 earliest-first place [] h = absurd (omega arith)
-earliest-first place (t ∷ ts) h = refl
+earliest-first place (t ∷ ts) h = earliest-fold place t ts
 
 module _ (n : Network) where
   abbrev place : ℕ → ℕ
   place = placeOf (n .items)
 
-  abbrev stamps : List Stamp
-  stamps = map (λ (s : Site). s .stamp) (n .sites)
-
-  stamp-at : (i : ℕ) → getD stamps i noStamp ≡ siteAt n i .stamp
-  stamp-at i = List·getD-map (λ (s : Site). s .stamp) (n .sites) i noSite
-
-  many : length stamps ≡ length (n .sites)
-  many = length-map (n .sites) (λ (s : Site). s .stamp)
+  abbrev formerStamp : Stamp → Stamp → Stamp
+  formerStamp = former (noLater place)
 
   pub first-site : 1 ≤ length (n .sites) → EarliestSoFar n 1 0
-  first-site h = record { low = omega arith; left = earliest-first place stamps (omega (arith, many)) ∙ ap (λ (t : Stamp). fold (earlierStamp place) t (drop 1 stamps)) (stamp-at 0) }
+  first-site h = record { low = omega arith; left = earliest-first place (siteStamps n) (omega (arith, stamps-many n)) ∙ ap (λ (t : Stamp). fold formerStamp t (drop 1 (siteStamps n))) (stamps-at n 0) }
 
   module _ (i b : ℕ) (s : EarliestSoFar n i b) where
     -- the earlier of the two
     pub next-site : i < length (n .sites) → (c : Bool) → isEarlier (orderBy place (siteAt n i .stamp) (siteAt n b .stamp)) ≡ c → EarliestSoFar n (i + 1) (cond c i b)
     next-site there c e =
-        record { low = low c; left = fold-next (earlierStamp place) (pointOf n) (siteAt n b .stamp) stamps i (s .left) noStamp (siteAt n (cond c i b) .stamp) (omega (arith, many)) (is c e) }
+        record { low = low c; left = fold-next formerStamp (pointOf n) (siteAt n b .stamp) (siteStamps n) i (s .left) noStamp (siteAt n (cond c i b) .stamp) (omega (arith, stamps-many n)) (is c e) }
       where
         low : (c : Bool) → cond c i b < i + 1
         low true = omega arith
         low false = let l : b < i = s .low in omega arith
 
-        is : (c : Bool) → isEarlier (orderBy place (siteAt n i .stamp) (siteAt n b .stamp)) ≡ c → siteAt n (cond c i b) .stamp ≡ earlierStamp place (siteAt n b .stamp) (getD stamps i noStamp)
-        is true e = sym (ap (earlierStamp place (siteAt n b .stamp)) (stamp-at i) ∙ ap (λ (t : Bool). cond t (siteAt n i .stamp) (siteAt n b .stamp)) e)
-        is false e = sym (ap (earlierStamp place (siteAt n b .stamp)) (stamp-at i) ∙ ap (λ (t : Bool). cond t (siteAt n i .stamp) (siteAt n b .stamp)) e)
+        is : (c : Bool) → isEarlier (orderBy place (siteAt n i .stamp) (siteAt n b .stamp)) ≡ c → siteAt n (cond c i b) .stamp ≡ formerStamp (siteAt n b .stamp) (getD (siteStamps n) i noStamp)
+        is c e = ap (λ (t : Bool). siteAt n (cond t i b) .stamp) (sym e) ∙ earlier-former place (λ (k : ℕ). siteAt n k .stamp) b i ∙ sym (ap (formerStamp (siteAt n b .stamp)) (stamps-at n i))
 
     pub last-site : length (n .sites) ≤ i → siteAt n b .stamp ≡ pointOf n
-    last-site all = fold-done (earlierStamp place) (pointOf n) (siteAt n b .stamp) stamps i (s .left) (omega (arith, many))
+    last-site all = fold-done formerStamp (pointOf n) (siteAt n b .stamp) (siteStamps n) i (s .left) (omega (arith, stamps-many n))
 
 -- ---- the names
 -- the records below k have their names, and so many of them stay

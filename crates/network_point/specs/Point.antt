@@ -1,14 +1,15 @@
 -- What the point and the table of names are while they are looked for, and what is asked.
 use mathlib.Core.Path.{_≡_}
 use mathlib.Core.Bool.{Bool, cond}
-use mathlib.Core.List.{List, map}
+use mathlib.Core.List.{List}
 use Prim.Native.Nat.{ℕ, _+_, _≤_, _<_}
 use lib.ListN.{set, drop}
 use Rattle.limits.specs.Limits.{recordsMost}
 use Rattle.lists.specs.Lists.{fold}
-use Rattle.site.specs.Site.{Site}
-use Rattle.protocol.specs.Network.{Network, siteAt, placeOf}
-use Rattle.protocol.specs.Collect.{earlierStamp, pointOf}
+use Rattle.lists.specs.Sorting.{former}
+use Rattle.protocol.specs.Network.{Network, siteAt, siteStamps, placeOf}
+use Rattle.protocol.specs.Earliest.{noLater}
+use Rattle.protocol.specs.Collect.{pointOf}
 use Rattle.network_layout.specs.InWords.{networkIn}
 use Rattle.network_layout.specs.At.{AtNetwork, AtSite, HasRecord, PlacesAre}
 
@@ -16,7 +17,7 @@ use Rattle.network_layout.specs.At.{AtNetwork, AtSite, HasRecord, PlacesAre}
 -- the sites from i on are left to look at; of those below it b is the first with the earliest timestamp
 pub record EarliestSoFar (n : Network) (i b : ℕ) : Type 0 where
   pub low : b < i
-  pub left : pointOf n ≡ fold (earlierStamp (placeOf (n .items))) (siteAt n b .stamp) (drop i (map (λ (s : Site). s .stamp) (n .sites)))
+  pub left : pointOf n ≡ fold (former (noLater (placeOf (n .items)))) (siteAt n b .stamp) (drop i (siteStamps n))
 
 -- the site that has the point
 pub record IsPoint (w : List ℕ) (i : ℕ) : Type 0 where

@@ -18,16 +18,18 @@ use Rattle.lists.proofs.First.{insert-placed, place-found, place-within}
 use Rattle.word_insertion.specs.Inserted.{inserted}
 use Rattle.word_insertion.proofs.InsertionLaws.{free-place}
 use Rattle.placement.specs.Placement.{copies}
-use Rattle.protocol.specs.Network.{Network}
-use Rattle.protocol.specs.Waiting.{isWaiting, noLater, earliestWrite, waitingItems}
-use Rattle.protocol.proofs.WaitingLaws.{no-later-along, no-later-either}
+use Rattle.protocol.specs.Network.{Network, placeOf}
+use Rattle.protocol.specs.Earliest.{noLater}
+use Rattle.protocol.specs.Waiting.{isWaiting, earliestWrite, waitingItems}
+use Rattle.protocol.proofs.Earliest.{no-later-along, no-later-either}
 use Rattle.network_layout.specs.Layout.{itemCount}
 use Rattle.network_layout.specs.InWords.{networkIn, inRange}
 use Rattle.network_layout.specs.At.{AtState}
 use Rattle.network_layout.proofs.Assembled.{partsOf, range-parts}
 use Rattle.network_layout.proofs.Performs.{records-count}
-use Rattle.network_earliest_writes.specs.Noted.{stampAt, EarliestAre}
-use Rattle.network_earliest_writes.proofs.NotedLaws.{noted-there}
+use Rattle.network_layout.proofs.OnNetwork.{has-record}
+use Rattle.network_noting.specs.Noting.{stampAt}
+use Rattle.network_earliest_writes.specs.Noted.{EarliestAre}
 use Rattle.network_waiting.specs.Places.{earliestOf, earliestBefore, Written, Seeking, Between, Narrowed, PutIn}
 
 -- ---- whether an item is waiting, by its earliest write
@@ -55,10 +57,10 @@ module _ (w writers : List ℕ) where
   before = earliestBefore w writers
 
   pub before-along : (j k l : ℕ) → before j k ≡ true → before k l ≡ true → before j l ≡ true
-  before-along j k l = no-later-along (networkIn w) (stampAt (networkIn w) (earliestOf writers j)) (stampAt (networkIn w) (earliestOf writers k)) (stampAt (networkIn w) (earliestOf writers l))
+  before-along j k l = no-later-along (placeOf (networkIn w .items)) (stampAt (networkIn w) (earliestOf writers j)) (stampAt (networkIn w) (earliestOf writers k)) (stampAt (networkIn w) (earliestOf writers l))
 
   pub before-either : (j k : ℕ) → before j k ≡ false → before k j ≡ true
-  before-either j k = no-later-either (networkIn w) (stampAt (networkIn w) (earliestOf writers j)) (stampAt (networkIn w) (earliestOf writers k))
+  before-either j k = no-later-either (placeOf (networkIn w .items)) (stampAt (networkIn w) (earliestOf writers j)) (stampAt (networkIn w) (earliestOf writers k))
 
   module _ (items : List ℕ) (k : ℕ) (s : Seeking items w writers k) (low high : ℕ) (b : Between items w writers k low high) where
     abbrev item : ℕ → ℕ
@@ -163,7 +165,7 @@ module _ (w writers : List ℕ) (i : ℕ) (at : AtState w) (f : EarliestAre (net
   waiting-written x few t =
       record {
         placed = omega (arith, few, f .sized);
-        has = noted-there w at (earliestOf writers x) (omega (arith, records-count w, waiting-noted (networkIn w) i writers f x few t));
+        has = has-record w at (earliestOf writers x) (omega (arith, records-count w, waiting-noted (networkIn w) i writers f x few t));
       }
 
   pub seeking : (items : List ℕ) (k m j : ℕ) → k + m ≤ itemsMost → items ≡ inPlace w writers i k m → Written w writers j → Seeking items w writers j
@@ -181,7 +183,7 @@ module _ (w writers : List ℕ) (i : ℕ) (at : AtState w) (f : EarliestAre (net
 
   -- by the records noted as by the definition
   abbrev defined : ℕ → ℕ → Bool
-  defined j k = noLater (networkIn w) (earliestWrite (networkIn w) i j) (earliestWrite (networkIn w) i k)
+  defined j k = noLater (placeOf (networkIn w .items)) (earliestWrite (networkIn w) i j) (earliestWrite (networkIn w) i k)
 
   pub all-in-place : (m : ℕ) → m ≡ length (networkIn w .items) → m ≤ itemsMost → inPlace w writers i 0 m ≡ waitingItems (networkIn w) i
   unfolding waitingItems
@@ -195,7 +197,7 @@ module _ (w writers : List ℕ) (i : ℕ) (at : AtState w) (f : EarliestAre (net
 
       alike : (j k : ℕ) → j < itemsMost → k < itemsMost → waits w writers i j ≡ true → waits w writers i k ≡ true
           → earliestBefore w writers j k ≡ defined j k
-      alike j k a b s t = ap₂ {C = Bool} (noLater (networkIn w)) (noted-is j a s) (noted-is k b t)
+      alike j k a b s t = ap₂ {C = Bool} (noLater (placeOf (networkIn w .items))) (noted-is j a s) (noted-is k b t)
 
       chain-below : (xs : List ℕ) → Each (λ x. x < itemsMost) xs
           → Chain (λ j k. waits w writers i j ≡ true → waits w writers i k ≡ true → earliestBefore w writers j k ≡ defined j k) xs

@@ -7,18 +7,20 @@ use lib.ListN.{length, getD, take, drop}
 use Rattle.limits.specs.Limits.{itemsMost}
 use Rattle.lists.specs.Lists.{padded}
 use Rattle.lists.specs.Sorting.{insert}
-use Rattle.protocol.specs.Network.{Network}
-use Rattle.protocol.specs.Waiting.{isWaiting, noLater, waitingItems}
+use Rattle.protocol.specs.Network.{Network, placeOf}
+use Rattle.protocol.specs.Earliest.{noLater}
+use Rattle.protocol.specs.Waiting.{isWaiting, waitingItems}
 use Rattle.network_layout.specs.InWords.{networkIn}
 use Rattle.network_layout.specs.At.{AtSite, HasRecord, PlacesAre}
-use Rattle.network_earliest_writes.specs.Noted.{stampAt, EarliestAre}
+use Rattle.network_noting.specs.Noting.{stampAt}
+use Rattle.network_earliest_writes.specs.Noted.{EarliestAre}
 
 -- the record with an item's earliest write, and the order of two items by these
 abbrev pub earliestOf : List ℕ → ℕ → ℕ
 earliestOf writers x = getD writers x 0
 
 abbrev pub earliestBefore : List ℕ → List ℕ → ℕ → ℕ → Bool
-earliestBefore w writers j k = noLater (networkIn w) (stampAt (networkIn w) (earliestOf writers j)) (stampAt (networkIn w) (earliestOf writers k))
+earliestBefore w writers j k = noLater (placeOf (networkIn w .items)) (stampAt (networkIn w) (earliestOf writers j)) (stampAt (networkIn w) (earliestOf writers k))
 
 -- ---- asked
 -- item k of site i, and the earliest writes on the lines into it

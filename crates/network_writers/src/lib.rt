@@ -1,4 +1,4 @@
-// A read found in the history; whether its own commit writes the item before it; and the last commit before its own that does. The last in turn of two records.
+// A read found in the history; whether its own commit writes the item before it; and the last commit before its own that does.
 use limits::RECORDS_WIDE;
 use limits::SITES_WIDE;
 use site_operations::READ;
@@ -101,7 +101,7 @@ fn later_writer(
 }
 
 // The last in turn of the best so far and record j; that record where there is no best yet.
-pub fn later_of(state: &[u32], best: usize, j: usize, places: [u8; SITES_WIDE]) -> usize
+fn later_of(state: &[u32], best: usize, j: usize, places: [u8; SITES_WIDE]) -> usize
     requires { ⌜ Choosing (now state) best j places ⌝ }
     ensures { λ r. ⌜ r ≡ laterOf (networkIn (now (state .entry))) best j ⌝ }
 {

@@ -18,7 +18,7 @@ use Rattle.limits.specs.Limits.{sitesMost, itemsMost, recordsMost}
 use Rattle.timestamp_order.specs.Timestamp.{Stamp}
 use Rattle.timestamp_order.specs.Order.{IsEarlier, NotLater}
 use Rattle.records.specs.Records.{Record}
-use Rattle.protocol.specs.Network.{Network, noStamp, noRecord, recordAt, placeOf, siteAt, lineAt}
+use Rattle.protocol.specs.Network.{Network, noRecord, recordAt, placeOf, siteAt, lineAt}
 use Rattle.protocol.specs.Steps.{itemsOf, noSuchSite, countAtMost, someLineFull, opsOf, opNumber, due, wrongLists, setUpNumber, commitNumber, dummyNumber, epochNumber, deliverNumber, scheduleNumber}
 use Rattle.lists.specs.Lists.{someBelow}
 use Rattle.protocol.specs.Questions.{Question, waiting, table, stamp, line, origin, places, base, noSuchRead, askedSite, questionNumber}
@@ -26,11 +26,10 @@ use Rattle.protocol.specs.Collect.{collectNumber}
 use Rattle.protocol.specs.Calls.{Call, setUp, commit, dummy, epoch, deliver, schedule, collect, ask, refused, perform}
 use Rattle.protocol.specs.Book.{bookStamp}
 use Rattle.protocol.specs.Agreement.{Known, nothingKnown, isRemoved, witnessed, learned, learnedAll, bookPlace, bookPoint, OneCopyAgreement, AgreedOrUnset, FromNothing, StampsDiffer, Never6, NoSetUp, NoneAtOrBefore}
-use Rattle.lists.proofs.Chains.{each-at}
 use Rattle.protocol.proofs.Causes.{Not, either-not, first-not, when-not, all-not, items-not}
 use Rattle.protocol.proofs.Times.{Times, times}
 use Rattle.protocol.proofs.Added.{added-each}
-use Rattle.protocol.proofs.Point.{earliest-upto}
+use Rattle.protocol.proofs.Earliest.{earliest-upto}
 use Rattle.protocol.proofs.Alike.{alike-many, alike-stamp}
 use Rattle.protocol.proofs.Invariant.{stamps-apart}
 use Rattle.protocol.proofs.View.{view}
@@ -183,7 +182,7 @@ none-before : (k : Known) → Follows k → (calls : List Call) → NoSetUp k ca
     → IsEarlier (bookPlace k) (bookPoint k) (recordAt (learnedAll k calls .book .commits) m .stamp)
 none-before k f calls unset m b l =
     all-ahead (k .items) (bookPoint k) (length (k .book .commits)) k f
-    (record { items-are = refl; upto = each-at (NotLater (bookPlace k) (bookPoint k)) (k .book .stamps) noStamp (earliest-upto (bookPlace k) (k .book .stamps)); later = λ i c d. absurd (omega arith) })
+    (record { items-are = refl; upto = earliest-upto (bookPlace k) (k .book .stamps); later = λ i c d. absurd (omega arith) })
     calls unset .later m l b
 
 -- ---- from no network on: a call is refused, and then still nothing is known, until a set-up is accepted

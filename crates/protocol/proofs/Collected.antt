@@ -19,7 +19,8 @@ use Rattle.lines.specs.Lines.{Line, noLine}
 use Rattle.records.specs.Records.{Record}
 use Rattle.protocol.specs.Network.{Network, Base, noRecord, recordAt, nthRecord}
 use Rattle.protocol.specs.Run.{inTurn, isUpTo}
-use Rattle.protocol.specs.Collect.{earliestStamp, pointOf, isPast, staying, newNumber, namesOne, renamed, renamedLine, collectNumber, foldedBase, collectNetwork}
+use Rattle.protocol.specs.Earliest.{earliestStamp}
+use Rattle.protocol.specs.Collect.{pointOf, isPast, staying, newNumber, namesOne, renamed, renamedLine, collectNumber, foldedBase, collectNetwork}
 use Rattle.protocol.specs.Book.{Book}
 use Rattle.protocol.specs.Agreement.{isRemoved, collected}
 use Rattle.protocol.proofs.Values.{lastValue}

@@ -7,6 +7,8 @@ use Rattle.placement.specs.Placement.{itemNumber, isLine, hasParents}
 use Rattle.placement.specs.Places.{orderFrom, placesOf, cyclic, placementNumber}
 use Rattle.protocol.specs.Network.{placeOf}
 use Rattle.protocol.specs.Steps.{setUpNumber, setUpNetwork, commitNumber, commitNetwork, dummyNumber, dummyNetwork, deliverNumber, deliverNetwork, scheduleNumber, scheduleNetwork, earliest}
+use Rattle.protocol.specs.Run.{shown}
+use Rattle.protocol.specs.Earliest.{earliestStamp}
 use Rattle.protocol.specs.Collect.{collectNumber, collectNetwork, removedBy}
 use Rattle.protocol.specs.Calls.{perform}
 use Rattle.protocol.specs.Book.{noted}
@@ -14,7 +16,7 @@ use Rattle.protocol.specs.Waiting.{isWaiting, earliestWrite, waitingItem
 use Rattle.protocol.specs.Examples.{ExampleHolds}
 
 pub example-holds : ExampleHolds
-unfolding appendedOrSame raisedOrSame worked isLine setUpNetwork commitNetwork dummyNetwork deliverNetwork scheduleNetwork earliest isWaiting earliestWrite waitingItems orderFrom placesOf placeOf orderBy tuplesOrder pairOrder placeOrder numberOrder collectNetwork collectNumber removedBy perform noted setUpNumber commitNumber dummyNumber deliverNumber scheduleNumber placementNumber itemNumber cyclic hasParents
+unfolding appendedOrSame raisedOrSame worked isLine setUpNetwork commitNetwork dummyNetwork deliverNetwork scheduleNetwork earliest isWaiting earliestStamp earliestWrite waitingItems orderFrom placesOf placeOf orderBy tuplesOrder pairOrder placeOrder numberOrder shown collectNetwork collectNumber removedBy perform noted setUpNumber commitNumber dummyNumber deliverNumber scheduleNumber placementNumber itemNumber cyclic hasParents
 example-holds =
     record {
       written = refl;
@@ -30,9 +32,11 @@ example-holds =
       none-folded = refl;
       folded = refl;
       removed = refl;
+      no-lines = refl;
       accepted = refl;
       renamed = refl;
       base-stays = refl;
+      kept-run = refl;
       refused = refl;
       in-turn = refl;
       marked = refl;

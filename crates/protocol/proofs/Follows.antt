@@ -24,7 +24,8 @@ use Rattle.protocol.specs.Network.{Network, Base, startBase, noStamp, no
 use Rattle.protocol.specs.Steps.{itemsOf, startSites, setUpNumber, setUpNetwork, opsOf, commitNumber, commitNetwork, recordOf, dummyNumber, dummyNetwork, epochNumber, epochNetwork, deliverNumber, deliverNetwork, countAtMost, scheduleNumber, scheduleNetwork, chosen, head, headStamp, writesFor}
 use Rattle.protocol.specs.Questions.{Question, questionNumber}
 use Rattle.protocol.specs.Calls.{Call, setUp, commit, dummy, epoch, deliver, schedule, collect, ask, Outcome, refused, accepted, judged, perform}
-use Rattle.protocol.specs.Collect.{earliestStamp, isPast, collectNumber, foldedBase, collectNetwork}
+use Rattle.protocol.specs.Earliest.{earliestStamp}
+use Rattle.protocol.specs.Collect.{isPast, collectNumber, foldedBase, collectNetwork}
 use Rattle.protocol.specs.Book.{Book, bookStamp, withStamp, startStamps, noted}
 use Rattle.protocol.specs.Agreement.{Known, nothingKnown, isRemoved, collected, bookPlace, isAccepted, isSetUp, witnessed, learned, learnedAll, Always}
 use Rattle.protocol.specs.Allowed.{SetUpAllowed}

@@ -9,6 +9,7 @@ pub mod Chosen
 pub mod Sent
 pub mod Values
 pub mod Precedes
+pub mod Earliest
 pub mod Turns
 pub mod KeepsCollect
 pub mod Runs

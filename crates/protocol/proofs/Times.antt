@@ -1,7 +1,7 @@
 -- Timestamps compared, whatever the places of the sites: the order's laws in the two relations that the
 -- invariant speaks of, and the cut at a site's own tuple. A block of laws opens those that it needs.
 use mathlib.Core.Path.{_≡_, refl, ap, sym, _∙_}
-use mathlib.Core.Bool.{Bool, true, false, false≢true}
+use mathlib.Core.Bool.{Bool, true, false, not, false≢true}
 use mathlib.Core.List.{List, [], _∷_, _++_}
 use mathlib.Core.Logic.{_⊎_, inl, inr}
 use Prim.Native.Nat.{ℕ, _+_, _<_}
@@ -31,6 +31,7 @@ pub record Times (place : ℕ → ℕ) : Type 0 where
   pub test-fails : (s t : Stamp) → NotLater place t s → isEarlier (orderBy place s t) ≡ false
   pub test-before : (s t : Stamp) → isEarlier (orderBy place s t) ≡ true → IsEarlier place s t
   pub test-upto : (s t : Stamp) → isEarlier (orderBy place s t) ≡ false → NotLater place t s
+  pub upto-turned : (s t : Stamp) → not (isEarlier (orderBy place t s)) ≡ notLater (orderBy place s t)
   -- a timestamp that p made, below a site that comes after p
   pub made-under : (p j : ℕ) (u : Stamp) → madeBy place p u ≡ true → place p < place j → Below place j (u .tuples)
   -- with the own count raised: the same without the own tuple, and later
@@ -84,6 +85,13 @@ module _ (place : ℕ → ℕ) where
       go Earlier f = absurd (not-both t s e f)
       go Equal f = ap isEarlier f
       go Later f = ap isEarlier f
+
+  not-turned : (s t : Stamp) → not (isEarlier (cmp t s)) ≡ notLater (cmp s t)
+  not-turned s t = go (notLater (cmp s t)) refl
+    where
+      go : (b : Bool) → notLater (cmp s t) ≡ b → not (isEarlier (cmp t s)) ≡ b
+      go true e = ap not (upto-is-not t s e)
+      go false e = ap not (ap isEarlier (later-turned cmp laws s t e))
 
   tested : (s t : Stamp) → isEarlier (cmp s t) ≡ true → IsEarlier place s t
   tested s t e = go (cmp s t) refl
@@ -142,6 +150,7 @@ module _ (place : ℕ → ℕ) where
         test-fails = upto-is-not;
         test-before = tested;
         test-upto = λ s t e. not-later-turned cmp laws t s (λ b. false≢true (sym e ∙ ap isEarlier b));
+        upto-turned = not-turned;
         made-under = λ p j u m l. made-below place j 0 u (made-appended place p j 0 u m l);
         without-raised = raised-without;
         raised-before = λ j t m. raise-later place t (made-parts place j t m .some);

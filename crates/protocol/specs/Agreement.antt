@@ -14,12 +14,13 @@ use Rattle.timestamp_order.specs.Order.{orderBy, notLater, IsEarlier}
 use Rattle.site_operations.specs.Operations.{valuesRead}
 use Rattle.placement.specs.Placement.{Item, owns, copies}
 use Rattle.records.specs.Records.{Record}
-use Rattle.protocol.specs.Network.{Network, recordAt, siteAt, placeOf}
+use Rattle.protocol.specs.Network.{Network, recordAt, siteAt, siteStamps, placeOf}
 use Rattle.protocol.specs.Steps.{itemsOf}
 use Rattle.protocol.specs.Calls.{Call, setUp, commit, dummy, epoch, deliver, schedule, collect, ask, Outcome, perform}
 use Rattle.protocol.specs.Book.{Book, noBook, bookStamp, notedIf}
 use Rattle.protocol.specs.Run.{Turn, inTurn, after, startTable, shown, valueAt}
-use Rattle.protocol.specs.Collect.{earliestStamp, staying}
+use Rattle.protocol.specs.Earliest.{earliestStamp}
+use Rattle.protocol.specs.Collect.{staying}
 
 -- what is known after some calls: the state; from the calls and their answers alone the book, the items of the last accepted
 -- set-up, the values that each commit since it answered, which commits collects have removed since, and for each accepted commit and
@@ -150,7 +151,7 @@ pub record Agreement (k : Known) : Type 0 where
   -- every accepted commit and dummy answered the timestamp that the book had for its site right after it
   pub answers-agree : k .answered ≡ k .booked
   -- each site's own timestamp is the book's
-  pub stamps-agree : map (λ s. s .stamp) (network .sites) ≡ k .book .stamps
+  pub stamps-agree : siteStamps network ≡ k .book .stamps
   -- every site's table has every item
   pub tables-reach : (i x : ℕ) → i < length (k .book .stamps) → x < length (k .items) → x < length (siteAt network i .table)
   -- every item at each site that owns or copies it holds the run's value after exactly the commits not later than that site's timestamp
@@ -215,9 +216,13 @@ LaterStay k =
 unfoldable pub NoneAtOrBefore : Type 0
 NoneAtOrBefore = Always LaterStay
 
--- the run over the commits kept, from the base values on, shows what the history has and what the copies hold
+-- the commits kept, each read with the value that the run over them has there, from the base values on
+abbrev pub keptShown : Network → List Record
+keptShown n = shown (placeOf (n .items)) (n .base .values) (n .history)
+
+-- that run shows what the history has and what the copies hold
 pub record RunsFromBase (n : Network) : Type 0 where
-  pub history-shown : n .history ≡ shown (placeOf (n .items)) (n .base .values) (n .history)
+  pub history-shown : n .history ≡ keptShown n
   pub copies-shown : (i x : ℕ) → i < length (n .sites) → x < length (n .items) → holds (n .items) i x ≡ true
       → getD (siteAt n i .table) x (pos 0) ≡ valueAt (placeOf (n .items)) (n .base .values) (n .history) (siteAt n i .stamp) x
 

@@ -1,34 +1,25 @@
 -- A collect: the commits not later than the earliest site are folded into the base values and removed, and messages name the others by their new numbers.
 use mathlib.Core.Path.{_≡_}
 use mathlib.Core.Bool.{Bool, false, not, cond, _||_}
-use mathlib.Core.List.{List, [], _∷_, map}
+use mathlib.Core.List.{List, map}
 use mathlib.Core.Option.{Option, none, some}
 use Prim.Native.Nat.{ℕ, _+_}
 use lib.ListN.{length}
 use lib.Dec.{eqb}
-use Rattle.lists.specs.Lists.{any, someBelow, keep, keepFrom, countBelow, fold}
+use Rattle.lists.specs.Lists.{any, someBelow, keep, keepFrom, countBelow}
 use Rattle.lists.specs.Numbers.{numberIf}
 use Rattle.timestamp_order.specs.Timestamp.{Stamp}
-use Rattle.timestamp_order.specs.Order.{orderBy, isEarlier, notLater}
-use Rattle.site.specs.Site.{Site}
+use Rattle.timestamp_order.specs.Order.{orderBy, notLater}
 use Rattle.messages.specs.Messages.{Message, commit, dummy}
 use Rattle.lines.specs.Lines.{Line}
-use Rattle.protocol.specs.Network.{Network, Base, noStamp, nthRecord, placeOf}
+use Rattle.protocol.specs.Network.{Network, Base, nthRecord, placeOf, siteStamps}
+use Rattle.protocol.specs.Earliest.{earliestStamp}
 use Rattle.protocol.specs.Run.{inTurn, after, isUpTo}
 
 -- ---- the point
--- the earlier of two timestamps, the first of equal ones
-abbrev pub earlierStamp : (ℕ → ℕ) → Stamp → Stamp → Stamp
-earlierStamp place t u = cond (isEarlier (orderBy place u t)) u t
-
--- the earliest of all
-abbrev pub earliestStamp : (ℕ → ℕ) → List Stamp → Stamp
-earliestStamp place [] = noStamp
-earliestStamp place (t ∷ ts) = fold (earlierStamp place) t ts
-
 -- up to which commits are collected: the earliest of all sites' timestamps
 abbrev pub pointOf : Network → Stamp
-pointOf n = earliestStamp (placeOf (n .items)) (map (λ (s : Site). s .stamp) (n .sites))
+pointOf n = earliestStamp (placeOf (n .items)) (siteStamps n)
 
 -- commit k is not later than it
 abbrev pub isPast : Network → ℕ → Bool

@@ -8,7 +8,7 @@ use lib.IntN.{ℤ, pos}
 use lib.ListN.{length, getD}
 use Rattle.limits.specs.Limits.{sitesMost}
 use Rattle.lists.specs.Lists.{keep, upTo}
-use Rattle.site_operations.specs.Operations.{Op}
+use Rattle.site_operations.specs.Operations.{Op, valuesRead}
 use Rattle.site.specs.Site.{Site}
 use Rattle.messages.specs.Messages.{commit as naming}
 use Rattle.records.specs.Records.{Record}
@@ -16,7 +16,7 @@ use Rattle.protocol.specs.Network.{Network, startBase, lineNumber, lineA
 use Rattle.protocol.specs.Steps.{setUpNetwork, commitNetwork, dummyNetwork, deliverNetwork, scheduleNetwork}
 use Rattle.protocol.specs.Collect.{collectNumber, collectNetwork, removedBy}
 use Rattle.protocol.specs.Calls.{Call, setUp, commit, dummy, deliver, schedule, collect}
-use Rattle.protocol.specs.Agreement.{Known, nothingKnown, learnedAll}
+use Rattle.protocol.specs.Agreement.{Known, nothingKnown, learnedAll, keptShown}
 use Rattle.protocol.specs.Waiting.{isWaiting, waitingItems}
 
 -- p 3 2 0 6 1 4, then c 0 w0=5, l 0 1, s 1
@@ -66,15 +66,22 @@ collectCalls =
 abbrev pub afterCollect : Known
 afterCollect = learnedAll (nothingKnown none) collectCalls
 
--- one commit more, c 0 w0=6, of which no other site has heard; and a line with a message of the first, to which no steps lead
+-- one commit more, c 0 w0=6 or c 0 r0 w0=6, of which no other site has heard; and a line with a message of the first, to which no steps lead
 abbrev pub afterAgain : Network
 afterAgain = commitNetwork afterAll 0 (record { kind = 1; item = 0; value = pos 6 } ∷ [])
+
+abbrev pub afterRead : Network
+afterRead = commitNetwork afterAll 0 (record { kind = 0; item = 0; value = pos 0 } ∷ record { kind = 1; item = 0; value = pos 6 } ∷ [])
 
 abbrev pub collectedOnce : Network
 collectedOnce = collectNetwork afterAgain
 
 abbrev pub toldAgain : Network
 toldAgain = withLine afterAll (lineNumber 0 1) (record { messages = naming 0 ∷ []; arrived = 0 })
+
+-- p 2 2 0 0 1 0, then c 1 w1=7: no lines, and of the timestamps 0.0 and 1.1 the second, which is the commit's too, is the earlier one
+abbrev pub afterNoLines : Network
+afterNoLines = commitNetwork (setUpNetwork 2 (0 ∷ 1 ∷ []) (0 ∷ 0 ∷ [])) 1 (record { kind = 1; item = 1; value = pos 7 } ∷ [])
 
 -- one site with one item, at 0.2, and its two commits with the later one first: no steps from a set-up lead there
 abbrev pub wrote : ℕ → ℤ → Record
@@ -118,10 +125,14 @@ pub record ExampleHolds : Type 0 where
   pub none-folded : collectNetwork afterSchedule .base ≡ startBase 2
   pub folded : collectNetwork afterAll .base ≡ record { values = pos 5 ∷ pos 0 ∷ []; folded = true }
   pub removed : removedBy (some afterAll) ≡ 1
+  -- where no site hears of another, the commit of the earliest site goes
+  pub no-lines : removedBy (some afterNoLines) ≡ 1
   -- a message names the other one by its new number, and a second collect removes none and leaves the base as it is
   pub accepted : collectNumber afterAgain ≡ 0
   pub renamed : lineAt collectedOnce 0 1 .messages ≡ naming 0 ∷ []
   pub base-stays : collectNetwork collectedOnce .base ≡ record { values = pos 5 ∷ pos 0 ∷ []; folded = true }
+  -- the run over the commit kept starts from there
+  pub kept-run : map (λ (r : Record). valuesRead (r .ops)) (keptShown (collectNetwork afterRead)) ≡ (pos 5 ∷ []) ∷ []
   -- refused where a message names the one that would go
   pub refused : collectNumber toldAgain ≡ 6
   -- by rising timestamp, not in the order made

@@ -3,6 +3,7 @@ pub mod Steps
 pub mod Cycles
 pub mod Allowed
 pub mod Precedes
+pub mod Earliest
 pub mod Waiting
 pub mod Run
 pub mod Collect

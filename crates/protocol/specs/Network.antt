@@ -1,6 +1,6 @@
 -- A network: its sites, the placement of its items, its lines, its history and what collected commits left; and which networks are well shaped.
 use mathlib.Core.Bool.{Bool, false, _&&_, _||_}
-use mathlib.Core.List.{List, [], _∷_, _++_}
+use mathlib.Core.List.{List, [], _∷_, _++_, map}
 use Prim.Native.Nat.{ℕ, _+_, _*_, _/_, _%_}
 use lib.IntN.{ℤ, pos, negsuc}
 use lib.ListN.{length, getD, set, replicate}
@@ -51,6 +51,9 @@ nthRecord n k = recordAt (n .history) k
 
 abbrev pub siteAt : Network → ℕ → Site
 siteAt n i = getD (n .sites) i noSite
+
+abbrev pub siteStamps : Network → List Stamp
+siteStamps n = map (λ (s : Site). s .stamp) (n .sites)
 
 -- a line for each two sites, that from p to c at number 8 p + c
 abbrev pub linesMost : ℕ

@@ -9,12 +9,12 @@ use Rattle.site_operations.specs.Operations.{touches}
 use Rattle.lists.specs.Lists.{any, keep, upTo, occurrences}
 use Rattle.lists.specs.Sorting.{sorted}
 use Rattle.timestamp_order.specs.Timestamp.{Stamp}
-use Rattle.timestamp_order.specs.Order.{orderBy, notLater, NotLater}
 use Rattle.placement.specs.Placement.{copies}
 use Rattle.limits.specs.Limits.{sitesMost}
 use Rattle.messages.specs.Messages.{Message}
-use Rattle.protocol.specs.Network.{Network, lineAt, messageOps, messageStamp, placeOf, noStamp}
+use Rattle.protocol.specs.Network.{Network, lineAt, messageOps, messageStamp, placeOf}
 use Rattle.protocol.specs.Precedes.{precedesBy}
+use Rattle.protocol.specs.Earliest.{noLater, earliestStamp, Earliest}
 
 -- ---- which items
 -- the messages on the lines into site i from the sites below p, arrived or not
@@ -35,21 +35,17 @@ unfoldable pub isWaiting : Network → ℕ → ℕ → Bool
 isWaiting n i k = copies (n .items) i k && any (carries n k) (into n i)
 
 -- ---- their order
--- the first timestamp is not later than the second
-abbrev pub noLater : Network → Stamp → Stamp → Bool
-noLater n s t = notLater (orderBy (placeOf (n .items)) s t)
-
 -- the timestamps of the messages on the lines into site i that write item k
 abbrev pub writeStamps : Network → ℕ → ℕ → List Stamp
 writeStamps n i k = map (messageStamp (n .history)) (keep (carries n k) (into n i))
 
 -- the earliest of them
 unfoldable pub earliestWrite : Network → ℕ → ℕ → Stamp
-earliestWrite n i k = getD (sorted (noLater n) (writeStamps n i k)) 0 noStamp
+earliestWrite n i k = earliestStamp (placeOf (n .items)) (writeStamps n i k)
 
 -- items with one timestamp stay in the order of their numbers, as the sort is stable
 unfoldable pub waitingItems : Network → ℕ → List ℕ
-waitingItems n i = sorted (λ j k. noLater n (earliestWrite n i j) (earliestWrite n i k)) (keep (isWaiting n i) (upTo 0 (length (n .items))))
+waitingItems n i = sorted (λ j k. noLater (placeOf (n .items)) (earliestWrite n i j) (earliestWrite n i k)) (keep (isWaiting n i) (upTo 0 (length (n .items))))
 
 -- ---- what is shown of it, of any network
 -- each item that is waiting at site i stands in the list exactly once, and no other stands in it
@@ -70,14 +66,7 @@ pub record ReportIs (n : Network) (i : ℕ) : Type 0 where
   pub in-order : ReportOrder n i (waitingItems n i)
   pub alone : (xs : List ℕ) → EachOnce n i xs → ReportOrder n i xs → xs ≡ waitingItems n i
 
--- t is the timestamp of a message on a line into site i that writes item k, and none of these is earlier
-pub record Earliest (n : Network) (i k : ℕ) (t : Stamp) : Type 0 where
-  pub write : ℕ
-  pub there : write < length (writeStamps n i k)
-  pub stamp-is : getD (writeStamps n i k) write noStamp ≡ t
-  pub none-earlier : (a : ℕ) → a < length (writeStamps n i k) → NotLater (placeOf (n .items)) t (getD (writeStamps n i k) a noStamp)
-
--- of an item that is waiting there is one such timestamp
-pub record EarliestIs (n : Network) (i k : ℕ) : Type 0 where
-  pub is : isWaiting n i k ≡ true → Earliest n i k (earliestWrite n i k)
-  pub alone : (t : Stamp) → Earliest n i k t → t ≡ earliestWrite n i k
+-- the earliest write of an item that is waiting is one of its writes, none of them earlier; no other timestamp is so
+pub record EarliestWriteIs (n : Network) (i k : ℕ) : Type 0 where
+  pub is : isWaiting n i k ≡ true → Earliest (placeOf (n .items)) (writeStamps n i k) (earliestWrite n i k)
+  pub alone : (t : Stamp) → Earliest (placeOf (n .items)) (writeStamps n i k) t → t ≡ earliestWrite n i k

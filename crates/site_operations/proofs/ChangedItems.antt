@@ -27,7 +27,7 @@ module _ (f : ℕ → ℕ) where
 
   -- ---- the number of item x
   module _ (x : ℕ) where
-    pub item-changed : (table : List ℕ) (y : ℕ) → x < length table → getD (changeItem f table y) x 0 ≡ cond (eqb y x) (f (getD table x 0)) (getD table x 0)
+    item-changed : (table : List ℕ) (y : ℕ) → x < length table → getD (changeItem f table y) x 0 ≡ cond (eqb y x) (f (getD table x 0)) (getD table x 0)
     item-changed table y l = go (eqb y x) refl
       where
         go : (b : Bool) → eqb y x ≡ b → getD (changeItem f table y) x 0 ≡ cond b (f (getD table x 0)) (getD table x 0)

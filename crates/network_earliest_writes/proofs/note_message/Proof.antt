@@ -8,8 +8,9 @@ use Rattle.lines.specs.Lines.{Line}
 use Rattle.messages.specs.Messages.{Message, commit, nameOf}
 use Rattle.network_layout.specs.At.{AtState}
 use Rattle.network_layout.proofs.Performs.{records-count}
+use Rattle.network_layout.proofs.OnNetwork.{has-record}
 use Rattle.network_earliest_writes.specs.Noted.{messagesOn}
-use Rattle.network_earliest_writes.proofs.NotedLaws.{noted-there, message-noted, none-noted}
+use Rattle.network_earliest_writes.proofs.NotedLaws.{message-noted, none-noted}
 use borrow.Author.Needs.{needs}
 use Rattle.network_earliest_writes.proofs.note_message.Statement.{statement}
 use Rattle.network_earliest_writes.proofs.note_message.Tie as tie
@@ -45,7 +46,7 @@ note-record-requires c κs =
     let m = c .before .before .before in
     record {
       at = at m;
-      has = noted-there (w m) (at m) (m .name .result) (omega (arith, c .before .if1 .taken, c .before .before .record-count .ensures));
+      has = has-record (w m) (at m) (m .name .result) (omega (arith, c .before .if1 .taken, c .before .before .record-count .ensures));
       places-are = start m .pre .places-are;
     }
 

@@ -11,7 +11,7 @@ use Rattle.protocol.specs.Collect.{isPast}
 use Rattle.network_layout.specs.InWords.{networkIn}
 use Rattle.network_layout.proofs.Performs.{records-count}
 use Rattle.network_last_writes.specs.LastWrites.{LastWrites}
-use Rattle.network_last_writes.proofs.LastWriteLaws.{record-stays, record-goes, all-named}
+use Rattle.network_last_writes.proofs.LastWriteLaws.{record-stays, record-goes}
 use borrow.Author.Needs.{needs}
 use Rattle.network_last_writes.proofs.note_next.Statement.{statement}
 use Rattle.network_last_writes.proofs.note_next.Tie as tie
@@ -24,9 +24,11 @@ module _ (c : tie.After-stays) where
   abbrev net : Network
   net = networkIn (start .args .state .now)
 
+  there : start .args .j < length (net .history)
+  there = omega (arith, records-count (start .args .state .now), start .pre .next .there)
+
   stays-is : c .stays .result ≡ not (isPast net (start .args .j))
   stays-is =
-      let there : start .args .j < length (net .history) = omega (arith, records-count (start .args .state .now), start .pre .next .there) in
       c .stays .ensures ∙ name-stays (isPast net) (length (net .history)) (start .args .names .now) (start .pre .folding .names-are) (start .args .j) there
 
 stays-requires : tie.Need-stays-requires
@@ -39,10 +41,13 @@ returns c =
     let j = S .args .j in
     record-stays (net asked) j (S .args .table .now) (S .pre .so-far) (not-true (isPast (net asked) j) (sym (stays-is asked) ∙ c .if1 .taken))
 
+cast-note-record : tie.Need-cast-note-record
+cast-note-record c = omega (arith, c .before .before .before .before .pre .next .few)
+
 note-record-requires : tie.Need-note-record-requires
 note-record-requires c κs =
     let S = start (c .before .before) in
-    record { named = all-named (S .args .state .now) (S .args .j) (S .pre .next) (S .args .table .now) (S .pre .so-far); next = S .pre .next; places-are = S .pre .folding .places-are }
+    record { at = S .pre .folding .at; has = S .pre .next; places-are = S .pre .folding .places-are }
 
 returns-2 : tie.Need-returns-2
 returns-2 c =
@@ -51,7 +56,7 @@ returns-2 c =
     let S = start asked in
     let j = S .args .j in
     let goes : isPast (net asked) j ≡ true = not-false (isPast (net asked) j) (sym (stays-is asked) ∙ tested .if1 .left) in
-    subst (LastWrites (net asked) (j + 1)) (sym (c .note-record .ensures)) (record-goes (net asked) j (S .args .table .now) (S .pre .so-far) goes (S .pre .next .few))
+    subst (LastWrites (net asked) (j + 1)) (sym (c .note-record .ensures)) (record-goes (net asked) j (S .args .table .now) (S .pre .so-far) (there asked) (S .pre .folding .names-are .few) goes)
 
 pub note-next-spec : {M : Type 1} → statement M
-note-next-spec = tie.close (tie.spec stays-requires returns note-record-requires returns-2)
+note-next-spec = tie.close (tie.spec stays-requires returns cast-note-record note-record-requires returns-2)

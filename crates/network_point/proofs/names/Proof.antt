@@ -1,7 +1,6 @@
 -- `names` names one record after another.
 use mathlib.Core.Path.{_≡_, refl}
 use mathlib.Core.Bool.{not}
-use mathlib.Core.List.{List}
 use Prim.Native.Nat.{ℕ, _≤_, _-_}
 use native.Mathlib.Omega.{arith}
 use lib.ListN.{length, length-replicate}
@@ -9,9 +8,7 @@ use Rattle.limits.specs.Limits.{recordsMost}
 use Rattle.lists.proofs.Renumber.{count-most}
 use Rattle.protocol.specs.Collect.{isPast}
 use Rattle.network_layout.specs.InWords.{networkIn}
-use Rattle.network_layout.proofs.Performs.{records-count}
-use Rattle.network_layout.specs.At.{AtNetwork}
-use Rattle.network_layout.proofs.Assembled.{partsOf, range-parts}
+use Rattle.network_layout.proofs.Performs.{records-count, records-few}
 use Rattle.network_layout.proofs.OnNetwork.{ranged-on, at-record}
 use Rattle.network_point.proofs.PointLaws.{NamedBelow, none-named, named-next}
 use borrow.Author.Needs.{needs}
@@ -32,10 +29,6 @@ wide-requires c κs = search needs
 
 earliest-requires : tie.Need-earliest-requires Inv-loop μ-loop
 earliest-requires c κs = search needs
-
-few-records : (w : List ℕ) → AtNetwork w → length (networkIn w .history) ≤ recordsMost
-unfolding partsOf
-few-records w net = omega (arith, records-count w, range-parts w (ranged-on w net) .few-records)
 
 -- ---- at the loop
 module _ (h : tie.At-loop Inv-loop μ-loop) where
@@ -86,7 +79,7 @@ returns c =
     let S = start h in
     let w = S .args .state .now in
     let all : h .loop .k ≡ length (networkIn w .history) = omega (arith, made-is h, c .loop-test .left, h .loop .inv .0) in
-    record { few = few-records w (S .pre .net); each = λ k l. h .loop .inv .1 .each k (omega (arith, all)) }
+    record { few = records-few w (ranged-on w (S .pre .net)); each = λ k l. h .loop .inv .1 .each k (omega (arith, all)) }
 
 pub names-spec : {M : Type 1} → statement M
 names-spec =

@@ -3,10 +3,11 @@ use mathlib.Core.Path.{_≡_, ap, ap₂, _∙_}
 use mathlib.Core.Bool.{Bool}
 use Prim.Native.Nat.{ℕ}
 use Rattle.timestamp_order.specs.Order.{notLater}
-use Rattle.protocol.specs.Waiting.{noLater}
+use Rattle.protocol.specs.Network.{placeOf}
+use Rattle.protocol.specs.Earliest.{noLater}
 use Rattle.network_layout.specs.InWords.{networkIn}
 use Rattle.network_layout.proofs.OnNetwork.{compared}
-use Rattle.network_earliest_writes.specs.Noted.{stampAt}
+use Rattle.network_noting.specs.Noting.{stampAt}
 use borrow.Author.Needs.{needs}
 use Rattle.network_waiting.proofs.earliest_before.Statement.{statement}
 use Rattle.network_waiting.proofs.earliest_before.Tie as tie
@@ -31,9 +32,9 @@ returns c =
     let first = second .before in
     let s = first .before .before .before in
     let n = networkIn (s .args .state .now) in
-    let told : c .not-later .result ≡ noLater n (stampAt n (first .record-of .result)) (stampAt n (second .record-of2 .result))
+    let told : c .not-later .result ≡ noLater (placeOf (n .items)) (stampAt n (first .record-of .result)) (stampAt n (second .record-of2 .result))
     = c .not-later .ensures ∙ ap notLater (compared (s .args .state .now) (s .args .places) (s .pre .places-are) (c .before .compare-records .ensures)) in
-    told ∙ ap₂ {C = Bool} (λ (r s : ℕ). noLater n (stampAt n r) (stampAt n s)) (first .record-of .ensures) (second .record-of2 .ensures)
+    told ∙ ap₂ {C = Bool} (λ (r s : ℕ). noLater (placeOf (n .items)) (stampAt n r) (stampAt n s)) (first .record-of .ensures) (second .record-of2 .ensures)
 
 pub earliest-before-spec : {M : Type 1} → statement M
 earliest-before-spec =

@@ -1,18 +1,17 @@
 -- `meet` keeps the last comparison, or makes another.
 use mathlib.Core.Path.{_≡_, refl, ap, ap₂, _∙_}
-use mathlib.Core.Bool.{Bool}
+use mathlib.Core.Bool.{Bool, not, cond}
 use Rattle.timestamp_order.specs.Order.{isEarlier}
 use Rattle.network_layout.specs.InWords.{networkIn}
 use Rattle.network_layout.proofs.OnNetwork.{compared}
-use Rattle.network_earliest_writes.specs.Noted.{isSooner}
+use Rattle.network_noting.specs.Noting.{isSooner}
+use Rattle.network_noting.proofs.NotingLaws.{differs}
 use borrow.Author.Needs.{needs}
-use Rattle.network_earliest_writes.proofs.meet.Statement.{statement}
-use Rattle.network_earliest_writes.proofs.meet.Tie as tie
+use Rattle.network_noting.proofs.meet.Statement.{statement}
+use Rattle.network_noting.proofs.meet.Tie as tie
 
 returns : tie.Need-returns
-returns c =
-    let same : c .before .before .before .args .met .other ≡ c .before .before .before .args .noted = c .if1 .taken in
-    (same, c .before .before .before .pre .met)
+returns c = search needs
 
 wide-requires : tie.Need-wide-requires
 wide-requires c κs = search needs
@@ -33,9 +32,11 @@ returns-2 c =
     let first = second .before in
     let s = first .before .before .before .before in
     let n = networkIn (s .args .state .now) in
-    let told : c .is-earlier .result ≡ isSooner n (first .wide .result) (second .wide2 .result)
-    = c .is-earlier .ensures ∙ ap isEarlier (compared (s .args .state .now) (s .args .places) (s .pre .places-are) (found .compare-records .ensures)) in
-    (refl, told ∙ ap₂ {C = Bool} (isSooner n) (first .wide .ensures) (second .wide2 .ensures))
+    let told : c .is-earlier .result ≡ isSooner n (s .args .r) (s .args .noted)
+    = c .is-earlier .ensures
+    ∙ ap isEarlier (compared (s .args .state .now) (s .args .places) (s .pre .places-are) (found .compare-records .ensures))
+    ∙ ap₂ {C = Bool} (isSooner n) (first .wide .ensures) (second .wide2 .ensures) in
+    (refl, differs (c .is-earlier .result) (s .args .latest) ∙ ap (λ (b : Bool). cond (s .args .latest) (not b) b) told)
 
 pub meet-spec : {M : Type 1} → statement M
 meet-spec =

@@ -10,24 +10,24 @@ use Rattle.records.specs.Records.{Record}
 use Rattle.records.proofs.Laws.{op-there}
 use Rattle.protocol.specs.Network.{Network, nthRecord}
 use Rattle.network_layout.specs.InWords.{networkIn}
-use Rattle.network_earliest_writes.specs.Noted.{noteItem, noteOps, IsMet}
-use Rattle.network_earliest_writes.proofs.NotedLaws.{not-sooner}
+use Rattle.network_noting.specs.Noting.{noteItem, noteOps, IsMet}
+use Rattle.network_noting.proofs.NotingLaws.{replaces-itself}
 use borrow.Author.Needs.{needs}
-use Rattle.network_earliest_writes.proofs.note_record.Statement.{statement}
-use Rattle.network_earliest_writes.proofs.note_record.Tie as tie
+use Rattle.network_noting.proofs.note_record.Statement.{statement}
+use Rattle.network_noting.proofs.note_record.Tie as tie
 
 abbrev opsOf : List ℕ → ℕ → List Op
 opsOf state r = nthRecord (networkIn state) r .ops
 
 abbrev Inv-loop : tie.InvT-loop
-Inv-loop writers₀ state r places w n met₀ a₀ writers met a =
+Inv-loop table₀ state r latest places w n met₀ a₀ table met a =
     (a ≤ n)
-    × (length writers ≡ length writers₀)
-    × (noteOps (networkIn state) r writers₀ (opsOf state r) ≡ noteOps (networkIn state) r writers (drop a (opsOf state r)))
-    × IsMet state r (met .other) (met .earlier)
+    × (length table ≡ length table₀)
+    × (noteOps latest (networkIn state) r table₀ (opsOf state r) ≡ noteOps latest (networkIn state) r table (drop a (opsOf state r)))
+    × IsMet state r latest (met .other) (met .replaces)
 
 abbrev μ-loop : tie.MeasureT-loop
-μ-loop writers₀ state r places w n met₀ a₀ writers met a = n - a
+μ-loop table₀ state r latest places w n met₀ a₀ table met a = n - a
 
 -- ---- at the loop: the record's words, and what they mean
 module _ (h : tie.At-loop Inv-loop μ-loop) where
@@ -64,7 +64,7 @@ count-requires c κs = search needs
 loop-holds : tie.Need-loop-holds Inv-loop μ-loop
 loop-holds c =
     let A = c .before .before .before .before .before .args in
-    (omega arith, refl, refl, not-sooner (networkIn (A .state .now)) (A .r))
+    (omega arith, refl, refl, replaces-itself (A .latest) (networkIn (A .state .now)) (A .r))
 
 written-item-requires : tie.Need-written-item-requires Inv-loop μ-loop
 written-item-requires c κs = record { there = omega (arith, c .before .loop-test .taken, c .before .before .before .count .ensures .1) }
@@ -83,14 +83,15 @@ loop-again c =
     let q = c .before .before in
     let item = q .before in
     let h = item .before .before .before in
+    let A = start h .args in
     let i = h .loop .a in
     let in-it : i < length (ops h) = omega (arith, counts h, item .before .before .loop-test .taken) in
     let written : item .written-item .result ≡ writtenItem (getD (ops h) i noOp)
     = item .written-item .ensures
     ∙ ap writtenItem (op-there _ _ (lent h .record-at .ensures .meant) i (omega (arith, counted h .count .ensures .0, item .before .before .loop-test .taken)))
     ∙ ap (λ (os : List Op). writtenItem (getD os i noOp)) (ops-are h) in
-    let told : q .note-write .last .0 ≡ noteItem (n h) (start h .args .r) (h .loop .writers) (writtenItem (getD (ops h) i noOp))
-    = q .note-write .ensures .0 ∙ ap (noteItem (n h) (start h .args .r) (h .loop .writers)) written in (
+    let told : q .note-write .last .0 ≡ noteItem (A .latest) (n h) (A .r) (h .loop .table) (writtenItem (getD (ops h) i noOp))
+    = q .note-write .ensures .0 ∙ ap (noteItem (A .latest) (n h) (A .r) (h .loop .table)) written in (
       omega arith,
       q .note-write .kept .0 ∙ h .loop .inv .1,
       fold-next _ _ _ (ops h) i (h .loop .inv .2) noOp _ in-it told,
