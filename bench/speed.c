@@ -43,7 +43,7 @@ static uint64_t step(const char *text, uint32_t round)
     }
 }
 
-static uint64_t rounds(const char *steps, uint32_t count)
+static uint64_t turns(const char *steps, uint32_t count)
 {
     uint64_t sum = 0;
     for (uint32_t round = 1; round <= count; round++)
@@ -52,7 +52,7 @@ static uint64_t rounds(const char *steps, uint32_t count)
     return sum;
 }
 
-/* Two sites and one item, at most nine records, one message: 1,000 times a set-up and nine rounds of eleven steps, of which four are refused: 11, 20, 18, 15. */
+/* Two sites and one item, at most nine records, one message: 1,000 times a set-up and nine turns of eleven steps, of which four are refused: 11, 20, 18, 15. */
 static uint64_t almost_empty(void)
 {
     static const uint32_t primary = 0;
@@ -60,7 +60,7 @@ static uint64_t almost_empty(void)
     uint64_t sum = 0;
     for (int i = 0; i < 1000; i++) {
         gevrolen_set_up(state, 2, 1, &primary, 1, &mask, 1);
-        sum += rounds("c00l01s10d00l01s10e00c10s10l01e10", 9);
+        sum += turns("c00l01s10d00l01s10e00c10s10l01e10", 9);
     }
     return sum;
 }
@@ -81,18 +81,18 @@ static void set_up(void)
 static void fill(void)
 {
     set_up();
-    rounds("w00w10w20w30w40w50w60w70", 16);
-    rounds("w70", 127);
-    rounds("r70", 1);
-    rounds("l07l17l27l37l47l57l67", 1);
+    turns("w00w10w20w30w40w50w60w70", 16);
+    turns("w70", 127);
+    turns("r70", 1);
+    turns("l07l17l27l37l47l57l67", 1);
 }
 
-/* That network, and 10,000 rounds of ten steps. Site 7 takes the oldest message of site 6, which sends it a dummy: the line is full again. Six steps are refused: 12, 11,
+/* That network, and 10,000 turns of ten steps. Site 7 takes the oldest message of site 6, which sends it a dummy: the line is full again. Six steps are refused: 12, 11,
    13, 15, 17, 20. */
 static uint64_t full(void)
 {
     fill();
-    return rounds("c77c10d00e00e70s70d60l67l76s10", 10000);
+    return turns("c77c10d00e00e70s70d60l67l76s10", 10000);
 }
 
 /* Each item goes into the sum with its place, which tells their order. */
@@ -117,8 +117,8 @@ static uint64_t origin(void)
 /* 128 commits of eight writes at all eight sites, 14 messages of theirs on a line. */
 static void half(void)
 {
-    rounds("w00w10w20w30w40w50w60w70", 14);
-    rounds("w70", 16);
+    turns("w00w10w20w30w40w50w60w70", 14);
+    turns("w70", 16);
 }
 
 /* Every site hears of all commits: a higher epoch at site 0, then each site takes what there is and sends a dummy. */
@@ -146,7 +146,7 @@ static void season(int all)
     half();
     if (all)
         hear(2);
-    rounds("d00d10d20d30d40d50d60", 16);
+    turns("d00d10d20d30d40d50d60", 16);
     memcpy(saved, state, sizeof state);
 }
 
@@ -158,6 +158,24 @@ static uint64_t collected(int collects)
     if (collects)
         gevrolen_collect(state, &removed);
     return removed + state[0];
+}
+
+/* A network to run a round on: 256 records of eight operations, 15 messages on each of the 28 lines, none arrived. */
+static void unheard(void)
+{
+    set_up();
+    turns("w00w10w20w30w40w50w60w70", 15);
+    turns("w70", 136);
+    memcpy(saved, state, sizeof state);
+}
+
+/* A round of that network, behind its copy. */
+static uint64_t rounded(void)
+{
+    uint32_t epoch;
+    memcpy(state, saved, sizeof state);
+    gevrolen_round(state, &epoch);
+    return epoch + state[0];
 }
 
 static uint64_t checked(void)
@@ -213,6 +231,7 @@ static uint64_t once(char letter)
     case 'c':
     case 'C': return collected(1);
     case 'm': return collected(0);
+    case 'g': return rounded();
     case 'x': gevrolen_export(state, file, sizeof file, &length); return length;
     case 'k': return checked();
     case 'r': return following();
@@ -239,7 +258,10 @@ int main(int count, char **arguments)
         printf("%llu\n", (unsigned long long)full());
         return 0;
     }
-    season(arguments[1][0] == 'C');
+    if (arguments[1][0] == 'g')
+        unheard();
+    else
+        season(arguments[1][0] == 'C');
     fill();
     gevrolen_export(state, file, sizeof file, &length);
     for (int n = times(arguments[1][0]); n; n--)

@@ -1,9 +1,11 @@
 """The book of the calls and the one-copy run, written from the specification alone: what must be seen after calls from an accepted set-up.
 
 The book is fed each call's arguments, whether it was accepted and, of a schedule, the timestamp that it answered. It has a timestamp for each site and the commits with
-their operations as lent, those that collects removed too. The run works them one after another by rising timestamp, on one copy of each item.
+their operations as lent, those that collects removed too. The run works them one after another by rising timestamp, on one copy of each item. An accepted round counts as
+its calls, each noted with what it answers when it is made alone.
 """
 import collections
+import copy
 
 import model
 from limits import RECORDS
@@ -35,6 +37,19 @@ class Run:
         return self.tables[sum(own <= key for own in self.keys)]
 
 
+def round_calls(n):
+    """The calls that an accepted round counts as. Each is worked out on what the ones before leave, so it is to be made before the next is asked for."""
+    new = 1 + max(epoch for epoch, _ in n.stamps)
+    yield from [("epoch", i, new) for i in range(n.sites) if not n.parents(i)]
+    for j in model.site_order(n.sites, n.lines):
+        parents = n.parents(j)
+        for p in parents:
+            yield from [("deliver", p, j)] * (len(n.held[p, j]) - n.arrived[p, j])
+        while parents and all(n.arrived[p, j] for p in parents):
+            yield ("schedule", j)
+        yield ("dummy", j)
+
+
 class Book:
     def __init__(self, sites, items):
         self.items = items
@@ -44,6 +59,7 @@ class Book:
         self.values = []  # that each commit answered for its reads
         self.removed = set()  # the numbers of commits
         self.points = []  # of each collect: how many commits there were, up to which timestamp it removed them, and how many it removed
+        self.rounds = []  # of each round: how many commits there were
         self.wrong = []  # what was answered otherwise than the book has it, in words
 
     def expect(self, what, found, wanted):
@@ -81,6 +97,22 @@ class Book:
         self.expect("how many records a collect removed", removed, len(self.removed) - before)
 
     # ---- what must be seen
+    def table(self):
+        """The run's values after all commits."""
+        return Run(self.places, [0] * len(self.items), self.commits).tables[-1]
+
+    def check_round(self, n):
+        """Holds a network right after a round against the book: every commit is applied at all its copies, and a collect would remove all that are left."""
+        table = self.table()
+        self.expect("copies after a round", self.held(n.tables), self.held([table] * len(n.tables)))
+        self.expect("commits that messages name after a round", n.named(), [])
+        late = [stamp for _, stamp, _ in self.commits if any(self.key(stamp) > self.key(own) for own in n.stamps)]
+        self.expect("commits that are later than a site after a round", late, [])
+        after = model.Engine()
+        after.network = copy.deepcopy(n)
+        self.expect("a collect after a round", after.collect(), (0, len(self.commits) - len(self.removed)))
+        self.expect("what it leaves", (after.network.history, tuple(after.network.base)), ([], table))
+
     def check(self, n):
         """Holds a network against the book."""
         zeros = [0] * len(self.items)
@@ -119,6 +151,10 @@ class Book:
             "more commits than a history holds": count > RECORDS,
             "a value read that is not 0": any(map(any, self.values)),
             "a site that is behind": count > 0 and any(self.key(stamp) < latest for stamp in self.stamps),
+            "several rounds": len(self.rounds) > 1,
+            "a round before all commits": any(made == 0 for made in self.rounds) and count > 0,
+            "commits between two rounds": len(set(self.rounds)) > 1,
+            "commits behind a round": any(0 < made < count for made in self.rounds),
         }
 
     def held(self, tables):
@@ -135,13 +171,23 @@ class Witnessed(model.Engine):
         self.book = None
         self.wrong = []  # what is not as the book has it, in words
         self.shown = collections.Counter()  # how many books showed what
+        self.calls = []  # that the last round counts as
 
     def close(self):
         if self.book:
             self.book.check(self.network)
-            self.wrong += self.book.wrong
-            self.book.wrong = []
+            self.told()
             self.shown.update(self.book.shows())
+
+    def told(self):
+        """What the book found wrong."""
+        self.wrong += self.book.wrong
+        self.book.wrong = []
+
+    def by_the_round(self, n):
+        """Holds a network right after a round against the book."""
+        self.book.check_round(n)
+        self.told()
 
     def take(self, network):
         self.close()
@@ -153,6 +199,26 @@ class Witnessed(model.Engine):
         answer = super().set_up(sites, items, primaries, masks)
         if answer[0] == 0:
             self.book = Book(sites, list(zip(primaries, masks)))
+        return answer
+
+    def round(self):
+        """The round is made on a copy; here its calls are made one by one, by which the book notes them. They must be accepted, and leave what the round leaves."""
+        alone, self.calls = model.Engine(), []
+        alone.network = copy.deepcopy(self.network)
+        answer = alone.round()
+        if self.book and answer[0] == 6:
+            self.wrong.append("round answers 6")
+        if answer[0] == 0:
+            for call in round_calls(self.network):
+                self.calls.append(call)
+                number = getattr(self, call[0])(*call[1:])[0]
+                if number:
+                    self.wrong.append("%r in a round answers %d" % (call, number))
+            if self.network != alone.network:
+                self.wrong.append("a round leaves another network than its calls")
+        if self.book and answer[0] == 0:
+            self.book.rounds.append(len(self.book.commits))
+            self.by_the_round(self.network)
         return answer
 
 

@@ -13,6 +13,10 @@
                                 number
     n                           the places of sites: the number, and eight of them
     g                           collect: the number, and how many records it removed
+    z                           round: the number, and the epoch that it set
+    j SITE                      a site's timestamp: the number, the epoch, the tuples
+    m SITE                      a site's table: the number, the values
+    i PARENT CHILD              a line: the number, how many messages it holds, how many have arrived
     y                           the base: the number, whether records were removed (1) or not (0), how many values, the values, and behind them such places as are not 0:
                                 there are none
     v EPOCH LENGTH TUPLES ..    two timestamps compared, each as a struct: its epoch, its length field, the tuples in front of places full of EE (- for none); behind the
@@ -57,7 +61,7 @@ class Model:
     def __init__(self):
         self.engine = model.Engine()
         self.laid = [0] * layout.WORDS
-        for name in ("script", "commit", "commit_lists"):
+        for name in ("script", "commit", "commit_lists", "collect", "round", "stamp", "table", "line"):
             setattr(self, name, getattr(self.engine, name))
 
     def words(self):
@@ -80,9 +84,6 @@ class Model:
     def places(self):
         number, places = self.engine.places()
         return number, list(places)
-
-    def collect(self):
-        return self.engine.collect()
 
     def base(self):
         number, folded, values = self.engine.base()
@@ -155,10 +156,11 @@ class Calls:
     def answer(self, line):
         letter, text = line[:1].decode(), line[2:].decode()
         plain = {"#": lambda: line.decode(), "b": self.file.hex, "h": self.read, "a": self.sums, "f": self.check, "n": self.places}
-        plain |= {"g": lambda: self.step(lambda: joined(self.side.collect())), "y": self.base}
+        plain |= {"g": lambda: self.step(lambda: joined(self.side.collect())), "z": lambda: self.step(lambda: joined(self.side.round())), "y": self.base}
         named = {"=": lambda: self.put(b"", text), "+": lambda: self.put(self.file, text)}
         named |= {"v": lambda: self.compare(*text.split(" ")), "@": lambda: self.record_from(*text.split(" "))}
         numbered = {"w": self.waiting, "t": self.origin, "k": self.poke, "o": self.records, "u": self.lists, "x": self.export, "r": self.record}
+        numbered |= {"j": self.stamp, "m": self.table, "i": self.line}
         if letter in numbered:
             return numbered[letter](*[int(field) for field in text.split(" ")])
         return {**plain, **named}.get(letter, lambda: self.step(lambda: self.side.script(line).decode()))()
@@ -174,6 +176,17 @@ class Calls:
 
     def origin(self, k, a):
         return joined(self.side.origin(k, a))
+
+    def stamp(self, site):
+        number, stamp = self.side.stamp(site)
+        return record_text(number, stamp, ())
+
+    def table(self, site):
+        number, values = self.side.table(site)
+        return joined((number,) + values)
+
+    def line(self, parent, child):
+        return joined(self.side.line(parent, child))
 
     def places(self):
         number, places = self.side.places()

@@ -13,7 +13,7 @@ from limits import HELD, ITEMS, OPERATIONS, RECORDS, SITES, U32
 
 # How often each call stands in a list. A run takes one of these by chance: what it does most decides which corners it reaches.
 BALANCED = dict(
-    commit=8, commit_lists=2, dummy=4, epoch=1, deliver=14, schedule=12, collect=2, round=0.3, waiting=2, table=2, stamp=2, line=2, places=1, base=1, origin=2,
+    commit=8, commit_lists=2, dummy=4, epoch=1, deliver=14, schedule=12, collect=2, round=1, stages=0.3, waiting=2, table=2, stamp=2, line=2, places=1, base=1, origin=2,
     export=1, script=4, run=1, poke=2, copy=1, set_up=1, state=0.2, held=0, few=0, noise=0.1, file=2, record_from=1, compare=2, compare_lent=2,
 )
 MOODS = [
@@ -27,8 +27,9 @@ MOODS = [
     dict(BALANCED, set_up=20),
     dict(BALANCED, origin=20, state=3),
     dict(BALANCED, waiting=60, held=15, schedule=4),
-    dict(commit=60, dummy=2, epoch=0.2, deliver=8, schedule=8, collect=3, round=1, waiting=1, origin=8, base=1, export=1),
+    dict(commit=60, dummy=2, epoch=0.2, deliver=8, schedule=8, collect=3, round=1, stages=1, waiting=1, origin=8, base=1, export=1),
     dict(BALANCED, few=10, state=1, collect=15, base=5, origin=5),
+    dict(BALANCED, round=12, few=6, set_up=3),
 ]
 
 EDGES = [0, 1, 2, 7, 8, 9, 15, 16, 17, 63, 64, 65, 255, 256, 257, 2**31 - 1, 2**31, U32 - 1, U32]
@@ -354,8 +355,8 @@ class Chooser:
         self.names, self.weights = list(mood), list(mood.values())
         self.left = self.rng.choice([20, 100, 400, 800])
         self.undo = []
-        self.plan = []  # calls of a round that come first
-        self.hearing = []  # sites that are to hear in it
+        self.plan = []  # calls that come first
+        self.hearing = []  # sites that are to hear behind them, in a round by stages
 
     def first(self):
         return ("set_up",) + placement(self.rng)
@@ -455,8 +456,25 @@ class Chooser:
         return ("collect",)
 
     def round(self, engine):
-        """The first call of a round: sites without parents get a higher epoch; then, in the order of places, each hears what there is and sends a dummy. At its end, or
-        where it stops before, comes a collect.
+        """A round, often with a collect straight after it; at times behind calls that bring it to its bounds."""
+        self.plan = self.to_its_bounds(engine.network) + [("round",)] + self.rng.choice([[], [("collect",)], [("collect",)]])
+        return self.plan.pop(0)
+
+    def to_its_bounds(self, n):
+        """Calls that make 15 or 16 messages of those on a line, all of them arrived or not, or that leave one epoch or none above the greatest."""
+        lines = sorted(n.lines) if n else []
+        if lines and self.rng.random() < 0.1:
+            p, child = self.rng.choice(lines)
+            held = max(len(n.held[p, c]) for c in n.children(p))
+            dummies = [("dummy", p)] * (self.rng.choice([HELD - 1, HELD]) - held)
+            return dummies + [("deliver", p, child)] * self.rng.choice([0, HELD])
+        if n and self.rng.random() < 0.05:
+            return [("epoch", self.rng.choice([i for i in range(n.sites) if not n.parents(i)]), self.rng.choice([U32 - 1, U32]))]
+        return []
+
+    def stages(self, engine):
+        """The first call of a round that is made by its calls: sites without parents get a higher epoch; then, in the order of places, each hears what there is and sends a
+        dummy. At its end, or where it stops before, comes a collect.
         """
         n = engine.network
         if n:
@@ -467,7 +485,7 @@ class Chooser:
         return self.going_on(engine)
 
     def going_on(self, engine):
-        """The next call of the round."""
+        """The next call of the round by stages, or one that was to come first."""
         n = engine.network
         if self.plan:
             return self.plan.pop(0)

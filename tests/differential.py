@@ -6,13 +6,15 @@
     differential.py play FILE           the calls of a file, one to a line as a failure prints them
 
 Compared are: every field of every answer; every byte of the struct or buffer that was lent for it, unused places too; after a call that was refused or only looks, every
-word of the state; after the others, what the words mean. Where calls alone led from a set-up to the state, an origin must also have the value read, and all that was
-seen must be what the book of the calls and the one-copy run have (book.py). The first difference is printed with its seed and a list of calls that is as short as could be
+word of the state; after the others, what the words mean; after a round, every word with what its calls leave when they are made one by one. Where calls alone led from a
+set-up to the state, an origin must also have the value read, every commit must be applied at all its copies after a round, and all that was seen must be what the book of the
+calls and the one-copy run have (book.py). The first difference is printed with its seed and a list of calls that is as short as could be
 found; the exit status is then 1. The module is taken from target/gevrolen, where bindings/build puts it, or from GEVROLEN_FOLDER.
 """
 import array
 import ast
 import collections
+import copy
 import ctypes
 import os
 import pathlib
@@ -34,7 +36,7 @@ SHRINKING = 30  # seconds
 CASES = range(400)  # the seeds of the runs that must reach every case
 UNREACHED = "the runs do not reach: "
 # what has cases that the runs must show
-SHOWN = ("set_up", "read", "schedule", "collect", "base", "book", "origin", "waiting", "file", "record_from", "compare", "compare_lent")
+SHOWN = ("set_up", "read", "schedule", "collect", "round", "base", "book", "origin", "waiting", "file", "record_from", "compare", "compare_lent")
 LOOKS = {"waiting", "table", "stamp", "line", "places", "base", "origin", "export", "read", "record", "records", "record_from", "compare", "compare_lent"}
 UNNUMBERED = {"script", "run", "records", "compare", "compare_lent"}  # answers that do not start with a number
 POISON = 0xEE
@@ -119,7 +121,7 @@ def base_bytes(folded, values):
     return words_bytes([folded, len(values)] + padded(values, layout.ITEMS))
 
 
-# ---- what set-ups, reads, schedules, collects, origins, reports, files and comparisons have to show: a plainer rule would answer otherwise
+# ---- what set-ups, reads, schedules, collects, rounds, origins, reports, files and comparisons have to show: a plainer rule would answer otherwise
 def breadth_first(sites, lines):
     """Another order of sites in which parents come first: of all that are free, lowest number first, then of those that are free by them."""
     placed = []
@@ -338,6 +340,44 @@ def shown_by_collect(n):
     }
 
 
+def shown_by_round(n, calls, left, reached):
+    """How what a round is to do to a network stands to what other rules would do. `calls` are those that it counts as, none where it is refused; `left` are the messages on each
+    line after it; `reached` says whether calls alone led here from a set-up.
+    """
+    held = [len(messages) for messages in n.held.values()]
+    epochs, free = [epoch for epoch, _ in n.stamps], [i for i in range(n.sites) if not n.parents(i)]
+    full, counted, last = max(held) >= layout.HELD, [n.own_count(i) == model.U32 for i in range(n.sites)], [epoch == model.U32 for epoch in epochs]
+    taken = collections.Counter(call[1] for call in calls if call[0] == "schedule")
+    accepted = calls != []
+    return {
+        "messages on the way": reached and accepted and any(n.arrived[line] < len(messages) for line, messages in n.held.items()),
+        "messages that have arrived": reached and accepted and any(n.arrived.values()),
+        "commits on the way": reached and accepted and any(isinstance(message, int) for line, messages in n.held.items() for message in messages[n.arrived[line] :]),
+        "15 on a line": accepted and max(held) == layout.HELD - 1,
+        "a full history": accepted and len(n.history) == layout.RECORDS,
+        "several messages taken at one site": reached and any(times > 2 for times in taken.values()),
+        "dummies left on a line": reached and accepted and any(left.values()),
+        "nothing left on any of some lines": reached and accepted and n.lines != set() and not any(left.values()),
+        "sites not in the order of their numbers": accepted and any(p > c for p, c in n.lines),
+        "several sites without parents, in several epochs": reached and accepted and len({epochs[i] for i in free}) > 1,
+        "not one above the epoch of the first site": reached and accepted and epochs[0] < max(epochs),
+        "not one above those of sites without parents": accepted and max(epochs[i] for i in free) < max(epochs),
+        "a site without lines": accepted and any(i in free and not n.children(i) for i in range(n.sites)),
+        "13": full,
+        "13 from a set-up": full and reached,
+        "13 before 14 and 16": full and any(counted) and any(last),
+        "13 on a line where all have arrived": full and all(n.arrived[line] == layout.HELD for line, messages in n.held.items() if len(messages) == layout.HELD),
+        "14": not full and any(counted) and not any(last),
+        "14 before 16": not full and any(counted) and any(last),
+        "14 at a site without children": not full and all(not n.children(i) for i in range(n.sites) if counted[i]) and any(counted),
+        "a count at its largest that is no site's own": accepted and any(count == model.U32 for _, tuples in n.stamps for _, count in tuples[:-1]),
+        "16": not full and not any(counted) and any(last),
+        "16 from a set-up": not full and not any(counted) and any(last) and reached,
+        "16 for a site with parents": not full and not any(counted) and any(last) and not any(last[i] for i in free),
+        "one below the largest epoch": accepted and max(epochs) == model.U32 - 1,
+    }
+
+
 def shown_by_base(w, n, number):
     """What stands in the words of the flag and of the base values; n is the network that they hold, well shaped or not."""
     if n is None:
@@ -487,6 +527,7 @@ class Pair:
         self.network = gevrolen.Network()
         self.engine = book.Witnessed()
         self.seen = collections.Counter()  # how many calls of each name had each number
+        self.heard = False  # whether the last call was a round, accepted
         self.shown = {what: collections.Counter() for what in SHOWN}  # how many of each showed what
 
     def words(self):
@@ -508,6 +549,7 @@ class Pair:
         before = bytes(self.network)
         answer, expected = getattr(self, name, self.plain)(name, *arguments)
         number = 0 if name in UNNUMBERED else expected[0]
+        self.heard = name == "round" and number == 0
         self.seen[name, number] += 1
         expect("answer", answer, expected)
         if name in STRUCTS:
@@ -580,11 +622,43 @@ class Pair:
         return answer, expected
 
     def collect(self, name):
-        shown = shown_by_collect(self.engine.network) if self.engine.network else {}
+        n = self.engine.network
+        shown = shown_by_collect(n) if n else {}
+        reached = self.heard and self.engine.book is not None
+        left = len(n.history) if n else 0
         answer, expected = self.plain(name)
         if answer == expected:
             self.shown[name].update(shown)
+            self.shown[name].update({"all removed straight after a round": reached and answer == (0, left) and left > 0})
+        if reached:
+            expect("a collect straight after a round", answer, (0, left))
         return answer, expected
+
+    def round(self, name):
+        n, reached, other = self.engine.network, self.engine.book is not None, self.network.copy()
+        before = copy.deepcopy(n)
+        answer, expected = self.plain(name)
+        if answer == expected and n:
+            self.shown[name].update(shown_by_round(before, self.engine.calls, n.held, reached))
+        if answer == expected and answer[0] == 0:
+            self.by_its_calls(other)
+            if reached:
+                self.every_house_heard()
+        return answer, expected
+
+    def by_its_calls(self, other):
+        """The calls that the round counts as, made one by one on the library's state from before it, leave the same words."""
+        for call in self.engine.calls:
+            expect("number of %r, which a round counts as" % (call,), getattr(other, call[0])(*call[1:]).number, 0)
+        expect("words left by a round, and by its calls", bytes(self.network), bytes(other))
+
+    def every_house_heard(self):
+        """What the library's words mean after a round is held against the book, and so is what a collect on a copy of them leaves."""
+        self.engine.by_the_round(layout.load(self.words()))
+        after = self.network.copy()
+        expect("a collect on a copy after a round", tuple(after.collect()), (0, len(self.engine.network.history)))
+        meant = layout.load(array.array("I", bytes(after)))
+        expect("what it leaves", (meant.history, tuple(meant.base)), ([], self.engine.book.table()))
 
     def base(self, name):
         answer, expected = self.plain(name)

@@ -58,6 +58,11 @@ class Library:
         number = gevrolen._library.collect(self.network._words, ctypes.byref(removed))
         return number, removed.value
 
+    def round(self):
+        epoch = ctypes.c_uint32(EE)
+        number = gevrolen._library.round(self.network._words, ctypes.byref(epoch))
+        return number, epoch.value
+
     def base(self):
         answer = poisoned_base()
         number = gevrolen._library.base(self.network._words, ctypes.byref(answer))

@@ -335,6 +335,27 @@ class Engine:
         n.folded = n.folded or any(past)
         return (len(past) - len(kept),)
 
+    @call(0)
+    def round(self):
+        """Every site without parents gets an epoch one above the greatest at any site; then, in the order of places, all lines into a site are delivered, it schedules until
+        refused, and it sends a dummy. It answers the new epoch.
+        """
+        n = self.shaped()
+        refuse(13, any(len(held) >= HELD for held in n.held.values()))
+        refuse(14, any(n.own_count(i) == U32 for i in range(n.sites)))
+        greatest = max(epoch for epoch, _ in n.stamps)
+        refuse(16, greatest == U32)
+        for i in range(n.sites):
+            if not n.parents(i):
+                n.stamps[i] = (greatest + 1, n.stamps[i][1])
+        for j in sorted(range(n.sites), key=lambda i: n.places[i]):
+            for p in n.parents(j):
+                n.arrived[p, j] = len(n.held[p, j])
+            while self.schedule(j)[0] == 0:
+                pass
+            self.dummy(j)
+        return (greatest + 1,)
+
     # ---- calls that only look
     @call(())
     def waiting(self, j):

@@ -1,5 +1,5 @@
 /* The ten lines of the worked example by calls, each answer printed as a script would print it, and two of its timestamps side by side; then two sales in one commit, what
-   waits for a site after them, where two timestamps part, copies at lower-numbered sites, and a collect, which the exit status judges. */
+   waits for a site after them, where two timestamps part, copies at lower-numbered sites, a collect, and a round, which the exit status judges. */
 #include <inttypes.h>
 #include <stdio.h>
 
@@ -192,6 +192,20 @@ static int collected(void)
         && gevrolen_origin(state, 0, 0, &origin) == GEVROLEN_ACCEPTED && origin.kind == GEVROLEN_FOLDED && origin.record == 0;
 }
 
+/* Another sale: after a round site 1 holds it, the epoch is one above the greatest, and a collect removes the sale and what site 1 committed. */
+static int heard(void)
+{
+    const struct gevrolen_operation sold[] = {{GEVROLEN_WRITE, 0, 8}};
+    struct gevrolen_committed committed;
+    struct gevrolen_table table;
+    uint32_t epoch, removed;
+    return gevrolen_commit(state, 2, sold, 1, &committed) == GEVROLEN_ACCEPTED
+        && gevrolen_table(state, 1, &table) == GEVROLEN_ACCEPTED && table.values[0] == 9
+        && gevrolen_round(state, &epoch) == GEVROLEN_ACCEPTED && epoch == 2
+        && gevrolen_table(state, 1, &table) == GEVROLEN_ACCEPTED && table.values[0] == 8
+        && gevrolen_collect(state, &removed) == GEVROLEN_ACCEPTED && removed == 2;
+}
+
 int main(void)
 {
     const uint32_t primaries[] = {0, 1};
@@ -212,5 +226,5 @@ int main(void)
     schedule(2);
     commit(2, seen, 2);
     sites_side_by_side(1, 2);
-    return sold_twice() && waits() && parted() && joined_late() && collected() ? 0 : 1;
+    return sold_twice() && waits() && parted() && joined_late() && collected() && heard() ? 0 : 1;
 }

@@ -73,11 +73,11 @@ extern "C" {
 #define GEVROLEN_UNKNOWN_OPERATION 9   /* an operation's kind is not 0 or 1, or no item has its number: correct it */
 #define GEVROLEN_NO_COPY 10            /* a read of an item that is not held at this site: read it where it is held */
 #define GEVROLEN_NOT_PRIMARY 11        /* a write of an item that another site owns: commit it there */
-#define GEVROLEN_HISTORY_FULL 12       /* the history holds 256 commits: export it, let every site hear of them, then collect */
-#define GEVROLEN_LINE_FULL 13          /* a line to a child holds 16 messages: deliver and schedule at the child, then try again */
-#define GEVROLEN_COUNT_FULL 14         /* the site's own count is 4,294,967,295: export the history, then set up again */
+#define GEVROLEN_HISTORY_FULL 12       /* the history holds 256 commits: export it, run a round, then collect */
+#define GEVROLEN_LINE_FULL 13          /* a line to a child, in a round any line, holds 16 messages: deliver and schedule at the child, then try again */
+#define GEVROLEN_COUNT_FULL 14         /* the site's own count, in a round any site's, is 4,294,967,295: export the history, then set up again */
 #define GEVROLEN_HAS_PARENTS 15        /* an epoch at a site with parents: raise it at the sites without; it comes with their messages */
-#define GEVROLEN_EPOCH_NOT_ABOVE 16    /* the new epoch is not above the present: take a higher one */
+#define GEVROLEN_EPOCH_NOT_ABOVE 16    /* the new epoch is not above the present: take a higher one. Of a round: the greatest epoch is 4,294,967,295; export the history, then set up again */
 #define GEVROLEN_NO_SUCH_LINE 17       /* the placement gives no line from the one site to the other: correct them */
 #define GEVROLEN_NOTHING_ON_THE_WAY 18 /* every message on the line has arrived: nothing to do */
 #define GEVROLEN_NO_PARENTS 19         /* a schedule at a site without parents: it never hears, nothing to do */
@@ -230,6 +230,12 @@ uint32_t gevrolen_schedule(uint32_t state[GEVROLEN_WORDS], uint32_t site, struct
    names a commit to be folded, to which no steps from a set-up lead. */
 uint32_t gevrolen_collect(uint32_t state[GEVROLEN_WORDS], uint32_t *removed);
 
+/* A round, in which every site hears: every site without parents gets an epoch one above the greatest at any site; then, in the order of places, all lines into a site are
+   delivered, it schedules until refused, and it sends a dummy; and the new epoch. In a state that calls led to from a set-up every commit made before it is applied at all its
+   copies then, and a gevrolen_collect straight after it removes all of them. 6; 13 where a line holds 16 messages, 14 where a site's own count is at its largest, 16 where the
+   greatest epoch is 4,294,967,295. */
+uint32_t gevrolen_round(uint32_t state[GEVROLEN_WORDS], uint32_t *epoch);
+
 /* ---- calls that only look */
 
 /* The items that messages on the lines into a site write, arrived or not, and that it has a copy of: by the timestamp of the earliest of the messages that write the item,
@@ -324,11 +330,11 @@ static inline const char *gevrolen_explain(uint32_t number)
         "An operation has an unknown kind or item: correct it.",
         "A read of an item that the site neither owns nor copies: read it where it is held.",
         "A write of an item that another site owns: commit it there.",
-        "The history holds 256 commits: export it, let every site hear of them, then collect.",
+        "The history holds 256 commits: export it, run a round, then collect.",
         "A line that would get a message holds 16: deliver and schedule at the child, then try again.",
-        "The site's own count is 4,294,967,295: export the history, then set up again.",
+        "The site's own count, in a round any site's, is 4,294,967,295: export the history, then set up again.",
         "The site has parents: raise the epoch at the sites without; it comes with their messages.",
-        "The new epoch is not above the present: take a higher one.",
+        "The new epoch is not above the present: take a higher one; where a round finds none above 4,294,967,295, export the history, then set up again.",
         "There is no such line: correct the two sites.",
         "Nothing is on the way: every message on the line has arrived.",
         "The site has no parents: it never schedules.",

@@ -33,16 +33,16 @@ fn step(state: &mut Network, step: &[u8], r: u32) -> u64 {
     }
 }
 
-fn rounds(state: &mut Network, steps: &[u8], n: u32) -> u64 {
+fn turns(state: &mut Network, steps: &[u8], n: u32) -> u64 {
     (1..=n).map(|r| steps.chunks_exact(3).map(|s| step(state, black_box(s), black_box(r))).sum::<u64>()).sum()
 }
 
-/// 1,000 times a set-up and nine rounds of eleven steps.
+/// 1,000 times a set-up and nine turns of eleven steps.
 fn almost_empty(state: &mut Network) -> u64 {
     (0..1000)
         .map(|_| {
             let _ = state.set_up(2, 1, black_box(&[0]), &[2]);
-            rounds(state, b"c00l01s10d00l01s10e00c10s10l01e10", 9)
+            turns(state, b"c00l01s10d00l01s10e00c10s10l01e10", 9)
         })
         .sum()
 }
@@ -57,22 +57,22 @@ fn set_up(state: &mut Network) {
 /// 256 records of eight writes, the last of eight reads; each line holds 16; from each of its parents one message has arrived at site 7.
 fn fill(state: &mut Network) {
     set_up(state);
-    rounds(state, b"w00w10w20w30w40w50w60w70", 16);
-    rounds(state, b"w70", 127);
-    rounds(state, b"r70", 1);
-    rounds(state, b"l07l17l27l37l47l57l67", 1);
+    turns(state, b"w00w10w20w30w40w50w60w70", 16);
+    turns(state, b"w70", 127);
+    turns(state, b"r70", 1);
+    turns(state, b"l07l17l27l37l47l57l67", 1);
 }
 
-/// 10,000 rounds of ten steps.
+/// 10,000 turns of ten steps.
 fn full(state: &mut Network) -> u64 {
     fill(state);
-    rounds(state, b"c77c10d00e00e70s70d60l67l76s10", 10000)
+    turns(state, b"c77c10d00e00e70s70d60l67l76s10", 10000)
 }
 
 /// 128 commits of eight writes at all eight sites, 14 messages of theirs on a line.
 fn half(state: &mut Network) {
-    rounds(state, b"w00w10w20w30w40w50w60w70", 14);
-    rounds(state, b"w70", 16);
+    turns(state, b"w00w10w20w30w40w50w60w70", 14);
+    turns(state, b"w70", 16);
 }
 
 /// Every site hears of all commits: a higher epoch at site 0, then each site takes what there is and sends a dummy.
@@ -96,7 +96,14 @@ fn season(state: &mut Network, all: bool) {
     if all {
         hear(state, 2);
     }
-    rounds(state, b"d00d10d20d30d40d50d60", 16);
+    turns(state, b"d00d10d20d30d40d50d60", 16);
+}
+
+/// A network to run a round on, as in bench/speed.c.
+fn unheard(state: &mut Network) {
+    set_up(state);
+    turns(state, b"w00w10w20w30w40w50w60w70", 15);
+    turns(state, b"w70", 136);
 }
 
 /// Every field of a record goes into a sum.
@@ -118,6 +125,13 @@ fn collected(state: &mut Network, saved: &Network, collects: bool) -> u64 {
     removed as u64 + black_box(&*state).sites as u64
 }
 
+/// A copy of a state, and its round.
+fn rounded(state: &mut Network, saved: &Network) -> u64 {
+    state.clone_from(black_box(saved));
+    let epoch = state.round().unwrap_or(0);
+    epoch as u64 + black_box(&*state).sites as u64
+}
+
 fn once(letter: &str, state: &mut Network, saved: &Network, buffer: &mut [u8]) -> u64 {
     match letter {
         "e" => almost_empty(state),
@@ -130,6 +144,7 @@ fn once(letter: &str, state: &mut Network, saved: &Network, buffer: &mut [u8]) -
         },
         "c" | "C" => collected(state, saved, true),
         "m" => collected(state, saved, false),
+        "g" => rounded(state, saved),
         "x" => black_box(&*state).export(buffer).unwrap_or(0) as u64,
         "k" => file::read(black_box(&*buffer)).map_or(0, |f| f.records as u64),
         "r" => file::read(black_box(&*buffer)).map_or(0, |f| f.records().map(|r| digest(black_box(&r))).sum()),
@@ -155,7 +170,10 @@ fn main() {
         println!("{}", full(&mut state));
         return;
     };
-    season(&mut state, letter == "C");
+    match letter.as_str() {
+        "g" => unheard(&mut state),
+        _ => season(&mut state, letter == "C"),
+    }
     let saved = state.clone();
     fill(&mut state);
     let mut buffer = [0u8; file::LONGEST];

@@ -154,6 +154,29 @@ impl Network {
         answered(number, || removed)
     }
 
+    /// Lets every site hear: every site without parents gets an epoch one above the greatest at any site; then, in the order of places, all lines into a site are delivered,
+    /// it schedules until refused, and it sends a dummy. It answers the new epoch. In a state that calls led to from a set-up every commit made before it is applied at all
+    /// its copies then. 6; 13 where a line holds 16 messages, 14 where a site's own count is at its largest, 16 where the greatest epoch is 4,294,967,295.
+    ///
+    /// ```
+    /// # use gevrolen::{Network, Operation};
+    /// # fn main() -> Result<(), gevrolen::Refusal> {
+    /// let mut network = Network::new();
+    /// network.set_up(3, 2, &[0, 1], &[0b110, 0b100])?;
+    /// network.commit(0, &[Operation::write(0, 5)])?;
+    /// network.commit(1, &[Operation::write(1, 7)])?;
+    /// assert_eq!(network.round()?, 1);
+    /// assert_eq!(network.table(2)?, [5, 7]);
+    /// assert_eq!(network.collect()?, 2); // a collect straight after it removes all
+    /// # Ok(())
+    /// # }
+    /// ```
+    pub fn round(&mut self) -> Result<u32, Refusal> {
+        let mut epoch = 0;
+        let number = unsafe { raw::gevrolen_round(&mut *self.words, &mut epoch) };
+        answered(number, || epoch)
+    }
+
     /// The items that messages on the lines into a site write, arrived or not, and that it has a copy of, each once: by the timestamp of the earliest of the messages that
     /// write the item, those of equal timestamps by number. 6, 7.
     ///

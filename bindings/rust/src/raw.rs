@@ -135,6 +135,7 @@ extern "C" {
     pub fn gevrolen_deliver(state: *mut State, parent: u32, child: u32) -> u32;
     pub fn gevrolen_schedule(state: *mut State, site: u32, answer: *mut Scheduled) -> u32;
     pub fn gevrolen_collect(state: *mut State, removed: *mut u32) -> u32;
+    pub fn gevrolen_round(state: *mut State, epoch: *mut u32) -> u32;
     pub fn gevrolen_waiting(state: *const State, site: u32, answer: *mut Report) -> u32;
     pub fn gevrolen_table(state: *const State, site: u32, answer: *mut Table) -> u32;
     pub fn gevrolen_stamp(state: *const State, site: u32, answer: *mut Stamp) -> u32;

@@ -141,7 +141,9 @@ fn full_lines_and_histories() {
     for _ in 0..gevrolen::MESSAGES {
         network.dummy(0).unwrap();
     }
-    assert_eq!(network.dummy(0), Err(Refusal::LineFull));
+    let before = network.clone();
+    assert_eq!((network.dummy(0), network.round()), (Err(Refusal::LineFull), Err(Refusal::LineFull)));
+    assert_eq!(network.as_words(), before.as_words());
     for _ in 0..gevrolen::RECORDS {
         network.commit(1, &[Operation::read(1)]).unwrap();
     }
@@ -164,6 +166,7 @@ fn saved_and_loaded() {
     assert_eq!(Network::from_words(&words).waiting(2), Err(Refusal::NoState));
     assert_eq!(Network::from_words(&words).places(), Err(Refusal::NoState));
     assert_eq!(Network::from_words(&words).collect(), Err(Refusal::NoState));
+    assert_eq!(Network::from_words(&words).round(), Err(Refusal::NoState));
     assert_eq!(Network::from_words(&words).base(), Err(Refusal::NoState));
     assert_eq!(Network::from_words(&[u32::MAX; WORDS]).export(), Err(Refusal::NoState));
 }
@@ -283,6 +286,30 @@ fn copies_at_lower_sites() {
     let before = network.clone();
     assert_eq!(network.set_up(3, 3, &[0, 1, 2], &[2, 4, 1]), Err(Refusal::Cycle));
     assert_eq!(network.set_up(3, 3, &[0, 1, 2], &[2, 1, 4]), Err(Refusal::WrongMask));
+    assert_eq!(network.as_words(), before.as_words());
+}
+
+/// Four sites with places 2 0 3 1: after a round every copy has every commit, in the order of places, and a collect removes all.
+#[test]
+fn every_house_heard() {
+    let mut network = Network::new();
+    network.set_up(4, 2, &[3, 0], &[5, 4]).unwrap();
+    network.epoch(1, 4).unwrap();
+    network.commit(3, &[Operation::write(0, 5)]).unwrap();
+    network.commit(0, &[Operation::read(0), Operation::write(1, 7)]).unwrap();
+    network.deliver(3, 2).unwrap();
+    assert_eq!(network.round(), Ok(5));
+    assert_eq!([0, 1, 2, 3].map(|site| network.stamp(site).unwrap().to_string()), ["5 3.2,0.2", "5 1.1", "5 3.2,2.1", "5 3.2"]);
+    assert_eq!([0, 1, 2, 3].map(|site| network.table(site).unwrap()), [[5, 7], [0, 0], [5, 7], [5, 0]]);
+    let lines = [(3, 0), (3, 2), (0, 2)].map(|(parent, child)| network.line(parent, child).unwrap());
+    assert_eq!(lines.map(|line| (line.held, line.arrived)), [(0, 0), (0, 0), (1, 1)]);
+    assert_eq!(network.collect(), Ok(2));
+    assert_eq!(network.base(), Ok(Base { folded: true, values: vec![5, 7] }));
+    assert_eq!(network.round(), Ok(6));
+    // the greatest epoch is the last one there is
+    network.epoch(1, u32::MAX).unwrap();
+    let before = network.clone();
+    assert_eq!(network.round(), Err(Refusal::EpochNotAbove));
     assert_eq!(network.as_words(), before.as_words());
 }
 

@@ -10,8 +10,9 @@ ghost use Rattle.timestamp_order.specs.Order.{rank, orderBy};
 ghost use Rattle.timestamp_order.specs.Parting.{parting};
 ghost use Rattle.protocol.specs.Network.{noStamp};
 ghost use Rattle.protocol.specs.Questions.{waiting as waitingOf, table as tableOf, stamp as stampOf, line as lineOf, origin, places as placesQuestion, base as baseQuestion};
-ghost use Rattle.protocol.specs.Calls.{setUp, commit, dummy, epoch, deliver, schedule, collect, ask};
+ghost use Rattle.protocol.specs.Calls.{setUp, commit, dummy, epoch, deliver, schedule, collect, round, ask};
 ghost use Rattle.protocol.specs.Collect.{removedBy};
+ghost use Rattle.protocol.specs.Round.{epochBy};
 ghost use Rattle.network_layout.specs.InWords.{meaning};
 ghost use Rattle.network_layout.specs.Promises.{Performed};
 ghost use Rattle.network_operations.specs.Gathered.{operationsCall};
@@ -126,6 +127,15 @@ pub extern "C" fn gevrolen_collect(state: &mut [u32; WORDS], removed: &mut u32) 
 {
     let given = network::collect(state);
     *removed = given.removed;
+    given.number
+}
+
+#[no_mangle]
+pub extern "C" fn gevrolen_round(state: &mut [u32; WORDS], raised: &mut u32) -> u32
+    ensures { λ r. ⌜ Performed round (now (state .entry)) (now (state .exit)) r 0 noStamp [] × (now (raised .exit) ≡ epochBy (meaning (now (state .entry)))) ⌝ }
+{
+    let given = network::round(state);
+    *raised = given.epoch;
     given.number
 }
 

@@ -76,6 +76,10 @@ module _ {A : Type 0} where
     keep-none [] h = refl
     keep-none (x ∷ xs) h = rw (h .0) (keep-none xs (h .1))
 
+    pub keep-all : (xs : List A) → Each (λ x. p x ≡ true) xs → keep p xs ≡ xs
+    keep-all [] h = refl
+    keep-all (x ∷ xs) h = rw (h .0) (ap {B = List A} (λ ys. x ∷ ys) (keep-all xs (h .1)))
+
     pub keep-turn : (q : A → Bool) (xs : List A) → keep p (keep q xs) ≡ keep q (keep p xs)
     keep-turn q [] = refl
     keep-turn q (x ∷ xs) = go (p x) refl (q x) refl (keep-turn q xs)
@@ -138,7 +142,12 @@ pub any-same : {A : Type 0} (p q : A → Bool) (xs : List A) → Each (λ x. p x
 any-same p q [] h = refl
 any-same p q (x ∷ xs) h = ap₂ (λ (a b : Bool). a || b) (h .0) (any-same p q xs (h .1))
 
--- none of what a function gives passes a test
+-- none passes a test
+pub none-each : {A : Type 0} (p : A → Bool) (xs : List A) → Each (λ x. p x ≡ false) xs → any p xs ≡ false
+none-each p [] h = refl
+none-each p (x ∷ xs) h = rw (h .0) (none-each p xs (h .1))
+
+-- none of what a function gives does
 pub map-none : {A B : Type 0} (f : A → B) (p : B → Bool) (xs : List A) → Each (λ x. p (f x) ≡ false) xs → any p (map f xs) ≡ false
 map-none f p [] h = refl
 map-none f p (x ∷ xs) h = rw (h .0) (map-none f p xs (h .1))

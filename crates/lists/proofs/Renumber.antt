@@ -26,6 +26,10 @@ pub count-same : (p q : ℕ → Bool) (k : ℕ) → ((i : ℕ) → i < k → p i
 count-same p q zero f = refl
 count-same p q (suc k) f = rw (f k (omega arith), count-same p q k (λ i h. f i (omega arith)))
 
+pub count-all : (p : ℕ → Bool) (k : ℕ) → ((i : ℕ) → i < k → p i ≡ true) → countBelow p k ≡ k
+count-all p zero f = refl
+count-all p (suc k) f = rw (f k (omega arith)) (omega (arith, count-all p k (λ i h. f i (omega arith))))
+
 -- those that pass and the others are all
 pub count-both : (p : ℕ → Bool) (k : ℕ) → countBelow p k + countBelow (λ i. not (p i)) k ≡ k
 count-both p zero = refl

@@ -112,6 +112,10 @@ none-below f (suc k) c e h = go (ltb c k) refl (none-below f k c (or-false (f k)
     go true t rest = rest (ltb-true c k t)
     go false t rest = let same : c ≡ k = omega (arith, ltb-false c k t) in ap f same ∙ or-false (f k) (someBelow f k) e .0
 
+pub none-all : (f : ℕ → Bool) (k : ℕ) → ((c : ℕ) → c < k → f c ≡ false) → someBelow f k ≡ false
+none-all f zero h = refl
+none-all f (suc k) h = rw (h k (omega arith)) (none-all f k (λ c l. h c (omega arith)))
+
 -- ---- where some element passes, those that pass are not none; where none does, they are
 pub some-kept : {A : Type 0} (p : A → Bool) (xs : List A) → any p xs ≡ true → 0 < length (keep p xs)
 some-kept p [] e = absurd (false≢true e)

@@ -15,8 +15,9 @@ use Rattle.protocol.specs.Network.{Network, noStamp, siteAt}
 use Rattle.site_operations.specs.Operations.{valuesRead}
 use Rattle.protocol.specs.Steps.{setUpNumber, setUpNetwork, opsOf, recordOf, commitNumber, commitNetwork, dummyNumber, dummyNetwork, epochNumber, epochNetwork, deliverNumber, deliverNetwork, scheduleNumber, headStamp, chosen, scheduleNetwork}
 use Rattle.protocol.specs.Collect.{collectNumber, collectNetwork}
+use Rattle.protocol.specs.Round.{roundNumber, roundNetwork}
 use Rattle.protocol.specs.Questions.{questionNumber}
-use Rattle.protocol.specs.Calls.{Call, setUp, commit, dummy, epoch, deliver, schedule, collect, ask, Outcome, refused, accepted, judged, perform}
+use Rattle.protocol.specs.Calls.{Call, setUp, commit, dummy, epoch, deliver, schedule, collect, round, ask, Outcome, refused, accepted, judged, perform}
 use Rattle.network_layout.specs.declared.Committed.{Committed}
 use Rattle.network_layout.specs.declared.Dummied.{Dummied}
 use Rattle.network_layout.specs.declared.Scheduled.{Scheduled}
@@ -41,6 +42,7 @@ performs-refusal none (epoch i e) h = refl
 performs-refusal none (deliver p c) h = refl
 performs-refusal none (schedule j) h = refl
 performs-refusal none collect h = refl
+performs-refusal none round h = refl
 performs-refusal none (ask q) h = refl
 performs-refusal (some n) (commit i ks is vs) h =
     let os = opsOf ks is vs in
@@ -50,6 +52,7 @@ performs-refusal (some n) (epoch i e) h = judged-refused (epochNumber n i e) (so
 performs-refusal (some n) (deliver p c) h = judged-refused (deliverNumber n p c) (some n) (accepted 0 noStamp [] (deliverNetwork n p c)) refl h
 performs-refusal (some n) (schedule j) h = judged-refused (scheduleNumber n j) (some n) (accepted (chosen n j) (headStamp n (chosen n j) j) [] (scheduleNetwork n j)) refl h
 performs-refusal (some n) collect h = judged-refused (collectNumber n) (some n) (accepted 0 noStamp [] (collectNetwork n)) refl h
+performs-refusal (some n) round h = judged-refused (roundNumber n) (some n) (accepted 0 noStamp [] (roundNetwork n)) refl h
 performs-refusal (some n) (ask q) h = judged-refused (questionNumber n q) (some n) (accepted 0 noStamp [] n) refl h
 
 module _ (entry exit : List ℕ) where

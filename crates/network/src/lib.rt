@@ -1,4 +1,4 @@
-// A network of sites in one lent array of words: set-up, commit, dummy, epoch, deliver, schedule, collect, waiting report, readers, the order of the sites, the base, the origin of a read; and what else is read of a state.
+// A network of sites in one lent array of words: set-up, commit, dummy, epoch, deliver, schedule, collect, round, waiting report, readers, the order of the sites, the base, the origin of a read; and what else is read of a state.
 pub use network_base::base;
 pub use network_collect::collect;
 pub use network_commit::commit;
@@ -15,6 +15,7 @@ pub use network_layout::Operation;
 pub use network_layout::Ordered;
 pub use network_layout::Origin;
 pub use network_layout::Report;
+pub use network_layout::Rounded;
 pub use network_layout::Scheduled;
 pub use network_layout::Stamped;
 pub use network_layout::Tabled;
@@ -26,6 +27,7 @@ pub use network_origin::origin;
 pub use network_readers::line;
 pub use network_readers::stamp;
 pub use network_readers::table;
+pub use network_round::round;
 pub use network_schedule::schedule;
 pub use network_set_up::set_up;
 pub use network_state::holdings;

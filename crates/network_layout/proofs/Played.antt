@@ -8,10 +8,11 @@ use Rattle.protocol.specs.Network.{Network}
 use Rattle.protocol.specs.Calls.{Call, setUp, Outcome, perform}
 use Rattle.network_layout.specs.InWords.{inRange, shaped, meaning}
 use Rattle.network_layout.specs.Promises.{Performed}
-use Rattle.protocol.specs.Agreement.{Known, nothingKnown, witnessed, learnedAll, Always, Agreement, AgreedOrUnset, OneCopyAgreement, FromNothing, No6, Never6, LaterStay, NoneAtOrBefore, KeptRuns, KeptRun}
+use Rattle.protocol.specs.Agreement.{Known, nothingKnown, witnessed, learnedAll, Always, Agreement, AgreedOrUnset, OneCopyAgreement, FromNothing, No6, Never6, LaterStay, NoneAtOrBefore, KeptRuns, KeptRun, RoundCounts, RoundIsItsCalls, RoundApplies, RoundReaches}
 use Rattle.network_layout.specs.Played.{Event, Played, seenOf, witnessedAll, leftAfter, PlayedAlways, PlayedAgreement, PlayedBeside, PlayedFromNothing}
 use Rattle.protocol.proofs.Theorem.{one-copy-agreement, kept-run}
 use Rattle.protocol.proofs.Beside.{from-nothing, never-6, none-at-or-before}
+use Rattle.protocol.proofs.Applied.{round-is-its-calls, round-reaches}
 use Rattle.network_layout.specs.Layout.{stateSize}
 
 abbrev calls : List Event → List Call
@@ -42,12 +43,14 @@ unfolding OneCopyAgreement PlayedAgreement
 one-copy-played = played-always Agreement one-copy-agreement
 
 pub beside-played : PlayedBeside
-unfolding Never6 NoneAtOrBefore KeptRun
+unfolding Never6 NoneAtOrBefore KeptRun RoundIsItsCalls RoundReaches
 beside-played =
     record {
       never-6 = played-always No6 never-6;
       none-at-or-before = played-always LaterStay none-at-or-before;
       kept-run = played-always KeptRuns kept-run;
+      round-is-its-calls = played-always RoundCounts round-is-its-calls;
+      round-reaches = played-always RoundApplies round-reaches;
     }
 
 -- the state that is known then is what the words left mean

@@ -8,7 +8,7 @@ use Rattle.timestamp_order.specs.Timestamp.{Stamp}
 use Rattle.protocol.specs.Calls.{Call, setUp, Outcome}
 use Rattle.network_layout.specs.InWords.{meaning}
 use Rattle.network_layout.specs.Promises.{Performed}
-use Rattle.protocol.specs.Agreement.{Known, nothingKnown, witnessed, Agreement, AgreedOrUnset, No6, LaterStay, KeptRuns}
+use Rattle.protocol.specs.Agreement.{Known, nothingKnown, witnessed, Agreement, AgreedOrUnset, No6, LaterStay, KeptRuns, RoundCounts, RoundApplies}
 
 -- a call, its answer, and the words of the state after it
 pub record Event : Type 0 where
@@ -46,11 +46,13 @@ PlayedAlways holdsOf =
 unfoldable pub PlayedAgreement : Type 0
 PlayedAgreement = PlayedAlways Agreement
 
--- and beside it: no refusal with 6, no later commit at or before a point, the run over the commits kept
+-- and beside it: no refusal with 6, no later commit at or before a point, the run over the commits kept, what a round counts as and reaches
 pub record PlayedBeside : Type 0 where
   pub never-6 : PlayedAlways No6
   pub none-at-or-before : PlayedAlways LaterStay
   pub kept-run : PlayedAlways KeptRuns
+  pub round-is-its-calls : PlayedAlways RoundCounts
+  pub round-reaches : PlayedAlways RoundApplies
 
 -- for all words that mean no network, words of zeros among them, and all calls that the code answers
 unfoldable pub PlayedFromNothing : Type 0

@@ -80,6 +80,12 @@ pub struct Collected {
     pub removed: u32,
 }
 
+// What a round answers: its number, and the new epoch; 0 where refused.
+pub struct Rounded {
+    pub number: u32,
+    pub epoch: u32,
+}
+
 // What the base answers: its number, whether a collect has removed a record since set-up, and a value for each of `count` items; all zero where refused.
 pub struct Based {
     pub number: u32,

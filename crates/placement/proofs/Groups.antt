@@ -1,4 +1,4 @@
--- The places of a group's sites are those of the group alone, every other number is its own place, and so is every site where lines only go to higher numbers.
+-- The places of a group's sites are those of the group alone, every other number is its own place, and so is every site where lines only go to higher numbers; the first site that has a place stands there in the order.
 use mathlib.Core.Path.{_≡_, refl, sym, ap, _∙_}
 use mathlib.Core.Bool.{Bool, true, false, not, cond, _&&_, _||_, false≢true, true≢false}
 use mathlib.Core.List.{List, [], _∷_, _++_, map}
@@ -6,21 +6,18 @@ use Prim.Native.Nat.{ℕ, zero, suc, _+_, _-_, _≤_, _<_}
 use native.Mathlib.Omega.{arith}
 use lib.ListN.{length, getD, length-append}
 use lib.Dec.{eqb, ltb}
-use borrow.Author.Tests.{eqb-true, eqb-false, ne-eqb, ltb-true, ltb-false}
+use borrow.Author.Tests.{eqb-true, eqb-false, eq-eqb, ne-eqb, ltb-true, ltb-false}
 use Rattle.limits.specs.Limits.{sitesMost}
 use Rattle.lists.specs.Lists.{someBelow, beforeFirst, upTo}
+use Rattle.lists.proofs.Some.{none-all}
 use Rattle.lists.proofs.Numbers.{or-false}
 use Rattle.placement.specs.Placement.{Item, itemsNumber, isLine}
-use Rattle.placement.specs.Places.{isPlaced, waits, isNext, siteOrder, orderFrom, placeIn, placesOf, placeOf, cyclic, GroupPlaces, NumbersStay}
+use Rattle.placement.specs.Places.{isPlaced, waits, isNext, firstFrom, siteOrder, orderFrom, placeIn, placesOf, placeOf, cyclic, GroupPlaces, NumbersStay}
 use Rattle.placement.proofs.Laws.{line-sites}
-use Rattle.placement.proofs.Places.{standsAt, stands, place-stands, Steps, order-steps, steps-order, order-length, numbers-length, eight, place-past, all-placed, place-is, place-small, placement-parts}
+use Rattle.placement.proofs.Places.{first-is, standsAt, stands, place-stands, next-parts, Steps, order-steps, steps-order, order-length, numbers-length, eight, place-past, all-placed, place-is, place-small, placement-parts}
 use Rattle.placement.proofs.Cycles.{twice, or-turn, free-cycle, cyclic-means-cycle}
 
 -- ---- tests that no number passes
-none-all : (f : ℕ → Bool) (k : ℕ) → ((c : ℕ) → c < k → f c ≡ false) → someBelow f k ≡ false
-none-all f zero h = refl
-none-all f (suc k) h = rw (h k (omega arith)) (none-all f k (λ c l. h c (omega arith)))
-
 none-more : (f : ℕ → Bool) (k m : ℕ) → k ≤ m → ((c : ℕ) → k ≤ c → f c ≡ false) → someBelow f k ≡ someBelow f m
 none-more f k zero h none = let same : k ≡ 0 = omega arith in ap (someBelow f) same
 none-more f k (suc m) h none = go (ltb m k) refl (none-more f k m)
@@ -55,7 +52,7 @@ module _ (k : ℕ) where
 -- ---- steps
 module _ (n : ℕ) (line : ℕ → ℕ → Bool) where
   -- they place numbers below n only
-  steps-below : (c : ℕ) (placed cs : List ℕ) → Steps n line placed cs → n ≤ c → isPlaced cs c ≡ false
+  pub steps-below : (c : ℕ) (placed cs : List ℕ) → Steps n line placed cs → n ≤ c → isPlaced cs c ≡ false
   steps-below c placed [] s h = refl
   steps-below c placed (d ∷ ds) s h = rw (ne-eqb d c (λ e. omega (arith, s .0))) (steps-below c (d ∷ placed) ds (s .3) h)
 
@@ -90,6 +87,16 @@ module _ (n : ℕ) (line : ℕ → ℕ → Bool) where
           go : (b : Bool) → eqb a j ≡ b → (b || isPlaced placed j) ≡ true
           go true t = refl
           go false t = let other = eqb-false a j t in low j (omega arith)
+
+  -- each of them is below n, is not placed before, and stands where it is first
+  steps-alone : (placed cs : List ℕ) → Steps n line placed cs → (k : ℕ) → k < length cs → let c = getD cs k 0 in (c < n) × (isPlaced placed c ≡ false) × (standsAt cs c ≡ k)
+  steps-alone placed [] s k h = absurd (omega arith)
+  steps-alone placed (d ∷ ds) s zero h = (s .0, next-parts n line placed d (s .1) .0, rw (eq-eqb d d refl))
+  steps-alone placed (d ∷ ds) s (suc k) h =
+      let r = steps-alone (d ∷ placed) ds (s .3) k (omega arith) in
+      let c = getD ds k 0 in
+      let q = or-false (eqb d c) (isPlaced placed c) (r .1) in
+      (r .0, q .1, rw (q .0) (ap suc (r .2)))
 
   -- ---- where each is placed, the order is as long as there are numbers
   module _ (full : (c : ℕ) → c < n → isPlaced (siteOrder n line) c ≡ true) where
@@ -160,7 +167,7 @@ module _ (sites : ℕ) (xs : List Item) (few : sites ≤ sitesMost) (sound : ite
   abbrev group : List ℕ
   group = siteOrder sites (isLine xs)
 
-  group-placed : (k : ℕ) → k < sites → isPlaced group k ≡ true
+  pub group-placed : (k : ℕ) → k < sites → isPlaced group k ≡ true
   group-placed k h = go (isPlaced group k) refl
     where
       go : (b : Bool) → isPlaced group k ≡ b → isPlaced group k ≡ true
@@ -195,6 +202,20 @@ module _ (sites : ℕ) (xs : List Item) (few : sites ≤ sitesMost) (sound : ite
       go true p false q = let past = ltb-false k sitesMost q in absurd (omega (arith, place-small xs fine j (ltb-true j sitesMost p), place-past xs k (omega arith)))
       go false p true q = let past = ltb-false j sitesMost p in absurd (omega (arith, place-small xs fine k (ltb-true k sitesMost q), place-past xs j (omega arith)))
       go false p false q = omega (arith, place-past xs j (omega (arith, ltb-false j sitesMost p)), place-past xs k (omega (arith, ltb-false k sitesMost q)))
+
+  -- ---- the site at a place of the group's order
+  pub order-full : length group ≡ sites
+  order-full = full-length sites (isLine xs) group-placed
+
+  pub order-at : (k : ℕ) → k < sites → (getD group k 0 < sites) × (firstFrom (λ i. eqb (placeOf xs i) k) 0 sitesMost ≡ getD group k 0)
+  order-at k h =
+      let c = getD group k 0 in
+      let alone = steps-alone sites (isLine xs) [] group (order-steps sites (isLine xs) [] sites) k (omega (arith, order-full)) in
+      let here : placeOf xs c ≡ k = own-place c (alone .0) ∙ alone .2 in (
+        alone .0,
+        first-is (λ i. eqb (placeOf xs i) k) 0 sitesMost c (omega arith) (omega (arith, alone .0)) (eq-eqb (placeOf xs c) k here)
+            (λ j l m. ne-eqb (placeOf xs j) k (λ e. let same = places-apart j c (e ∙ sym here) in omega (arith, same))),
+      )
 
 pub group-places : GroupPlaces
 group-places sites xs few e =

@@ -61,6 +61,24 @@ stands (x ∷ xs) k e = go (eqb x k) refl e (stands xs k)
     go true t f rest = (omega arith, eqb-true x k t)
     go false t f rest = let r = rest f in (omega (arith, r .0), r .1)
 
+-- ---- numbers in turn, from a on
+module _ (q : ℕ) where
+  pub numbers-placed : (a k : ℕ) → a ≤ q → q < a + k → isPlaced (upTo a k) q ≡ true
+  numbers-placed a zero h l = absurd (omega arith)
+  numbers-placed a (suc k) h l = go (eqb a q) refl (numbers-placed (suc a) k)
+    where
+      go : (b : Bool) → eqb a q ≡ b → (suc a ≤ q → q < suc a + k → isPlaced (upTo (suc a) k) q ≡ true) → (b || isPlaced (upTo (suc a) k) q) ≡ true
+      go true e rest = refl
+      go false e rest = let other = eqb-false a q e in rest (omega arith) (omega arith)
+
+  pub numbers-within : (a k : ℕ) → isPlaced (upTo a k) q ≡ true → (a ≤ q) × (q < a + k)
+  numbers-within a zero e = absurd (false≢true e)
+  numbers-within a (suc k) e = go (eqb a q) refl e (numbers-within (suc a) k)
+    where
+      go : (b : Bool) → eqb a q ≡ b → (b || isPlaced (upTo (suc a) k) q) ≡ true → (isPlaced (upTo (suc a) k) q ≡ true → (suc a ≤ q) × (q < suc a + k)) → (a ≤ q) × (q < a + suc k)
+      go true f h rest = (omega (arith, eqb-true a q f), omega (arith, eqb-true a q f))
+      go false f h rest = let r = rest h in (omega (arith, r .0), omega (arith, r .1))
+
 pub place-stands : (o : List ℕ) (k : ℕ) → isPlaced o k ≡ true → placeIn o k ≡ standsAt o k
 place-stands o k e = rw e
 
@@ -108,7 +126,7 @@ module _ (n : ℕ) (line : ℕ → ℕ → Bool) where
 
   -- ---- a parent that is not placed before stands earlier in the list
   module _ (p c : ℕ) (parent : p < n) (goes : line p c ≡ true) where
-    parent-placed : (placed : List ℕ) → waits n line placed c ≡ false → isPlaced placed p ≡ true
+    pub parent-placed : (placed : List ℕ) → waits n line placed c ≡ false → isPlaced placed p ≡ true
     parent-placed placed e =
         flip-false _ (isPlaced placed p) refl
         (ap (λ (b : Bool). b && not (isPlaced placed p)) (sym goes) ∙ none-below (λ q. line q c && not (isPlaced placed q)) n p e parent)

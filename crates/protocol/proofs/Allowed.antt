@@ -1,4 +1,4 @@
--- A step whose number is 0: no cause refuses it, and what that says, once for each step.
+-- A step whose number is 0: no cause refuses it, and what that says, once for each step, both ways.
 use mathlib.Core.Path.{_≡_}
 use mathlib.Core.Bool.{Bool, true, false, not, _&&_, _||_, false≢true}
 use mathlib.Core.List.{List, [], _∷_, map}
@@ -7,7 +7,7 @@ use native.Mathlib.Omega.{arith}
 use lib.IntN.{ℤ}
 use lib.ListN.{length, getD}
 use lib.Dec.{eqb, ltb, leb}
-use borrow.Author.Tests.{leb-false, ltb-false, eqb-true, not-false}
+use borrow.Author.Tests.{leb-false, lt-leb, ltb-false, eqb-true, not-false}
 use Rattle.limits.specs.Limits.{sitesMost, itemsMost, opsMost, recordsMost}
 use Rattle.lists.specs.Lists.{someBelow}
 use Rattle.lists.specs.Numbers.{firstNumber, numberIf, outside}
@@ -180,3 +180,22 @@ module _ (n : Network) where
         parents = not-false (hasParents (n .items) j) (b .0);
         all-arrived = none-holds waits 19 [] (b .1) .0;
       }
+
+  -- ---- and the other way: what is allowed has number 0
+  pub allowed-dummy : (i : ℕ) → DummyAllowed n i → dummyNumber n i ≡ 0
+  unfolding dummyNumber
+  allowed-dummy i ok = rw (lt-leb (length (n .sites)) i (ok .there), ok .lines-free, ok .count-free)
+
+  pub allowed-epoch : (i e : ℕ) → EpochAllowed n i e → epochNumber n i e ≡ 0
+  unfolding epochNumber
+  allowed-epoch i e ok = rw (lt-leb (length (n .sites)) i (ok .there), ok .orphan, lt-leb e (siteAt n i .stamp .epoch) (ok .newer))
+
+  pub allowed-deliver : (p c : ℕ) → DeliverAllowed n p c → deliverNumber n p c ≡ 0
+  unfolding deliverNumber
+  allowed-deliver p c ok =
+      let l = lineAt n p c in
+      rw (lt-leb (length (n .sites)) p (ok .parent), lt-leb (length (n .sites)) c (ok .child), ok .line, lt-leb (length (l .messages)) (l .arrived) (ok .on-way))
+
+  pub allowed-schedule : (j : ℕ) → ScheduleAllowed n j → scheduleNumber n j ≡ 0
+  unfolding scheduleNumber
+  allowed-schedule j ok = rw (lt-leb (length (n .sites)) j (ok .there), ok .parents, ok .all-arrived)

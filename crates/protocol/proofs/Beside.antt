@@ -14,18 +14,20 @@ use Rattle.site_operations.specs.Operations.{Op, reads, writes}
 use Rattle.placement.specs.Placement.{Item, owns, copies, isLine, hasParents}
 use Rattle.placement.specs.Places.{cyclic, placementNumber}
 use Rattle.lists.specs.Numbers.{numberIf, outside}
-use Rattle.limits.specs.Limits.{sitesMost, itemsMost, recordsMost}
-use Rattle.timestamp_order.specs.Timestamp.{Stamp}
+use Rattle.limits.specs.Limits.{sitesMost, itemsMost, heldMost, recordsMost}
+use Rattle.timestamp_order.specs.Timestamp.{Stamp, greatest}
 use Rattle.timestamp_order.specs.Order.{IsEarlier, NotLater}
+use Rattle.lines.specs.Lines.{Line}
 use Rattle.records.specs.Records.{Record}
-use Rattle.protocol.specs.Network.{Network, noRecord, recordAt, placeOf, siteAt, lineAt}
+use Rattle.protocol.specs.Network.{Network, noRecord, recordAt, placeOf, siteAt, siteStamps, lineAt}
 use Rattle.protocol.specs.Steps.{itemsOf, noSuchSite, countAtMost, someLineFull, opsOf, opNumber, due, wrongLists, setUpNumber, commitNumber, dummyNumber, epochNumber, deliverNumber, scheduleNumber}
-use Rattle.lists.specs.Lists.{someBelow}
+use Rattle.lists.specs.Lists.{any, someBelow}
 use Rattle.protocol.specs.Questions.{Question, waiting, table, stamp, line, origin, places, base, noSuchRead, askedSite, questionNumber}
 use Rattle.protocol.specs.Collect.{collectNumber}
-use Rattle.protocol.specs.Calls.{Call, setUp, commit, dummy, epoch, deliver, schedule, collect, ask, refused, perform}
+use Rattle.protocol.specs.Round.{greatestEpoch, roundNumber}
+use Rattle.protocol.specs.Calls.{Call, setUp, commit, dummy, epoch, deliver, schedule, collect, round, ask, refused, perform}
 use Rattle.protocol.specs.Book.{bookStamp}
-use Rattle.protocol.specs.Agreement.{Known, nothingKnown, isRemoved, witnessed, learned, learnedAll, bookPlace, bookPoint, OneCopyAgreement, AgreedOrUnset, FromNothing, StampsDiffer, Never6, NoSetUp, NoneAtOrBefore}
+use Rattle.protocol.specs.Agreement.{Known, nothingKnown, isRemoved, callsOf, witnessedAlone, learnedEach, learned, learnedAll, bookPlace, bookPoint, OneCopyAgreement, AgreedOrUnset, FromNothing, StampsDiffer, Never6, NoSetUp, NoneAtOrBefore}
 use Rattle.protocol.proofs.Causes.{Not, either-not, first-not, when-not, all-not, items-not}
 use Rattle.protocol.proofs.Times.{Times, times}
 use Rattle.protocol.proofs.Added.{added-each}
@@ -111,6 +113,12 @@ module _ (n : Network) where
       when-not6 (noSuchSite n j) 7 refl
       (when-not6 (not (hasParents (n .items) j)) 19 refl (when-not6 (someBelow (λ p. isLine (n .items) p j && eqb (lineAt n p j .arrived) 0) sitesMost) 20 refl zero-not6))
 
+  round-not6 : Not6 (roundNumber n)
+  unfolding roundNumber
+  round-not6 =
+      when-not6 (any (λ (l : Line). leb heldMost (length (l .messages))) (n .lines)) 13 refl
+      (when-not6 (someBelow (countAtMost n) (length (n .sites))) 14 refl (when-not6 (leb greatest (greatestEpoch (siteStamps n))) 16 refl zero-not6))
+
   site-not6 : (i : ℕ) → Not6 (askedSite n i)
   site-not6 i = either-not (noSuchSite n i) (record { differs = refl }) zero-not6
 
@@ -134,6 +142,7 @@ module _ (n : Network) where
   call-not6 z (deliver p c) = by-number (deliverNumber n p c) (λ e. rw e zero-not6) (λ e. rw e (deliver-not6 p c))
   call-not6 z (schedule j) = by-number (scheduleNumber n j) (λ e. rw e zero-not6) (λ e. rw e (schedule-not6 j))
   call-not6 z collect = rw z zero-not6
+  call-not6 z round = by-number (roundNumber n) (λ e. rw e zero-not6) (λ e. rw e round-not6)
   call-not6 z (ask q) = by-number (questionNumber n q) (λ e. rw e zero-not6) (λ e. rw e (question-not6 q))
 
 never : (k : Known) → Follows k → (c : Call) → perform (k .state) c .number ≡ 6 → ⊥
@@ -187,9 +196,9 @@ none-before k f calls unset m b l =
 
 -- ---- from no network on: a call is refused, and then still nothing is known, until a set-up is accepted
 module _ (c : Call) (cs : List Call) (rest : AgreedOrUnset (learnedAll (nothingKnown none) cs)) where
-  still-unset : (m : ℕ) → eqb m 0 ≡ false → perform none c ≡ refused m none → AgreedOrUnset (learnedAll (nothingKnown none) (c ∷ cs))
-  still-unset m e is =
-      let same : learned (nothingKnown none) c ≡ nothingKnown none = ap (witnessed (nothingKnown none) c) is ∙ rw e in
+  still-unset : (m : ℕ) → eqb m 0 ≡ false → perform none c ≡ refused m none → callsOf none c ≡ [] → AgreedOrUnset (learnedAll (nothingKnown none) (c ∷ cs))
+  still-unset m e is alone =
+      let same : learned (nothingKnown none) c ≡ nothingKnown none = (λ i. witnessedAlone (learnedEach (nothingKnown none) (alone i)) c (is i)) ∙ rw e in
       subst (λ (k : Known). AgreedOrUnset (learnedAll k cs)) (sym same) rest
 
 from-nothing-on : (calls : List Call) → AgreedOrUnset (learnedAll (nothingKnown none) calls)
@@ -198,14 +207,15 @@ from-nothing-on [] = inl refl
 from-nothing-on (setUp sites items ps ms ∷ cs) =
     by-number (setUpNumber sites items ps ms)
     (λ e. inr (one-copy-agreement none sites items ps ms (rw e) cs))
-    (λ e. still-unset (setUp sites items ps ms) cs (from-nothing-on cs) (setUpNumber sites items ps ms) e (rw e))
-from-nothing-on (commit i ks is vs ∷ cs) = still-unset (commit i ks is vs) cs (from-nothing-on cs) 6 refl refl
-from-nothing-on (dummy i ∷ cs) = still-unset (dummy i) cs (from-nothing-on cs) 6 refl refl
-from-nothing-on (epoch i h ∷ cs) = still-unset (epoch i h) cs (from-nothing-on cs) 6 refl refl
-from-nothing-on (deliver p c ∷ cs) = still-unset (deliver p c) cs (from-nothing-on cs) 6 refl refl
-from-nothing-on (schedule j ∷ cs) = still-unset (schedule j) cs (from-nothing-on cs) 6 refl refl
-from-nothing-on (collect ∷ cs) = still-unset collect cs (from-nothing-on cs) 6 refl refl
-from-nothing-on (ask q ∷ cs) = still-unset (ask q) cs (from-nothing-on cs) 6 refl refl
+    (λ e. still-unset (setUp sites items ps ms) cs (from-nothing-on cs) (setUpNumber sites items ps ms) e (rw e) refl)
+from-nothing-on (commit i ks is vs ∷ cs) = still-unset (commit i ks is vs) cs (from-nothing-on cs) 6 refl refl refl
+from-nothing-on (dummy i ∷ cs) = still-unset (dummy i) cs (from-nothing-on cs) 6 refl refl refl
+from-nothing-on (epoch i h ∷ cs) = still-unset (epoch i h) cs (from-nothing-on cs) 6 refl refl refl
+from-nothing-on (deliver p c ∷ cs) = still-unset (deliver p c) cs (from-nothing-on cs) 6 refl refl refl
+from-nothing-on (schedule j ∷ cs) = still-unset (schedule j) cs (from-nothing-on cs) 6 refl refl refl
+from-nothing-on (collect ∷ cs) = still-unset collect cs (from-nothing-on cs) 6 refl refl refl
+from-nothing-on (round ∷ cs) = still-unset round cs (from-nothing-on cs) 6 refl refl refl
+from-nothing-on (ask q ∷ cs) = still-unset (ask q) cs (from-nothing-on cs) 6 refl refl refl
 
 pub from-nothing : FromNothing
 unfolding FromNothing

@@ -8,14 +8,14 @@ use lib.IntN.{pos}
 use lib.ListN.{length, getD, length-map, List·getD-eq-default}
 use Rattle.lists.specs.Lists.{any, someBelow, keep, upTo}
 use Rattle.lists.specs.Numbers.{numberIf}
-use Rattle.lists.proofs.Chains.{Each, each-implied, each-by, map-same, map-none}
+use Rattle.lists.proofs.Chains.{Each, each-implied, map-same, map-none}
 use Rattle.lists.proofs.Some.{some-below-same, some-below-or, some-marked}
 use Rattle.lists.proofs.Renumber.{count-same}
 use Rattle.lists.proofs.KeptFrom.{bothTests, count-twice, some-twice, kept-twice, each-from, kept-same, kept-by}
 use Rattle.timestamp_order.specs.Order.{orderBy, notLater}
 use Rattle.placement.proofs.Places.{numbers-length, table-at}
 use Rattle.messages.specs.Messages.{Message, commit, dummy}
-use Rattle.lines.specs.Lines.{Line, noLine}
+use Rattle.lines.specs.Lines.{Line}
 use Rattle.records.specs.Records.{Record}
 use Rattle.protocol.specs.Network.{Network, Base, noRecord, recordAt, nthRecord}
 use Rattle.protocol.specs.Run.{inTurn, isUpTo}
@@ -28,7 +28,7 @@ use Rattle.protocol.proofs.Times.{Times}
 use Rattle.protocol.proofs.Places.{placeAt, orderAt, UpTo, timesAt}
 use Rattle.protocol.proofs.Runs.{after-length, run-last}
 use Rattle.protocol.proofs.Invariant.{stampAt, Invariant, record-site}
-use Rattle.protocol.proofs.Stays.{Stays, stays}
+use Rattle.protocol.proofs.Stays.{Stays, each-stays}
 use Rattle.protocol.proofs.View.{view, Removed, record-view, history-view}
 use Rattle.protocol.proofs.FromBase.{from-base}
 use Rattle.protocol.proofs.Kept.{rise-view}
@@ -57,11 +57,7 @@ module _ (n : Network) (inv : Invariant n) (goes : ℕ → Bool) (base : Base) (
 
   -- so what holds of messages that name others holds of each of each line
   each-message : (P : Message → Type 0) → ((m : Message) → Stays (isPast n) h m → P m) → Each (λ (l : Line). Each P (l .messages)) (n .lines)
-  each-message P f =
-      each-by (λ (l : Line). Each P (l .messages)) (n .lines) noLine
-      (λ q near.
-      let ms = getD (n .lines) q noLine .messages in
-      each-by P ms (commit 0) (λ a l. f (getD ms a (commit 0)) (stays n inv (isPast n) (λ m b. past-settled m) q near a l)))
+  each-message P f = each-implied _ (λ (l : Line). Each P (l .messages)) (λ l. each-implied (Stays (isPast n) h) P f (l .messages)) (n .lines) (each-stays n inv (isPast n) (λ m b. past-settled m))
 
   unnamed : (m : Message) → Stays (isPast n) h m → namesOne (isPast v) (renamed goes m) ≡ false
   unnamed (commit k) s = go (goes k) refl

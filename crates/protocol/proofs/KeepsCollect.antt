@@ -22,11 +22,11 @@ use Rattle.placement.specs.Placement.{Item, isLine}
 use Rattle.messages.specs.Messages.{Message, commit, dummy}
 use Rattle.lines.specs.Lines.{Line, noLine}
 use Rattle.records.specs.Records.{Record, recordFits}
-use Rattle.protocol.specs.Network.{Network, noRecord, recordAt, placeOf, messageFits, isZero, baseFits, wellShaped}
+use Rattle.protocol.specs.Network.{Network, Base, noRecord, recordAt, placeOf, messageFits, isZero, baseFits, wellShaped}
 use Rattle.protocol.specs.Run.{Turn, numbered, comesFirst, inTurn, isUpTo, after}
 use Rattle.protocol.specs.Collect.{pointOf, isPast, staying, newNumber, namesOne, renamed, renamedLine, collectNumber, foldedBase, collectNetwork, removedBy, RemovedAndKept}
 use Rattle.protocol.proofs.Places.{placeAt}
-use Rattle.protocol.proofs.WellShaped.{LineShape, record-parts, record-whole, shape-parts, shape-whole}
+use Rattle.protocol.proofs.WellShaped.{LineShape, Shape, record-parts, record-whole, shape-parts, shape-whole}
 use Rattle.protocol.proofs.Turns.{each-number}
 
 -- ---- where some commits go, and no message names one of them
@@ -98,16 +98,18 @@ module _ (n : Network) where
       go true e = absurd (omega arith)
       go false e = refl
 
-pub keeps-collect : (n : Network) → wellShaped n ≡ true → collectNumber n ≡ 0 → wellShaped (collectNetwork n) ≡ true
-unfolding collectNetwork
-keeps-collect n w z =
-    let s = shape-parts n w in
-    let goes = isPast n in
+-- a network without the commits that go, and with what they left
+abbrev pub leftBy : (ℕ → Bool) → Base → Network → Network
+leftBy goes base n = record { sites = n .sites; items = n .items; lines = map (renamedLine goes) (n .lines); history = staying goes (n .history); base = base }
+
+pub keeps-left : (n : Network) (goes : ℕ → Bool) (base : Base) → Shape n → ((k : ℕ) → k < length (n .lines) → any (namesOne goes) (getD (n .lines) k noLine .messages) ≡ false) → baseFits base ≡ true
+    → wellShaped (leftBy goes base n) ≡ true
+keeps-left n goes base s none fits-base =
     let fits = recordFits (placeAt n) (length (n .sites)) (length (n .items)) in
     let kept : every fits (staying goes (n .history)) ≡ true
     = keep-every fits (λ k. not (goes k)) 0 (n .history)
     (every-all fits (n .history) noRecord (λ k h. record-whole (placeAt n) (length (n .sites)) (length (n .items)) (recordAt (n .history) k) (s .records k h))) in
-    shape-whole (collectNetwork n)
+    shape-whole (leftBy goes base n)
     (record {
       placed = s .placed;
       stamps = s .stamps;
@@ -115,9 +117,13 @@ keeps-collect n w z =
       lined = λ k h.
           let there : k < length (n .lines) = omega (arith, length-map (n .lines) (renamedLine goes)) in
           subst (LineShape (n .items) (staying goes (n .history)) k) (sym (List·getD-map (renamedLine goes) (n .lines) k noLine))
-          (line-fits goes (n .history) (n .items) k (getD (n .lines) k noLine) (none-named n z k there) (s .lined k there));
-      based = folded-fits n (s .based);
+          (line-fits goes (n .history) (n .items) k (getD (n .lines) k noLine) (none k there) (s .lined k there));
+      based = fits-base;
     })
+
+pub keeps-collect : (n : Network) → wellShaped n ≡ true → collectNumber n ≡ 0 → wellShaped (collectNetwork n) ≡ true
+unfolding collectNetwork
+keeps-collect n w z = let s = shape-parts n w in keeps-left n (isPast n) (foldedBase n) s (none-named n z) (folded-fits n (s .based))
 
 pub removed-and-kept : RemovedAndKept
 unfolding RemovedAndKept collectNetwork removedBy

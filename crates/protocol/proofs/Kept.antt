@@ -1,26 +1,29 @@
 -- What holds of the commits that a state keeps, from its base values on.
 use mathlib.Core.Path.{_≡_, refl, ap, _∙_}
-use mathlib.Core.Bool.{Bool, true, false, not}
+use mathlib.Core.Bool.{Bool, true, false, not, _||_}
 use Prim.Native.Nat.{ℕ, _<_}
 use native.Mathlib.Omega.{arith}
 use lib.IntN.{ℤ, pos}
 use lib.ListN.{length, getD, take, List·getD-eq-default}
 use lib.Dec.{ltb}
 use borrow.Author.Tests.{ltb-true, ltb-false}
-use Rattle.lists.specs.Lists.{keep}
+use Rattle.lists.specs.Lists.{every, keep}
 use Rattle.lists.proofs.Chains.{each-at, chain-at, chain-by}
 use Rattle.lists.proofs.KeptFrom.{each-from, kept-each, kept-chain, kept-none}
+use Rattle.lists.proofs.Every.{every-all}
 use Rattle.lists.proofs.Numbers.{flip-true}
 use Rattle.timestamp_order.specs.Order.{isEarlier, IsEarlier}
 use Rattle.site_operations.specs.Operations.{noOp, touches}
 use Rattle.site_operations.proofs.Works.{wrote, ReadsFrom}
 use Rattle.records.specs.Records.{Record}
-use Rattle.protocol.specs.Network.{Network, Base, noRecord, nthRecord}
+use Rattle.protocol.specs.Network.{Network, Base, noRecord, nthRecord, isZero, wellShaped}
 use Rattle.protocol.proofs.Values.{lastFrom, lastValue}
 use Rattle.protocol.proofs.Times.{Times}
 use Rattle.protocol.proofs.Places.{placeAt, orderAt, timesAt}
 use Rattle.protocol.proofs.Runs.{WritersRise}
-use Rattle.protocol.proofs.Invariant.{Invariant, stamps-apart, writers-rise}
+use Rattle.protocol.proofs.Invariant.{Invariant, shaped, stamps-apart, writers-rise}
+use Rattle.protocol.proofs.KeepsCollect.{keeps-left}
+use Rattle.protocol.proofs.Stays.{none-stays}
 use Rattle.protocol.proofs.View.{view, Removed}
 use Rattle.protocol.proofs.FromBase.{from-base}
 
@@ -48,7 +51,7 @@ module _ (n : Network) (inv : Invariant n) (goes : ℕ → Bool) (base : Base) (
   stays k = not (goes k)
 
   -- what holds of each of its commits that stays, and of each two of them
-  stay-each : (P : Record → Type 0) → ((k : ℕ) → k < length (n .history) → goes k ≡ false → P (nthRecord n k)) → (k : ℕ) → k < length (v .history) → P (nthRecord v k)
+  pub stay-each : (P : Record → Type 0) → ((k : ℕ) → k < length (n .history) → goes k ≡ false → P (nthRecord n k)) → (k : ℕ) → k < length (v .history) → P (nthRecord v k)
   stay-each P f k l =
       each-at P (v .history) noRecord (kept-each stays P 0 (n .history) (each-from (λ i x. stays i ≡ true → P x) (n .history) noRecord (λ i b e. f i b (flip-true (stays i) (goes i) refl e)))) k l
 
@@ -91,3 +94,11 @@ module _ (n : Network) (inv : Invariant n) (goes : ℕ → Bool) (base : Base) (
         base-length = r .base-length;
         unfolded = λ e. zero-base (none e);
       }
+
+  -- what is left is well shaped
+  pub shaped-view : (base .folded ≡ false → (m : ℕ) → goes m ≡ false) → wellShaped v ≡ true
+  shaped-view none = keeps-left n goes base (shaped n inv) (none-stays n inv goes (r .bound)) (go (base .folded) refl)
+    where
+      go : (b : Bool) → base .folded ≡ b → (b || every isZero (base .values)) ≡ true
+      go true e = refl
+      go false e = every-all isZero (base .values) (pos 0) (λ x l. ap isZero (zero-base (none e) x))

@@ -29,8 +29,17 @@ pub mod FromBase
 pub mod Kept
 pub mod Point
 pub mod Collected
+pub mod Walks
+pub mod Hearing
+pub mod Scheduling
+pub mod Sending
+pub mod SiteRounds
+pub mod Raising
+pub mod Rounds
 pub mod Follows
 pub mod Theorem
 pub mod Beside
+pub mod Applied
 pub mod WaitingLaws
 pub mod Examples
+pub mod RoundExamples

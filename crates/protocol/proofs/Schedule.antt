@@ -94,7 +94,7 @@ module _ (xs : List Item) (j x : ℕ) where
       go false e = dropped (writesItem x o) refl e
 
 -- ---- the messages after the first
-getD-rest : (ms : List Message) (a : ℕ) → getD (drop 1 ms) a (commit 0) ≡ getD ms (suc a) (commit 0)
+pub getD-rest : (ms : List Message) (a : ℕ) → getD (drop 1 ms) a (commit 0) ≡ getD ms (suc a) (commit 0)
 getD-rest [] a = refl
 getD-rest (m ∷ ms) a = refl
 

@@ -7,14 +7,16 @@ use native.Mathlib.Omega.{arith}
 use lib.ListN.{length, getD}
 use lib.Dec.{eqb, ltb}
 use borrow.Author.Tests.{ltb-true}
-use Rattle.lists.specs.Lists.{isEmpty}
+use Rattle.lists.specs.Lists.{isEmpty, any}
+use Rattle.lists.proofs.Chains.{Each, each-by, none-each}
 use Rattle.lists.proofs.Every.{and-true}
 use Rattle.placement.specs.Placement.{isLine}
 use Rattle.limits.specs.Limits.{sitesMost}
-use Rattle.lines.specs.Lines.{noLine}
+use Rattle.lines.specs.Lines.{Line, noLine}
 use Rattle.messages.specs.Messages.{Message, commit, dummy}
 use Rattle.records.specs.Records.{Record}
 use Rattle.protocol.specs.Network.{Network, lineNumber, messageStamp, messageFits, nthRecord}
+use Rattle.protocol.specs.Collect.{namesOne}
 use Rattle.protocol.proofs.Times.{Times}
 use Rattle.protocol.proofs.Places.{placeAt, Before, UpTo, timesAt}
 use Rattle.protocol.proofs.Invariant.{stampAt, messagesAt, messageAt, Invariant, shaped, line-sites, message-fits, sent-later}
@@ -69,3 +71,16 @@ module _ (n : Network) (inv : Invariant n) where
         let line : isLine (n .items) p j ≡ true = held-line (getD (n .lines) q noLine .messages) (isLine (n .items) p j) a l (shaped n inv .lined q near .placed) in
         let whole : lineNumber p j ≡ q = omega arith in
         subst (λ (i : ℕ). a < length (getD (n .lines) i noLine .messages) → Stays goes (n .history) (getD (getD (n .lines) i noLine .messages) a (commit 0))) whole (line-stays p j line a) l
+
+    pub each-stays : Each (λ (l : Line). Each (Stays goes (n .history)) (l .messages)) (n .lines)
+    each-stays =
+        each-by (λ (l : Line). Each (Stays goes (n .history)) (l .messages)) (n .lines) noLine
+        (λ q near. let ms = getD (n .lines) q noLine .messages in each-by (Stays goes (n .history)) ms (commit 0) (stays q near))
+
+    -- nor does any as it is
+    pub none-stays : (q : ℕ) → q < length (n .lines) → any (namesOne goes) (getD (n .lines) q noLine .messages) ≡ false
+    none-stays q near = let ms = getD (n .lines) q noLine .messages in none-each (namesOne goes) ms (each-by _ ms (commit 0) (λ a l. unnamed (getD ms a (commit 0)) (stays q near a l)))
+      where
+        unnamed : (m : Message) → Stays goes (n .history) m → namesOne goes m ≡ false
+        unnamed (commit k) s = s .1
+        unnamed (dummy t) s = refl

@@ -76,7 +76,7 @@ module _ (k : Known) (f : Follows k) where
   table-reaches : (i x : ℕ) → i < length (k .book .stamps) → x < length (k .items) → x < length (tableAt n i)
   table-reaches i x l b = omega (arith, item-there x b, f .inv .sizes .items, f .inv .sizes .tables i (site-there i l))
 
-  copy-agrees : (i x : ℕ) → i < length (k .book .stamps) → x < length (k .items) → holds (k .items) i x ≡ true
+  pub copy-agrees : (i x : ℕ) → i < length (k .book .stamps) → x < length (k .items) → holds (k .items) i x ≡ true
       → getD (tableAt n i) x (pos 0) ≡ valueAt (bookPlace k) startTable cs (stampAt n i) x
   copy-agrees i x l b e =
       let item = item-there x b in

@@ -1,7 +1,6 @@
 -- A network with some commits taken out of its history, what it holds, and what is known of the commits that collects have taken.
 use mathlib.Core.Path.{_≡_, refl, ap, _∙_}
 use mathlib.Core.Bool.{Bool, true, false, not}
-use mathlib.Core.List.{map}
 use Prim.Native.Nat.{ℕ, _≤_, _<_}
 use lib.IntN.{pos}
 use lib.ListN.{length, getD, length-map, List·getD-map}
@@ -12,15 +11,16 @@ use Rattle.messages.specs.Messages.{Message, commit, dummy}
 use Rattle.records.specs.Records.{Record}
 use Rattle.protocol.specs.Network.{Network, Base, noRecord, lineAt, lineNumber, messageStamp, messageOps, nthRecord}
 use Rattle.protocol.specs.Steps.{head}
-use Rattle.protocol.specs.Collect.{staying, newNumber, renamed, renamedLine}
+use Rattle.protocol.specs.Collect.{newNumber, renamed, renamedLine}
 use Rattle.protocol.proofs.Values.{lastValue}
 use Rattle.protocol.proofs.Places.{Before, UpTo}
 use Rattle.protocol.proofs.Invariant.{stampAt}
+use Rattle.protocol.proofs.KeepsCollect.{leftBy}
 use Rattle.protocol.proofs.Stays.{Stays}
 
 -- the commits that go taken out, messages naming the others by their new numbers
 abbrev pub view : (ℕ → Bool) → Base → Network → Network
-view goes base n = record { sites = n .sites; items = n .items; lines = map (renamedLine goes) (n .lines); history = staying goes (n .history); base = base }
+view goes base n = leftBy goes base n
 
 -- some commits of a network have been removed, and left these base values
 pub record Removed (n : Network) (goes : ℕ → Bool) (base : Base) : Type 0 where

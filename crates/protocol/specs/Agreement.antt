@@ -10,19 +10,21 @@ use lib.ListN.{length, getD}
 use lib.Dec.{eqb}
 use Rattle.lists.specs.Lists.{any, keep, upTo}
 use Rattle.timestamp_order.specs.Timestamp.{Stamp}
-use Rattle.timestamp_order.specs.Order.{orderBy, notLater, IsEarlier}
+use Rattle.timestamp_order.specs.Order.{orderBy, notLater, IsEarlier, NotLater}
 use Rattle.site_operations.specs.Operations.{valuesRead}
 use Rattle.placement.specs.Placement.{Item, owns, copies}
 use Rattle.records.specs.Records.{Record}
 use Rattle.protocol.specs.Network.{Network, recordAt, siteAt, siteStamps, placeOf}
 use Rattle.protocol.specs.Steps.{itemsOf}
-use Rattle.protocol.specs.Calls.{Call, setUp, commit, dummy, epoch, deliver, schedule, collect, ask, Outcome, perform}
+use Rattle.protocol.specs.Calls.{Call, setUp, commit, dummy, epoch, deliver, schedule, collect, round, ask, Outcome, perform}
 use Rattle.protocol.specs.Book.{Book, noBook, bookStamp, notedIf}
 use Rattle.protocol.specs.Run.{Turn, inTurn, after, startTable, shown, valueAt}
 use Rattle.protocol.specs.Earliest.{earliestStamp}
-use Rattle.protocol.specs.Collect.{staying}
+use Rattle.protocol.specs.Collect.{staying, namesOne, removedBy}
+use Rattle.protocol.specs.Round.{roundCalls, roundNumber, roundNetwork}
+use Rattle.lines.specs.Lines.{Line}
 
--- what is known after some calls: the state; from the calls and their answers alone the book, the items of the last accepted
+-- what is known after some calls: the state; from the calls and their answers alone, of a round from the calls that it counts as and what each answers alone, the book, the items of the last accepted
 -- set-up, the values that each commit since it answered, which commits collects have removed since, and for each accepted commit and
 -- dummy the timestamp that it answered and the one that the book had for its site right after it
 pub record Known : Type 0 where
@@ -51,6 +53,7 @@ placedBy (epoch i e) xs = xs
 placedBy (deliver p c) xs = xs
 placedBy (schedule j) xs = xs
 placedBy collect xs = xs
+placedBy round xs = xs
 placedBy (ask q) xs = xs
 
 abbrev pub valuesBy : Call → List ℤ → List (List ℤ) → List (List ℤ)
@@ -61,6 +64,7 @@ valuesBy (epoch i e) vs all = all
 valuesBy (deliver p c) vs all = all
 valuesBy (schedule j) vs all = all
 valuesBy collect vs all = all
+valuesBy round vs all = all
 valuesBy (ask q) vs all = all
 
 -- the timestamps of the commits and dummies, with one more taken from `at` the call's site
@@ -72,6 +76,7 @@ stampsBy (epoch i e) at all = all
 stampsBy (deliver p c) at all = all
 stampsBy (schedule j) at all = all
 stampsBy collect at all = all
+stampsBy round at all = all
 stampsBy (ask q) at all = all
 
 -- commit k has been removed
@@ -92,11 +97,12 @@ marksBy (epoch i e) place b marks = marks
 marksBy (deliver p c) place b marks = marks
 marksBy (schedule j) place b marks = marks
 marksBy collect place b marks = collected place b marks
+marksBy round place b marks = marks
 marksBy (ask q) place b marks = marks
 
--- one more call, with what it answered and left
-abbrev pub witnessed : Known → Call → Outcome → Known
-witnessed k c o =
+-- one call that counts as itself, with what it answered and left
+abbrev pub witnessedAlone : Known → Call → Outcome → Known
+witnessedAlone k c o =
     let ok = isAccepted o in
     let book = notedIf c ok (o .stamp) (k .book) in
     record {
@@ -108,6 +114,31 @@ witnessed k c o =
       answered = cond ok (stampsBy c (λ i. o .stamp) (k .answered)) (k .answered);
       booked = cond ok (stampsBy c (bookStamp book) (k .booked)) (k .booked);
     }
+
+abbrev pub learnedAlone : Known → Call → Known
+learnedAlone k c = witnessedAlone k c (perform (k .state) c)
+
+-- each performed on what the one before left, and noted with the answer that it gives alone
+abbrev pub learnedEach : Known → List Call → Known
+learnedEach k [] = k
+learnedEach k (c ∷ cs) = learnedEach (learnedAlone k c) cs
+
+-- the calls that an accepted round counts as; any other call counts as none but itself
+abbrev pub callsOf : Option Network → Call → List Call
+callsOf s (setUp sites items ps ms) = []
+callsOf s (commit i ks is vs) = []
+callsOf s (dummy i) = []
+callsOf s (epoch i e) = []
+callsOf s (deliver p c) = []
+callsOf s (schedule j) = []
+callsOf s collect = []
+callsOf none round = []
+callsOf (some n) round = cond (eqb (roundNumber n) 0) (roundCalls n) []
+callsOf s (ask q) = []
+
+-- one more call, after the calls that it counts as; of a round itself nothing more is noted but the state that it left
+abbrev pub witnessed : Known → Call → Outcome → Known
+witnessed k c o = witnessedAlone (learnedEach k (callsOf (k .state) c)) c o
 
 abbrev pub learned : Known → Call → Known
 learned k c = witnessed k c (perform (k .state) c)
@@ -196,6 +227,7 @@ isSetUp (epoch i e) = false
 isSetUp (deliver p c) = false
 isSetUp (schedule j) = false
 isSetUp collect = false
+isSetUp round = false
 isSetUp (ask q) = false
 
 -- no set-up among the calls is accepted
@@ -231,3 +263,46 @@ KeptRuns k = (n : Network) → k .state ≡ some n → RunsFromBase n
 
 unfoldable pub KeptRun : Type 0
 KeptRun = Always KeptRuns
+
+-- ---- rounds
+-- each of the calls is accepted, performed on what the one before left
+abbrev pub EachAccepted : Known → List Call → Type 0
+EachAccepted k [] = Unit {0}
+EachAccepted k (c ∷ cs) = (perform (k .state) c .number ≡ 0) × EachAccepted (learnedAlone k c) cs
+
+-- the calls that a round counts as are accepted, and it leaves what they leave
+pub record CountsAs (k : Known) (n : Network) : Type 0 where
+  pub each-accepted : EachAccepted k (roundCalls n)
+  pub leaves : learnedEach k (roundCalls n) .state ≡ some (roundNetwork n)
+
+abbrev pub RoundCounts : Known → Type 0
+RoundCounts k = (n : Network) → k .state ≡ some n → roundNumber n ≡ 0 → CountsAs k n
+
+unfoldable pub RoundIsItsCalls : Type 0
+RoundIsItsCalls = Always RoundCounts
+
+-- what is known before a round and after it: every commit made before it is applied at all its copies
+pub record Applied (k m : Known) : Type 0 where
+  pub network : Network
+  pub state-is : m .state ≡ some network
+  -- none is made and none removed
+  pub commits-same : m .book .commits ≡ k .book .commits
+  pub removed-same : m .removed ≡ k .removed
+  -- none of them is later than any site
+  pub sites-past : (c i : ℕ) → c < length (k .book .commits) → i < length (m .book .stamps) → NotLater (bookPlace m) (recordAt (k .book .commits) c .stamp) (siteAt network i .stamp)
+  -- every item at each site that owns or copies it holds the run's value after all of them
+  pub copies-whole : (i x : ℕ) → i < length (m .book .stamps) → x < length (m .items) → holds (m .items) i x ≡ true
+      → getD (siteAt network i .table) x (pos 0) ≡ getD (after startTable (inTurn (bookPlace m) (k .book .commits))) x (pos 0)
+  -- no message on a line names a commit
+  pub lines-bare : any (λ (l : Line). any (namesOne (λ c. true)) (l .messages)) (network .lines) ≡ false
+  -- a collect straight after it removes all that are left of them, so that each has been removed
+  pub collect-accepted : perform (m .state) collect .number ≡ 0
+  pub removes-all : removedBy (m .state) ≡ length (network .history)
+  pub leaves-none : (n : Network) → perform (m .state) collect .after ≡ some n → n .history ≡ []
+  pub all-removed : (c : ℕ) → c < length (k .book .commits) → isRemoved (learned m collect .removed) c ≡ true
+
+abbrev pub RoundApplies : Known → Type 0
+RoundApplies k = perform (k .state) round .number ≡ 0 → Applied k (learned k round)
+
+unfoldable pub RoundReaches : Type 0
+RoundReaches = Always RoundApplies

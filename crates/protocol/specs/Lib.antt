@@ -8,7 +8,10 @@ pub mod Waiting
 pub mod Run
 pub mod Collect
 pub mod Questions
+pub mod Call
+pub mod Round
 pub mod Calls
 pub mod Book
 pub mod Agreement
 pub mod Examples
+pub mod RoundExamples

@@ -12,7 +12,7 @@ use Rattle.decimal.specs.Decimal.{digits}
 use Rattle.decimal.proofs.Printing.{printed-none, printed-then, printed-as, printed-byte, printed-length}
 use borrow.Author.Tests.{eq-eqb, ne-eqb, eqb-true, eqb-false}
 use Rattle.timestamp_order.specs.Timestamp.{Pair, noPair}
-use Rattle.protocol.specs.Calls.{Call, setUp, commit, dummy, epoch, deliver, schedule, collect, ask, Outcome}
+use Rattle.protocol.specs.Calls.{Call, setUp, commit, dummy, epoch, deliver, schedule, collect, round, ask, Outcome}
 use Rattle.script_notation.specs.Fields.{space}
 use Rattle.script_notation.specs.Print.{tupleText, tuplesText, spaced, acceptedText, print, fieldsOf, Put}
 
@@ -105,4 +105,5 @@ print-fields (epoch i e) o = refl
 print-fields (deliver p c) o = refl
 print-fields (schedule j) o = refl
 print-fields collect o = refl
+print-fields round o = refl
 print-fields (ask q) o = refl

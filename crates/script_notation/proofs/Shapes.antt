@@ -12,8 +12,9 @@ use Rattle.site_operations.specs.Operations.{valuesRead}
 use Rattle.protocol.specs.Network.{Network, noStamp, siteAt}
 use Rattle.protocol.specs.Steps.{setUpNumber, setUpNetwork, opsOf, commitNumber, commitNetwork, recordOf, dummyNumber, dummyNetwork, epochNumber, epochNetwork, deliverNumber, deliverNetwork, scheduleNumber, scheduleNetwork, chosen, headStamp}
 use Rattle.protocol.specs.Collect.{collectNumber, collectNetwork}
+use Rattle.protocol.specs.Round.{roundNumber, roundNetwork}
 use Rattle.protocol.specs.Questions.{questionNumber}
-use Rattle.protocol.specs.Calls.{Call, setUp, commit, dummy, epoch, deliver, schedule, collect, ask, refused, accepted, judged, perform}
+use Rattle.protocol.specs.Calls.{Call, setUp, commit, dummy, epoch, deliver, schedule, collect, round, ask, refused, accepted, judged, perform}
 use Rattle.network_layout.specs.InWords.{networkIn, shaped, meaning}
 use Rattle.network_layout.specs.Promises.{Performed}
 
@@ -47,6 +48,7 @@ performs-there none (epoch i k) e = e
 performs-there none (deliver p c) e = e
 performs-there none (schedule j) e = e
 performs-there none collect e = e
+performs-there none round e = e
 performs-there none (ask q) e = e
 performs-there (some n) (commit i ks is vs) e =
     let r = recordOf n i (opsOf ks is vs) in
@@ -56,6 +58,7 @@ performs-there (some n) (epoch i k) e = judged-there (epochNumber n i k) (some n
 performs-there (some n) (deliver p c) e = judged-there (deliverNumber n p c) (some n) 0 noStamp [] (deliverNetwork n p c) e
 performs-there (some n) (schedule j) e = judged-there (scheduleNumber n j) (some n) (chosen n j) (headStamp n (chosen n j) j) [] (scheduleNetwork n j) e
 performs-there (some n) collect e = judged-there (collectNumber n) (some n) 0 noStamp [] (collectNetwork n) e
+performs-there (some n) round e = judged-there (roundNumber n) (some n) 0 noStamp [] (roundNetwork n) e
 performs-there (some n) (ask q) e = judged-there (questionNumber n q) (some n) 0 noStamp [] n e
 
 pub shape-stays : (entry exit : List ℕ) (call : Call) → shaped entry ≡ true → meaning exit ≡ perform (meaning entry) call .after → shaped exit ≡ true

@@ -10,7 +10,7 @@ use Rattle.decimal.specs.Decimal.{digits, signedDigits, Printed}
 use Rattle.timestamp_order.specs.Timestamp.{Pair, Stamp}
 use Rattle.site_operations.specs.Operations.{Op}
 use Rattle.records.specs.Records.{Record}
-use Rattle.protocol.specs.Calls.{Call, setUp, commit, dummy, epoch, deliver, schedule, collect, ask, Outcome}
+use Rattle.protocol.specs.Calls.{Call, setUp, commit, dummy, epoch, deliver, schedule, collect, round, ask, Outcome}
 use Rattle.script_notation.specs.Fields.{space}
 
 -- site.count
@@ -61,6 +61,7 @@ acceptedText (epoch i e) o = []
 acceptedText (deliver p c) o = []
 acceptedText (schedule j) o = space ∷ (digits (o .parent) ++ stampText (o .stamp))
 acceptedText collect o = []
+acceptedText round o = []
 acceptedText (ask q) o = []
 
 -- a refusal prints its number alone
