@@ -1,4 +1,6 @@
 // Where two timestamps part, laid into words, as C lends them.
+#![tactic(auto)]
+
 ghost use Rattle.std.specs.Prelude.{◌≡◌};
 ghost use Rattle.timestamp_order.specs.Parting.{shared_of};
 ghost use Rattle.c_parting.specs.Fields.{ForParting, parting_words};

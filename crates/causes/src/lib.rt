@@ -1,4 +1,6 @@
 // The number of a cause, and the first of two numbers.
+#![tactic(auto)]
+
 ghost use Rattle.std.specs.Prelude.{◌≡◌, [], ◌∷◌};
 ghost use Rattle.lists.specs.Numbers.{number_if, first_number};
 

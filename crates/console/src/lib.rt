@@ -11,7 +11,7 @@ use network_layout::WORDS;
 
 // What is held of a line where the run goes on, whether the words are then those of a network, whether it goes on, and whether everything was read and
 // written so far.
-#[derive(Drop)]
+#[derive(Clone, Copy)]
 pub struct Run {
     pub held: Held,
     pub formed: bool,

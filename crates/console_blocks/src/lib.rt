@@ -12,7 +12,7 @@ use network_layout::WORDS;
 use script_notation::Reply;
 
 // How far a block has come, and whether the words are then those of a network.
-#[derive(Drop)]
+#[derive(Clone, Copy)]
 pub struct Advance {
     pub used: usize,
     pub held: Held,

@@ -5,7 +5,7 @@ ghost use Rattle.console_notation.specs.Lines.{newline, line_most};
 ghost use Rattle.console_cut.specs.Cuts.{end_from, LineBehind};
 
 // A line of a block: where it starts, and the newline that ends it, or the block's end.
-#[derive(Drop)]
+#[derive(Clone, Copy)]
 pub struct Line {
     pub from: usize,
     pub end: usize,

@@ -36,7 +36,7 @@ pub fn hold_part(block: &[u8], from: usize, end: usize) -> Held
 }
 
 // What the end of a script adds to a line that is held: the newline that it lacks.
-#[derive(Drop)]
+#[derive(Clone, Copy)]
 pub struct Added {
     pub bytes: [u8; 1],
     pub count: usize,

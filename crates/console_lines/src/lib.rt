@@ -10,7 +10,7 @@ use script_notation::Reply;
 
 // What comes behind the lines that were answered: the next one starts at `from` and goes to `end`, the answers end at `filled`, and whether the words are
 // then those of a network.
-#[derive(Drop)]
+#[derive(Clone, Copy)]
 pub struct Next {
     pub from: usize,
     pub end: usize,

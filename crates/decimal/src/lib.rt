@@ -1,18 +1,20 @@
 // Numbers from decimal bytes: parsed from a lent text.
+#![tactic(auto)]
+
 ghost use Rattle.std.specs.Prelude.{◌≡◌, cond, ◌&&◌, ◌+◌, ◌-◌, ◌*◌, ◌≤◌, leb};
 ghost use Rattle.std.proofs.Math.Option.{none};
 ghost use Rattle.lists.specs.Lists.{every};
 ghost use Rattle.decimal.specs.Decimal.{is_digit, extra_zero, value_from, greatest, natural as naturalIn, signed as signedIn, number_of, as_number, as_integer, negative, not_negative};
 
 // A number, where the text is one; else `ok` is false and the value 0.
-#[derive(Drop)]
+#[derive(Clone, Copy)]
 pub struct Number {
     pub ok: bool,
     pub value: u32,
 }
 
 // A signed number, where the text is one; else `ok` is false and the value 0.
-#[derive(Drop)]
+#[derive(Clone, Copy)]
 pub struct Integer {
     pub ok: bool,
     pub value: i32,

@@ -1,4 +1,6 @@
 // Numbers printed as decimal bytes into a lent buffer.
+#![tactic(auto)]
+
 ghost use Rattle.std.specs.Prelude.{◌≡◌, ◌+◌, ◌-◌, ◌≤◌, length, nat_abs, leb};
 ghost use Rattle.decimal.specs.Decimal.{digits, signed_digits, Printed, PrintedIn};
 

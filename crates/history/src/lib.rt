@@ -162,7 +162,7 @@ fn base_numbered(b: &[u8], number: u32) -> [i32; ITEMS_WIDE]
 // What reading a file hands back: the number for which it is refused, or 0; the part of the buffer from the first record to the trailer, which
 // it excludes, empty where the file is refused; the places of its sites, with the numbers behind them; whether a collect has removed a record
 // since set-up; and the base values of its items, with 0 behind them. Where it is refused, all these are 0. `check` tells how many items there are.
-#[derive(Drop)]
+#[derive(Clone, Copy)]
 pub struct Reading<'a> {
     pub number: u32,
     pub part: &'a [u8],
@@ -217,7 +217,7 @@ pub fn check(b: &[u8]) -> Checked
 }
 
 // What a file says beside its part.
-#[derive(Drop)]
+#[derive(Clone, Copy)]
 struct Beside {
     places: [u8; SITES_WIDE],
     folded: bool,

@@ -8,7 +8,7 @@ pub const MARK: [u8; 4] = *b"SEAT";
 pub const TRAILER: usize = 16;
 
 // What an export answers: its number and the file's length, which is 0 where it is refused.
-#[derive(Drop)]
+#[derive(Clone, Copy)]
 pub struct Exported {
     pub number: u32,
     pub length: usize,
@@ -17,7 +17,7 @@ pub struct Exported {
 // What a file holds: the number for which it is refused, or 0; how many records, sites and items, how many bytes its records take, the
 // places of its sites, with the numbers behind them, whether a collect has removed a record since set-up, and the base values of its items,
 // with 0 behind them. Where it is refused, all but the number is 0.
-#[derive(Drop)]
+#[derive(Clone, Copy)]
 pub struct Checked {
     pub number: u32,
     pub records: u32,
@@ -31,7 +31,7 @@ pub struct Checked {
 
 // A record that was read: the number for which it was refused, or 0; its site, its timestamp, and its operations, which are the first
 // `count` of eight places. What is not there is 0, and where it is refused all is. `next` is where the next record starts.
-#[derive(Drop)]
+#[derive(Clone, Copy)]
 pub struct Found {
     pub number: u32,
     pub next: usize,

@@ -13,7 +13,7 @@ use limits::SITES_WIDE;
 use network_layout::{BASE, FOLDED};
 
 // The places of a network's sites, how many of them stand in the table, and how many base values stand behind it: all or none.
-#[derive(Drop)]
+#[derive(Clone, Copy)]
 pub struct Lead {
     pub places: [u8; SITES_WIDE],
     pub table: usize,

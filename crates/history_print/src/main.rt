@@ -8,7 +8,7 @@ use limits::SITES_WIDE;
 use script_notation::ANSWER;
 
 // How far the lines have come: how many of their bytes are still to be written, and whether all before them were.
-#[derive(Drop)]
+#[derive(Clone, Copy)]
 pub struct Page {
     pub filled: usize,
     pub well: bool,

@@ -16,7 +16,7 @@ use limits::SITES_WIDE;
 use timestamp::{Count, Epoch, Timestamp, Tuple};
 
 // One operation.
-#[derive(Drop)]
+#[derive(Clone, Copy)]
 struct Operation {
     kind: u8,
     item: u32,
@@ -24,7 +24,7 @@ struct Operation {
 }
 
 // The fields of operations at eight places each, 0 past the last.
-#[derive(Drop)]
+#[derive(Clone, Copy)]
 struct Places {
     kinds: [u8; 8],
     items: [u32; 8],

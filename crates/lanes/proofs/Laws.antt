@@ -28,6 +28,7 @@ bytes_take (suc n) (suc m) x h = ap (λ (l : List ℕ). x % 256 ∷ l) (bytes_ta
 
 pub byte_at : (n x i : ℕ) → i < n → x / 2 ^ (8 * i) % 256 ≡ get_or (bytes n x) i 0
 unfolding bytes
+byte_at zero x i h = elim h [ ]
 byte_at (suc n) x zero h = ap (λ (y : ℕ). y % 256) (omega arith)
 byte_at (suc n) x (suc i) h =
     let at : 8 * suc i ≡ 8 + 8 * i = omega arith in

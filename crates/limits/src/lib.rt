@@ -1,4 +1,5 @@
 // The scope's limits, as words and, where they size or index something, as wide numbers.
+#![tactic(auto)]
 
 // The most sites of a group, and the most tuples of a timestamp.
 pub const SITES: u32 = 8;

@@ -1,1 +1,2 @@
 // Lists of any elements: definitions and laws, no code.
+#![tactic(auto)]

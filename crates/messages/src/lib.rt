@@ -2,7 +2,7 @@
 use timestamp::Timestamp;
 
 // A message: the number of the record that it names, or 256 and more for a dummy, which has its own timestamp.
-#[derive(Drop)]
+#[derive(Clone, Copy)]
 pub struct Message {
     pub name: u32,
     pub stamp: Timestamp,

@@ -10,7 +10,7 @@ use limits::SITES_WIDE;
 use timestamp::Timestamp;
 
 // A parent and the timestamp of its oldest message.
-#[derive(Drop)]
+#[derive(Clone, Copy)]
 pub struct Head {
     pub parent: u32,
     pub stamp: Timestamp,

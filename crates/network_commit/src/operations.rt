@@ -9,7 +9,7 @@ ghost use Rattle.protocol.specs.Allowed.{ListsAllowed};
 ghost use Rattle.network_commit.specs.Done.{InLists, Reading};
 
 // The values that reads gave: the first `count` of eight places, in order; the rest are 0.
-#[derive(Drop)]
+#[derive(Clone, Copy)]
 pub struct Given {
     pub count: usize,
     pub values: [i32; limits::OPERATIONS_WIDE],

@@ -1,4 +1,6 @@
 // Whether a state's counts are in range.
+#![tactic(auto)]
+
 ghost use Rattle.std.specs.Prelude.{◌≡◌};
 ghost use Rattle.network_counts.specs.Counts.{counts_fit};
 

@@ -3,7 +3,7 @@ use limits::{ITEMS_WIDE, OPERATIONS_WIDE, RECORDS_WIDE, SITES_WIDE};
 use timestamp::Timestamp;
 
 // An operation of a commit: 0 a read or 1 a write, the item, and the value that is written.
-#[derive(Drop)]
+#[derive(Clone, Copy)]
 pub struct Operation {
     pub kind: u8,
     pub item: u32,
@@ -11,7 +11,7 @@ pub struct Operation {
 }
 
 // What a commit answers: its number, the timestamp, and the first `count` values, those read in order; all zero where refused.
-#[derive(Drop)]
+#[derive(Clone, Copy)]
 pub struct Committed {
     pub number: u32,
     pub stamp: Timestamp,
@@ -20,14 +20,14 @@ pub struct Committed {
 }
 
 // What a dummy answers: its number and the timestamp, which is zero where it is refused.
-#[derive(Drop)]
+#[derive(Clone, Copy)]
 pub struct Dummied {
     pub number: u32,
     pub stamp: Timestamp,
 }
 
 // What a schedule answers: its number, the parent and the message's timestamp; all zero where refused.
-#[derive(Drop)]
+#[derive(Clone, Copy)]
 pub struct Scheduled {
     pub number: u32,
     pub parent: u32,
@@ -35,7 +35,7 @@ pub struct Scheduled {
 }
 
 // What a waiting report answers: its number, and the first `count` items, those that are waiting; all zero where refused.
-#[derive(Drop)]
+#[derive(Clone, Copy)]
 pub struct Report {
     pub number: u32,
     pub count: usize,
@@ -43,7 +43,7 @@ pub struct Report {
 }
 
 // What a site's table answers: its number, and a value for each of `count` items; all zero where refused.
-#[derive(Drop)]
+#[derive(Clone, Copy)]
 pub struct Tabled {
     pub number: u32,
     pub count: usize,
@@ -51,14 +51,14 @@ pub struct Tabled {
 }
 
 // What a site's timestamp answers: its number and the timestamp, which is zero where it is refused.
-#[derive(Drop)]
+#[derive(Clone, Copy)]
 pub struct Stamped {
     pub number: u32,
     pub stamp: Timestamp,
 }
 
 // What a line answers: its number, and how many messages it holds and how many of them have arrived; 0 where refused.
-#[derive(Drop)]
+#[derive(Clone, Copy)]
 pub struct Lined {
     pub number: u32,
     pub held: usize,
@@ -66,7 +66,7 @@ pub struct Lined {
 }
 
 // Where the value of a read came from: the write of a commit, named by its record number; the start value, or a base value where commits have been removed and the writer may be among them; or the number for which the call is refused.
-#[derive(Drop)]
+#[derive(Clone, Copy)]
 pub enum Origin {
     Refused(u32),
     Start,
@@ -75,28 +75,28 @@ pub enum Origin {
 }
 
 // What the order of a network's sites answers: its number, and the place of each site, of a number that is no site that number; all zero where refused.
-#[derive(Drop)]
+#[derive(Clone, Copy)]
 pub struct Ordered {
     pub number: u32,
     pub places: [u8; SITES_WIDE],
 }
 
 // What a collect answers: its number, and how many records it removed; 0 where refused.
-#[derive(Drop)]
+#[derive(Clone, Copy)]
 pub struct Collected {
     pub number: u32,
     pub removed: u32,
 }
 
 // What a round answers: its number, and the new epoch; 0 where refused.
-#[derive(Drop)]
+#[derive(Clone, Copy)]
 pub struct Rounded {
     pub number: u32,
     pub epoch: u32,
 }
 
 // What the base answers: its number, whether a collect has removed a record since set-up, and a value for each of `count` items; all zero where refused.
-#[derive(Drop)]
+#[derive(Clone, Copy)]
 pub struct Based {
     pub number: u32,
     pub folded: bool,
@@ -105,7 +105,7 @@ pub struct Based {
 }
 
 // How many sites, items and records a state holds.
-#[derive(Drop)]
+#[derive(Clone, Copy)]
 pub struct Totals {
     pub sites: u32,
     pub items: u32,
@@ -113,7 +113,7 @@ pub struct Totals {
 }
 
 // A record of the history: its site, its timestamp, and the first `count` of eight operations, three words each.
-#[derive(Drop)]
+#[derive(Clone, Copy)]
 pub struct Entry {
     pub site: u32,
     pub stamp: Timestamp,

@@ -12,7 +12,7 @@ pub const EARLIEST: bool = false;
 pub const LATEST: bool = true;
 
 // The last comparison of a record: with which one, and whether it replaces that one. Writes of one commit mostly meet those of one other.
-#[derive(Drop)]
+#[derive(Clone, Copy)]
 struct Met {
     other: u32,
     replaces: bool,

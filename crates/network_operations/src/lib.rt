@@ -7,7 +7,7 @@ ghost use Rattle.network_layout.specs.Promises.{CommitAnswered};
 use network_layout::{Committed, Operation, WORDS};
 
 // The fields of the first `count` operations. Nine stand for more, which are refused whatever they say.
-#[derive(Drop)]
+#[derive(Clone, Copy)]
 pub struct Gathered {
     pub count: usize,
     pub kinds: [u8; 9],

@@ -19,7 +19,7 @@ use network_layout::{Scheduled, WORDS};
 use timestamp::Timestamp;
 
 // Operations in words, three each: the first `count` of eight.
-#[derive(Drop)]
+#[derive(Clone, Copy)]
 struct Writes {
     count: usize,
     ops: [u32; site_operations::OPERATIONS],

@@ -89,7 +89,7 @@ fn is_waiting(writers: &[u32], state: &[u32], site: u32, item: u32) -> bool
 }
 
 // Places in a list, of which one is sought.
-#[derive(Drop)]
+#[derive(Clone, Copy)]
 struct Range {
     low: usize,
     high: usize,

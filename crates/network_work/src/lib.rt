@@ -8,7 +8,7 @@ use site_operations::OPERATIONS;
 use timestamp::Timestamp;
 
 // The timestamp of a commit, and its operations as the history keeps them.
-#[derive(Drop)]
+#[derive(Clone, Copy)]
 pub struct Worked {
     pub stamp: Timestamp,
     pub ops: [u32; OPERATIONS],

@@ -10,7 +10,7 @@ use limits::{RECORDS_WIDE, SITES_WIDE};
 use site_operations::READ;
 
 // A read that was looked for: 0 and its item, or the number for which it is refused and 0.
-#[derive(Drop)]
+#[derive(Clone, Copy)]
 pub struct Sought {
     pub number: u32,
     pub item: u32,

@@ -1,4 +1,6 @@
 // The place of each site, in a table by value: entry k is that of site k.
+#![tactic(auto)]
+
 ghost use Rattle.std.specs.Prelude.{◌≡◌};
 ghost use Rattle.limits.specs.Limits.{sites_most};
 ghost use Rattle.lists.specs.Lists.{up_to};

@@ -1,4 +1,6 @@
 // Placement in words of a lent slice: its items, and what set-up refuses of them.
+#![tactic(auto)]
+
 mod masks; // masks.rt: masks of sites, tested and built by shifts
 
 ghost use Rattle.std.specs.Prelude.{◌≡◌, min, ◌<◌, get_or};

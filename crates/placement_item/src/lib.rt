@@ -1,4 +1,6 @@
 // What one item of a placement gives: its lines, and the children or parents of a site.
+#![tactic(auto)]
+
 ghost use Rattle.std.specs.Prelude.{◌≡◌, ◌*◌, ◌/◌, ◌%◌, eqb};
 ghost use Rattle.placement.specs.Masks.{Names};
 ghost use Rattle.placement.specs.Placement.{gives_line};

@@ -26,8 +26,8 @@ one_of (suc zero) (suc zero) h g = refl
 one_of (suc zero) (suc (suc j)) h g = absurd (omega arith)
 one_of (suc (suc i)) j h g = absurd (omega arith)
 
-pub bit_or : (a b k : ℕ) → bit (bit_or a b) k ≡ (bit a k || bit b k)
-bit_or a b k =
+pub bit_or_lem : (a b k : ℕ) → bit (bit_or a b) k ≡ (bit a k || bit b k)
+bit_or_lem a b k =
     let x = a / 2 ^ k in
     let y = b / 2 ^ k in
     ap (λ (z : ℕ). eqb (z % 2) 1) (or_shr a b k)
@@ -73,7 +73,7 @@ module _ {A : Type 0} (most : ℕ) (test : ℕ → A → Bool) (xs : List A) whe
         before c h
         ∙ ap (λ (b : Bool). bit m c || b) (here ∙ ap (λ (b : Bool). b || next) (sym (names c h)))
         ∙ or_assoc (bit m c) (bit r c) next
-        ∙ ap (λ (b : Bool). b || next) (sym (bit_or m r c))
+        ∙ ap (λ (b : Bool). b || next) (sym (bit_or_lem m r c))
 
     pub gather_done : length xs ≤ k → Names most m (λ c. any (test c) xs)
     gather_done all c h = sym (before c h ∙ ap (λ (ys : List A). bit m c || any (test c) ys) (drop_of_length-le xs {i = k} all) ∙ or-false (bit m c))

@@ -1,4 +1,6 @@
 // What a placement in words of a lent slice gives: the lines, and who is child or parent of whom. One walk of the items each.
+#![tactic(auto)]
+
 ghost use Rattle.std.specs.Prelude.{◌≡◌, min};
 ghost use Rattle.placement.specs.Masks.{mask_of};
 ghost use Rattle.placement.specs.Placement.{is_line, LineBits, has_parents};

@@ -27,8 +27,8 @@ both_one (suc zero) (suc zero) h g = refl
 both_one (suc zero) (suc (suc j)) h g = absurd (omega arith)
 both_one (suc (suc i)) j h g = absurd (omega arith)
 
-pub bit_and : (a b k : ℕ) → bit (bit_and a b) k ≡ (bit a k && bit b k)
-bit_and a b k =
+pub bit_and_lem : (a b k : ℕ) → bit (bit_and a b) k ≡ (bit a k && bit b k)
+bit_and_lem a b k =
     let x = a / 2 ^ k in
     let y = b / 2 ^ k in
     ap (λ (z : ℕ). eqb (z % 2) 1) (and_shr a b k)
@@ -62,7 +62,7 @@ no_down m p c none h g goes = go (ltb p c) refl
     go true e = ltb-true p c e
     go false e =
         let k = sites_most * p + c in
-        let apart : (bit m k && bit down k) ≡ false = sym (bit_and m down k) ∙ ap (λ (x : ℕ). bit x k) none ∙ bit_none k in
+        let apart : (bit m k && bit down k) ≡ false = sym (bit_and_lem m down k) ∙ ap (λ (x : ℕ). bit x k) none ∙ bit_none k in
         let there : bit down k ≡ true = down_bit p c h (omega (arith, ltb-false p c e)) in
         let unset : bit m k ≡ false = sym (and-true (bit m k)) ∙ ap (λ (b : Bool). bit m k && b) (sym there) ∙ apart in
         absurd (false≢true (sym unset ∙ goes))

@@ -15,7 +15,7 @@ use Rattle.placement.specs.Masks.{bit, Names}
 use Rattle.placement.specs.Placement.{Item}
 use Rattle.placement.proofs.Laws.{low_bit}
 use Rattle.placement_item.proofs.LineBits.{lines_given}
-use Rattle.placement_lines.proofs.Gathered.{bit_or}
+use Rattle.placement_lines.proofs.Gathered.{bit_or_lem}
 use Rattle.placement_order.specs.Tables.{line_in, is_reached, Without}
 
 -- ---- a test of some numbers, taken of two at a time
@@ -52,7 +52,7 @@ module _ (c : ℕ) where
       (λ p h.
       let k = sites_most * p + c in
       let far : s + k ≡ sites_most * (n + p) + c = omega arith in
-      bit_or m (m / 2 ^ s) k ∙ ap (λ (b : Bool). bit m k || b) (ap (λ (x : ℕ). eqb (x % 2) 1) (shr-shr m s k) ∙ ap (bit m) far))
+      bit_or_lem m (m / 2 ^ s) k ∙ ap (λ (b : Bool). bit m k || b) (ap (λ (x : ℕ). eqb (x % 2) 1) (shr-shr m s k) ∙ ap (bit m) far))
       ∙ some_paired (λ p. line_in m p c) n
 
 abbrev pub upon : ℕ → ℕ → ℕ

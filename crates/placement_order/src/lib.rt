@@ -1,4 +1,6 @@
 // The places of the sites in the order that a placement in words of a lent slice gives, and whether its lines form a cycle.
+#![tactic(auto)]
+
 ghost use Rattle.std.specs.Prelude.{◌≡◌, min, ◌≤◌, ◌<◌, eqb};
 ghost use Rattle.limits.specs.Limits.{sites_most, items_most};
 ghost use Rattle.lists.specs.Lists.{any};

@@ -1,4 +1,6 @@
 // A table of names in words: the number that each record has among those that stay, 256 of one that goes.
+#![tactic(auto)]
+
 ghost use Rattle.std.specs.Prelude.{◌≡◌};
 ghost use Rattle.record_names.specs.Names.{stays as staysIn};
 

@@ -8,7 +8,7 @@ ghost use Rattle.script_lists.specs.Kept.{kept_most};
 pub const KEPT: usize = 9;
 
 // How many things there are in a list, where it is one.
-#[derive(Drop)]
+#[derive(Clone, Copy)]
 pub struct Listed {
     pub ok: bool,
     pub count: usize,
@@ -25,7 +25,7 @@ pub fn no_list() -> Listed
 }
 
 // An operation, where a field is one; else `ok` is false.
-#[derive(Drop)]
+#[derive(Clone, Copy)]
 pub struct Parsed {
     pub ok: bool,
     pub kind: u8,

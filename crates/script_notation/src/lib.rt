@@ -4,7 +4,7 @@
 pub const ANSWER: usize = 512;
 
 // Where a line's answer ends in its buffer, and whether the state's words are then those of a network.
-#[derive(Drop)]
+#[derive(Clone, Copy)]
 pub struct Reply {
     pub end: usize,
     pub formed: bool,

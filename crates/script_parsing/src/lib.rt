@@ -25,7 +25,7 @@ pub fn one_number(text: &[u8]) -> Number
 }
 
 // Two numbers, where `ok` says so.
-#[derive(Drop)]
+#[derive(Clone, Copy)]
 pub struct Two {
     pub ok: bool,
     pub first: u32,

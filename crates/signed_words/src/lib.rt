@@ -1,4 +1,6 @@
 // A signed value kept as a word of 32 bits.
+#![tactic(auto)]
+
 ghost use Rattle.std.specs.Prelude.{◌≡◌};
 ghost use Rattle.std.proofs.Common.{to_z, of_z};
 ghost use Rattle.std.specs.Int.{w32};

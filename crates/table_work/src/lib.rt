@@ -1,4 +1,6 @@
 // The operations of a commit on a table, one after another: what they read from it, and what they write to it.
+#![tactic(auto)]
+
 ghost use Rattle.std.specs.Prelude.{◌≡◌, min, ◌<◌};
 ghost use Rattle.site_operations.specs.Operations.{recorded, written, worked};
 ghost use Rattle.site_operations.specs.InWords.{op_at, ops_in, table_in, Put};

@@ -1,4 +1,6 @@
 // Timestamps as values: an epoch and up to eight tuples of site and count. Each method takes one and gives a new one, which is plain.
+#![tactic(auto)]
+
 ghost use Rattle.std.specs.Prelude.{◌≡◌, map, min, ◌≤◌, length, get_or};
 ghost use Rattle.timestamp.specs.Value.{stamp_of, pair_of, PlainValue};
 ghost use Rattle.lists.specs.Lists.{spell};
@@ -7,24 +9,24 @@ ghost use Rattle.timestamp_order.specs.Timestamp.{no_pair, no_stamp, with_epoch,
 use limits::SITES_WIDE;
 
 // An epoch number. It is a type of its own, so that no count is compared with it.
-#[derive(Drop)]
+#[derive(Clone, Copy)]
 pub struct Epoch(pub u32);
 
 // A count of commits and dummies of one site.
-#[derive(Drop)]
+#[derive(Clone, Copy)]
 pub struct Count(pub u32);
 
 // The largest count.
 pub const GREATEST: u32 = 4294967295;
 
-#[derive(Drop)]
+#[derive(Clone, Copy)]
 pub struct Tuple {
     pub site: u32,
     pub count: Count,
 }
 
 // The first `len` of eight places are tuples; where `len` is above eight, all of them. The rest means nothing, and is 0 in every value answered.
-#[derive(Drop)]
+#[derive(Clone, Copy)]
 pub struct Timestamp {
     pub epoch: Epoch,
     pub len: usize,

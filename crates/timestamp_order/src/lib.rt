@@ -1,9 +1,11 @@
 // What a timestamp is, the order of timestamps, and where two part. Definitions and laws; of code only what a comparison answers.
+#![tactic(auto)]
+
 ghost use Rattle.std.specs.Prelude.{◌≡◌};
 ghost use Rattle.timestamp_order.specs.Order.{is_earlier, not_later};
 
 // What a comparison finds of the first of two.
-#[derive(Drop)]
+#[derive(Clone, Copy)]
 pub enum Order {
     Earlier,
     Equal,
@@ -11,14 +13,14 @@ pub enum Order {
 }
 
 // Where two timestamps part: at their epochs, or after so many leading tuples that both have.
-#[derive(Drop)]
+#[derive(Clone, Copy)]
 pub enum Parting {
     Epochs,
     After(usize),
 }
 
 // What the comparison of two timestamps answers.
-#[derive(Drop)]
+#[derive(Clone, Copy)]
 pub struct Compared {
     pub order: Order,
     pub parting: Parting,

@@ -1,4 +1,6 @@
 // A timestamp in words of a lent slice: its epoch, how many tuples it has, and eight places of site and count.
+#![tactic(auto)]
+
 ghost use Rattle.std.specs.Prelude.{◌≡◌, map, ◌<◌, ◌≤◌, length, take};
 ghost use Rattle.words.specs.Words.{overlaid};
 ghost use Rattle.timestamp.specs.Value.{stamp_of, pair_of, PlainValue};

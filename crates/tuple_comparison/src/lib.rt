@@ -1,4 +1,6 @@
 // Tuples compared, the site of the higher place earlier; whether two are the same; and what every comparison is made of.
+#![tactic(auto)]
+
 ghost use Rattle.std.specs.Prelude.{◌≡◌};
 ghost use Rattle.timestamp.specs.Value.{pair_of};
 ghost use Rattle.timestamp_order.specs.Order.{then_by, number_order, place_order, pair_order, rank};

@@ -1,4 +1,6 @@
 // One word of a lent slice, read or stored; and one word everywhere.
+#![tactic(auto)]
+
 ghost use Rattle.std.specs.Prelude.{◌≡◌, get_or, set, length, replicate};
 
 // A word as an index.

@@ -1,4 +1,6 @@
 // A word put between the words of a lent slice.
+#![tactic(auto)]
+
 ghost use Rattle.std.specs.Prelude.{◌≡◌};
 ghost use Rattle.word_insertion.specs.Inserted.{inserted};
 

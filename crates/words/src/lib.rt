@@ -1,4 +1,6 @@
 // Words of 32 bits in lent slices: one read, many copied or moved, and a signed value kept as a word.
+#![tactic(auto)]
+
 ghost use Rattle.std.specs.Prelude.{◌≡◌, min};
 ghost use Rattle.words.specs.Words.{overlaid, laid, shifted};
 
