@@ -13,8 +13,10 @@ CONTRACTS = ['gevrolen_c']
 # where the theorems are stated
 STATEMENTS = ['placement/Places', 'site_operations/ReadRule', 'timestamp_order/Parting', 'protocol/Earliest', 'protocol/Waiting', 'protocol/Cycles', 'protocol/Collect',
               'protocol/Calls', 'protocol/Agreement', 'origins/Statements', 'network_layout/Played', 'network_origin/Played', 'history_file/Statements',
-              'script_notation/Scripts', 'console_lines/Counted', 'c_parting/Fields']
-USE = re.compile(r'use Rattle·(\w+?)(?:·specs\.specs|\.specs)\.([\w.]+?)(?:\.the-variants)?\.\{')
+              'script_notation/Scripts', 'c_parting/Fields']
+USE = re.compile(r'use Rattle\.(\w+)\.specs\.([\w.]+?)(?:\.TheVariants)?\.\{')
+# the library's own, which stand in no folder of this repository
+LIBRARY = ('std', 'core')
 
 
 def place(crate, name):
@@ -25,7 +27,7 @@ def cited(path):
     """The files of definitions that a file names; what the code declares, structs and enums, stands in src/."""
     with open(path, encoding='utf-8') as text:
         found = {match.groups() for match in map(USE.search, text) if match}
-    return {place(crate, name) for crate, name in found if not name.startswith('declared.')}
+    return {place(crate, name) for crate, name in found if crate not in LIBRARY and not name.startswith('declared.')}
 
 
 def reached():

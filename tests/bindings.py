@@ -6,7 +6,7 @@
 - Names, numbers, sentences and sizes are the same in the header, the Python module, the Rust crate and the table of docs/USING.md.
 - The Python module raises for numbers that do not fit, for wrong types and for tables that are not of eight places, before any call.
 - The Python sessions of the module, of README.md and of docs/USING.md answer as they say; so do the programs in C and Rust, where a block of text follows them.
-- The program of docs/RATTLE.md runs, without a proof, and writes what the document says; so do the two programs for histories, where they are built.
+- The program of docs/RATTLE.md runs, without a proof, and writes what the document says; so do the two programs for histories.
 - README.md has 90 to 120 lines.
 - Two timestamps side by side are the same text in C, Rust and Python; in Python by one comparison, whose answer says where they part.
 - The C example answers as the worked example's script, with two timestamps behind it, and ends with status 0; 100,000 steps on each of two networks answer what their rounds add up to.
@@ -16,6 +16,7 @@ import doctest
 import os
 import pathlib
 import re
+import shutil
 import subprocess
 import sys
 import tempfile
@@ -178,25 +179,23 @@ def run_rattle(path, scratch):
     """The blocks of the document as one program, in a folder with all crates: the first are its uses, the others its steps."""
     found = blocks(path)
     uses, *steps = [text for language, text in found if language == "rattle"]
+    shutil.copytree(ROOT / "crates", scratch / "crates", ignore=shutil.ignore_patterns("out"))
     crate = scratch / "crates" / "examples"
     (crate / "src").mkdir(parents=True)
-    for one in (ROOT / "crates").iterdir():
-        (scratch / "crates" / one.name).symlink_to(one)
     (scratch / "crates.txt").write_text((ROOT / "crates.txt").read_text() + dict(found)["crates"])
-    (crate / "src" / "main.rt").write_text("%s\nfn main() {\n%s}\n" % (uses, "".join(steps)))
-    (crate / "stdout").write_text(dict(found)["text"])
-    run = subprocess.run(["rt", "try", "examples"], cwd=scratch, stdout=subprocess.PIPE, stderr=subprocess.STDOUT, text=True)
-    expect("the program of %s%s" % (path.name, "" if run.returncode == 0 else "\n" + run.stdout), run.returncode, 0)
+    (crate / "src" / "main.rt").write_text("%s\nfn main(rt: HostRuntime) -> io::Result<()> {\n%s    Ok(())\n}\n" % (uses, "".join(steps)))
+    run = subprocess.run(["rt", "try"], cwd=crate, stdin=subprocess.DEVNULL, stdout=subprocess.PIPE, stderr=subprocess.PIPE, text=True)
+    expect("the program of %s%s" % (path.name, "" if run.returncode == 0 else "\n" + run.stderr), (run.returncode, run.stdout), (0, dict(found)["text"]))
 
 
 def run_histories(path):
     """The ten lines' history as a file, and that as lines, which the document shows."""
-    programs = [ROOT / "target" / "bin" / name for name in ("history_write", "history_print")]
-    if not all(program.exists() for program in programs):
-        return
-    with open(ROOT / "crates" / "gevrolen" / "stdin", "rb") as lines:
-        file = subprocess.run([str(programs[0])], stdin=lines, check=True, stdout=subprocess.PIPE, stderr=subprocess.DEVNULL).stdout
-    told = subprocess.run([str(programs[1])], input=file, check=True, stdout=subprocess.PIPE).stdout.decode()
+
+    def tried(name, given):
+        return subprocess.run(["rt", "try"], cwd=ROOT / "crates" / name, input=given, check=True, stdout=subprocess.PIPE, stderr=subprocess.DEVNULL).stdout
+
+    file = tried("history_write", (ROOT / "crates" / "gevrolen" / "stdin").read_bytes())
+    told = tried("history_print", file).decode()
     expect("the history of %s" % path.name, "".join("    %s\n" % line for line in told.splitlines()) in path.read_text(), bool(told))
 
 

@@ -1,4 +1,6 @@
 // The network's answers laid into words, as C lends them: one function for each struct of the header, those of a few fields from c_fields.
+#![tactic(auto)]
+
 ghost use Rattle.std.specs.Prelude.{◌≡◌, ◌∷◌, ◌++◌, length, take};
 ghost use Rattle.limits.specs.Limits.{ops_most, items_most};
 ghost use Rattle.timestamp.specs.Value.{stamp_of};

@@ -1,4 +1,6 @@
 // Answers of a few fields laid into words, as C lends them: a timestamp, a line, an origin, a schedule.
+#![tactic(auto)]
+
 ghost use Rattle.std.specs.Prelude.{◌≡◌, [], ◌∷◌, ◌+◌, ◌<◌, length};
 ghost use Rattle.timestamp.specs.Value.{stamp_of};
 ghost use Rattle.timestamp_words.specs.InWords.{stamp_size, stamp_words};

@@ -1,5 +1,7 @@
-// Scripts from a file descriptor, their answers to another: a block is read, its lines are answered, and the answers are written before the next is read.
-ghost use Rattle.std.specs.Prelude.{◌≤◌, length};
+// Scripts from a reader, their answers to a writer: a block is read, its lines are answered, and the answers are written before the next is read.
+#![tactic(auto)]
+
+ghost use Rattle.std.specs.Prelude.{◌≡◌, ◌≤◌, false, length};
 ghost use Rattle.console_notation.specs.Lines.{line_most};
 ghost use Rattle.console_held.specs.Held.{held_of};
 ghost use Rattle.console.specs.Runs.{Ran, Began, Went, Passed, Closed, Replying};
@@ -8,6 +10,7 @@ pub use console_blocks::{feed, finish};
 pub use console_held::nothing;
 pub use console_notation::{Held, Progress};
 use network_layout::WORDS;
+use std::io::{Read, Write};
 
 // What is held of a line where the run goes on, whether the words are then those of a network, whether it goes on, and whether everything was read and
 // written so far.
@@ -19,23 +22,26 @@ pub struct Run {
     pub well: bool,
 }
 
-// A script is read from one file descriptor and answered on a lent state, and its answers are written to another. It answers whether all was read and
-// written; what failed is told on standard error, and ends the run.
-pub fn run_on(state: &mut [u32; WORDS], from: i32, out: i32) -> bool
+// A script is read from a reader and answered on a lent state, and its answers are written to a writer. It answers whether all was read and written; what
+// failed is told to another writer, and ends the run.
+pub fn run_on<R: Read, W: Write, E: Write>(
+    state: &mut [u32; WORDS],
+    from: &mut R,
+    out: &mut W,
+    told: &mut E,
+) -> bool
     ensures { Ran state.old state.new }
 {
     let mut block = [0u8; 57344];
     let mut answers = [0u8; 65536];
     let mut at = begun(state);
-    // Nothing says that an input ends, so the turns are counted down, from a number that no run uses up.
-    let mut turns = u64::MAX;
-    while turns > 0 {
+    // Nothing says that an input ends, so the turns are counted, to a number that no run uses up.
+    for _ in 0..u64::MAX {
         if !at.more {
             return at.well;
         }
         let held = at.held;
-        at = turn(held, at.formed, state, &mut block, &mut answers, from, out);
-        turns -= 1;
+        at = turn(held, at.formed, state, &mut block, &mut answers, from, out, told);
     }
     false
 }
@@ -52,52 +58,54 @@ fn begun(state: &[u32; WORDS]) -> Run
     }
 }
 
-// A block is read and answered; where the input ends, the line that is held.
-fn turn(
+// A block is read and answered; where the input ends, the line that is held. A line that is cut off by a failure is not answered: its first bytes may
+// stand for another call.
+fn turn<R: Read, W: Write, E: Write>(
     held: Held,
     formed: bool,
     state: &mut [u32; WORDS],
     block: &mut [u8],
     answers: &mut [u8],
-    from: i32,
-    out: i32,
+    from: &mut R,
+    out: &mut W,
+    told: &mut E,
 ) -> Run
     requires { Replying state.old formed answers.old }
     ensures { Went (held_of held) state.old state.new result }
 {
-    let got = fetch(from, block);
-    if got < 0 {
-        return Run {
-            held,
-            formed,
-            more: false,
-            well: false,
-        };
+    match from.read(block) {
+        Ok(0) => last(held, state, answers, out, told),
+        Ok(n) => reply(&block[..n], held, formed, state, answers, out, told),
+        Err(error) => {
+            let _ = writeln!(told, "script not read: {error}");
+            broken_off(held, formed)
+        }
     }
-    let n = io::count(got, block);
-    if n == 0 {
-        return last(held, state, answers, out);
-    }
-    reply(&block[..n], held, formed, state, answers, out)
 }
 
-// A line that is cut off by a failure is not answered: its first bytes may stand for another call.
-fn fetch(from: i32, block: &mut [u8]) -> isize {
-    let got = libc::read(from, block);
-    if got < 0 {
-        os::fail(b"script not read");
+// Where reading or writing failed, the run ends.
+fn broken_off(held: Held, formed: bool) -> Run
+    ensures more { result.more ≡ false }
+    ensures well { result.well ≡ false }
+    ensures held { result.held ≡ held }
+{
+    Run {
+        held,
+        formed,
+        more: false,
+        well: false,
     }
-    got
 }
 
 // The lines of a block; where the answers fill their buffer, they are written and it goes on.
-fn reply(
+fn reply<W: Write, E: Write>(
     block: &[u8],
     held: Held,
     formed: bool,
     state: &mut [u32; WORDS],
     answers: &mut [u8],
-    out: i32,
+    out: &mut W,
+    told: &mut E,
 ) -> Run
     requires { Replying state.old formed answers.old }
     ensures { Passed block.now (held_of held) state.old state.new result }
@@ -110,14 +118,8 @@ fn reply(
         line = r.held;
         known = r.formed;
         used += r.used;
-        let n = r.filled;
-        if !written(out, &answers[..n]) {
-            return Run {
-                held: line,
-                formed: known,
-                more: false,
-                well: false,
-            };
+        if !written(&answers[..r.filled], out, told) {
+            return broken_off(line, known);
         }
     }
     Run {
@@ -129,25 +131,31 @@ fn reply(
 }
 
 // The last line, where it lacks its newline.
-fn last(held: Held, state: &mut [u32; WORDS], answers: &mut [u8], out: i32) -> Run
+fn last<W: Write, E: Write>(
+    held: Held,
+    state: &mut [u32; WORDS],
+    answers: &mut [u8],
+    out: &mut W,
+    told: &mut E,
+) -> Run
     requires { line_most ≤ length answers.old }
     ensures { Closed (held_of held) state.old state.new result }
 {
     let r = finish(held, state, answers, 0);
-    let line = r.held;
-    let n = r.filled;
     Run {
-        held: line,
+        held: r.held,
         formed: false,
         more: false,
-        well: written(out, &answers[..n]),
+        well: written(&answers[..r.filled], out, told),
     }
 }
 
-fn written(out: i32, answers: &[u8]) -> bool {
-    if io::write_all(out, answers) {
-        return true;
+fn written<W: Write, E: Write>(answers: &[u8], out: &mut W, told: &mut E) -> bool {
+    match out.write_all(answers) {
+        Ok(()) => true,
+        Err(error) => {
+            let _ = writeln!(told, "answers not written: {error}");
+            false
+        }
     }
-    os::fail(b"answers not written");
-    false
 }

@@ -1,8 +1,9 @@
 // The script program: it answers the lines of standard input, on a state that was never set up.
-use libc::{STDIN_FILENO, STDOUT_FILENO};
+#![tactic(auto)]
+
 use network_layout::WORDS;
 
-fn main() {
+fn main(rt: HostRuntime) {
     let mut state = [0u32; WORDS];
-    console::run_on(&mut state, STDIN_FILENO, STDOUT_FILENO);
+    console::run_on(&mut state, &mut rt.stdin(), &mut rt.stdout(), &mut rt.stderr());
 }

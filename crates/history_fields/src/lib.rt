@@ -1,4 +1,6 @@
 // What the trailer of a history file says, and the parts of the file that it gives.
+#![tactic(auto)]
+
 ghost use Rattle.std.specs.Prelude.{◌≡◌, ◌+◌, ◌≤◌, length, get_or, leb};
 ghost use Rattle.words.specs.Words.{part};
 ghost use Rattle.history_file.specs.File.{trailer_size};

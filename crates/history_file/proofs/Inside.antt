@@ -45,7 +45,7 @@ module _ (place : ℕ → ℕ) (sites : ℕ) (before : (k j : ℕ) → j < sites
 module _ (b : List ℕ) (e : file_number b ≡ 0) where
   table_holds : has_table b ≡ true → holds_each (places_read b) ≡ true
   unfolding table_fits
-  table_holds t = (and_true (holds_each (places_read b)) (not (is_numbers (places_read b))) (rw t at (good_parts b (accepted b e)).table_fits)).0
+  table_holds t = (and_true (holds_each (places_read b)) (not (is_numbers (places_read b))) (rw t at (good_parts b (accepted b e)).table_fits_lem)).0
 
   place_low : (j : ℕ) → j < sites_read b → rank (places_read b) j < sites_read b
   unfolding places_read

@@ -290,7 +290,7 @@ module _ (b : List ℕ) (a : Accepted b) (e : Bytes b) where
       go : (t : Bool) → has_table b ≡ t → Tabled
       go true h =
           let table = part b (start_read b) (sites_read b) in
-          let fits : (holds_each table && not (is_numbers table)) ≡ true = rw h at good.table_fits in
+          let fits : (holds_each table && not (is_numbers table)) ≡ true = rw h at good.table_fits_lem in
           let other : is_numbers table ≡ false = flip_true (not (is_numbers table)) (is_numbers table) refl (and_true (holds_each table) (not (is_numbers table)) fits).1 in
           record { table_is = rw (h, other) (bytes_same table (bytes_part b (start_read b) (sites_read b) e)); flag_is = rw (h, other) (sym (eqb-true (flag_read b % 2) 1 h)) }
       go false h =

@@ -1,4 +1,6 @@
 // The history file: its definitions, the statements on it, and what its calls answer. No code.
+#![tactic(auto)]
+
 use timestamp::Timestamp;
 
 // The mark at the start of the trailer: 53 45 41 54.

@@ -1,4 +1,6 @@
 // What leads the records of a file: a table of places, where places and numbers differ, and behind it base values, where a collect has removed a record.
+#![tactic(auto)]
+
 ghost use Rattle.std.specs.Prelude.{◌≡◌, cond, ◌+◌, ◌*◌, ◌≤◌, length, take, eqb};
 ghost use Rattle.limits.specs.Limits.{sites_most};
 ghost use Rattle.network_layout.specs.Layout.{item_count, state_size};
@@ -111,7 +113,7 @@ fn put_table(b: &mut [u8], places: [u8; SITES_WIDE])
     ensures { b.new ≡ take (length b.old) places }
 {
     let n = b.len();
-    bytes::copy(&places[..n], b);
+    b.copy_from_slice(&places[..n]);
 }
 
 // The first n base values of a network.

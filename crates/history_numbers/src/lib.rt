@@ -1,4 +1,6 @@
 // Numbers in bytes, little-endian, read.
+#![tactic(auto)]
+
 ghost use Rattle.std.specs.Prelude.{◌≡◌, ◌+◌, ◌*◌, ◌≤◌, length, get_or};
 ghost use Rattle.history_file.specs.Bytes.{number_at, all_zero as zerosOf};
 

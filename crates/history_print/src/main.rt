@@ -1,123 +1,83 @@
 // The records of a history file, one line each: the file is read on standard input.
-ghost use Rattle.std.specs.Prelude.{◌≤◌, length};
+#![tactic(auto)]
+
+ghost use Rattle.std.specs.Prelude.{◌≤◌, IfOk, length};
 ghost use Rattle.history_print.specs.Asked.{Filled, Room};
 
 use history::Found;
-use libc::{STDIN_FILENO, STDOUT_FILENO};
 use limits::SITES_WIDE;
 use script_notation::ANSWER;
-
-// How far the lines have come: how many of their bytes are still to be written, and whether all before them were.
-#[derive(Clone, Copy)]
-pub struct Page {
-    pub filled: usize,
-    pub well: bool,
-}
+use std::io;
+use std::io::Read;
 
 // One byte more than is taken, for an input that is too long.
-fn main() {
+fn main(rt: HostRuntime) -> io::Result<()> {
     let mut file = [0u8; 65537];
-    let n = load(&mut file);
+    let n = load(&mut rt.stdin(), &mut file)?;
     if 65536 < n {
-        written(b"?\n");
-        return;
+        return println!(rt; "?");
     }
-    print(&file[..n]);
+    print(&rt, &file[..n])
 }
 
-// Standard input to the front of the buffer, to its end or the buffer's. It answers how many bytes there are.
-fn load(file: &mut [u8]) -> usize
-    ensures { result ≤ length file.old }
+// A reader's bytes to the front of the buffer, to their end or the buffer's. It answers how many bytes there are.
+fn load<R: Read>(from: &mut R, file: &mut [u8]) -> io::Result<usize>
+    ensures { IfOk result (λ n. n ≤ length file.old) }
 {
     let mut filled = 0usize;
     while filled < file.len() {
-        let got = fetch(&mut file[filled..]);
-        let n = io::count(got, &file[filled..]);
+        let n = from.read(&mut file[filled..])?;
         if n == 0 {
-            return filled;
+            return Ok(filled);
         }
         filled += n;
     }
-    filled
-}
-
-fn fetch(file: &mut [u8]) -> isize {
-    let got = libc::read(STDIN_FILENO, file);
-    if got < 0 {
-        os::fail(b"file not read");
-    }
-    got
-}
-
-// Bytes to standard output; that they were not written is told.
-fn written(bytes: &[u8]) -> bool {
-    if io::write_all(STDOUT_FILENO, bytes) {
-        return true;
-    }
-    os::fail(b"records not written");
-    false
+    Ok(filled)
 }
 
 // The file at the end of the bytes, or the number for which it is refused.
-fn print(b: &[u8]) {
+fn print(rt: &impl Print, b: &[u8]) -> io::Result<()> {
     let file = history::check(b);
     if file.number != 0 {
-        refused(file.number);
-        return;
+        return println!(rt; "{}", file.number);
     }
     let part = history::part(b);
     let places = file.places;
-    records(part, file.records, file.sites, file.items, places);
-}
-
-fn refused(number: u32) {
-    let mut text = [0u8; 20];
-    let n = io::decimal(number as u64, &mut text);
-    if written(&text[..n]) {
-        written(b"\n");
-    }
+    records(rt, part, file.records, file.sites, file.items, places)
 }
 
 // From record to record of a part; the lines are collected and written when there are many.
-fn records(part: &[u8], n: u32, sites: u32, items: u32, places: [u8; SITES_WIDE]) {
-    let mut lines = io::large_buffer();
-    let mut page = Page {
-        filled: 0,
-        well: true,
-    };
+fn records(
+    rt: &impl Print,
+    part: &[u8],
+    n: u32,
+    sites: u32,
+    items: u32,
+    places: [u8; SITES_WIDE],
+) -> io::Result<()> {
+    let mut lines = [0u8; 65536];
+    let mut filled = 0usize;
     let mut at = 0usize;
-    let mut i = 0u32;
-    while i < n {
+    for _ in 0..n {
         let r = history::record_from(part, at, sites, items, places);
         at = r.next;
-        page = add(r, &mut lines, page.filled);
-        if !page.well {
-            return;
-        }
-        i += 1;
+        filled = add(rt, r, &mut lines, filled)?;
     }
-    let filled = page.filled;
-    written(&lines[..filled]);
+    rt.write_all(&lines[..filled])
 }
 
-// A record's line behind the others, which are written first where there is no room for one more.
-fn add(r: Found, lines: &mut [u8], filled: usize) -> Page
+// A record's line behind the others, which are written first where there is no room for one more. It answers how many bytes are filled.
+fn add(rt: &impl Print, r: Found, lines: &mut [u8], filled: usize) -> io::Result<usize>
     requires { Filled lines.old filled }
-    ensures { result.filled ≤ 65536 }
+    ensures { IfOk result (λ n. n ≤ 65536) }
 {
     let mut text = [0u8; ANSWER];
     let n = line(r, &mut text);
     if 65023 < filled {
-        let well = written(&lines[..filled]);
-        return Page {
-            filled: append(&text[..n], lines, 0),
-            well,
-        };
+        rt.write_all(&lines[..filled])?;
+        return Ok(append(&text[..n], lines, 0));
     }
-    Page {
-        filled: append(&text[..n], lines, filled),
-        well: true,
-    }
+    Ok(append(&text[..n], lines, filled))
 }
 
 fn line(r: Found, text: &mut [u8; ANSWER]) -> usize

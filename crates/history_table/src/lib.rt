@@ -1,4 +1,6 @@
 // The table of places that leads a history file: the places that it gives, and whether it may stand there.
+#![tactic(auto)]
+
 ghost use Rattle.std.specs.Prelude.{◌≡◌, not, ◌&&◌};
 ghost use Rattle.lists.specs.Lists.{occurrences as occurrencesOf};
 ghost use Rattle.timestamp_order.specs.Order.{rank};

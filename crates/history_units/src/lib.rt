@@ -1,4 +1,6 @@
 // What a file is written of: values in four bytes, eights of bytes, and a trailer.
+#![tactic(auto)]
+
 ghost use Rattle.std.specs.Prelude.{◌≡◌, length};
 ghost use Rattle.history_file.specs.Bytes.{byte, little, value_size, unit, unit_size};
 ghost use Rattle.history_file.specs.File.{trailer, trailer_size};
@@ -24,7 +26,7 @@ pub fn put_number(b: &mut [u8], n: u32)
         low(n / 256 / 256),
         low(n / 256 / 256 / 256),
     ];
-    bytes::copy(&u, b);
+    b.copy_from_slice(&u);
 }
 
 // Eight bytes: three fields, 0, and a number in four bytes.
@@ -42,7 +44,7 @@ pub fn put_unit(b: &mut [u8], x: u32, y: u32, z: u32, n: u32)
         low(n / 256 / 256),
         low(n / 256 / 256 / 256),
     ];
-    bytes::copy(&u, b);
+    b.copy_from_slice(&u);
 }
 
 // The trailer of a file.
@@ -68,7 +70,7 @@ pub fn put_trailer(b: &mut [u8], count: u32, distance: u32, sites: u32, items: u
         low(flag),
         0u8,
     ];
-    bytes::copy(&t, b);
+    b.copy_from_slice(&t);
 }
 
 // A count as a number of 32 bits.

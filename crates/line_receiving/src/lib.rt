@@ -1,4 +1,6 @@
 // Messages of a line that arrive in order and are taken off at its front, in words of a lent slice.
+#![tactic(auto)]
+
 ghost use Rattle.std.specs.Prelude.{◌≡◌, ◌-◌};
 ghost use Rattle.words.specs.Words.{Stepped};
 ghost use Rattle.lines.specs.Lines.{delivered_or_same, taken_or_same};

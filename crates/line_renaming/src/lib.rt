@@ -1,4 +1,6 @@
 // The messages of a line by a table of names: whether one names a commit that goes, and the commits by their new names.
+#![tactic(auto)]
+
 ghost use Rattle.std.specs.Prelude.{◌≡◌, ◌+◌, ◌*◌, get_or};
 ghost use Rattle.words.specs.Words.{part, put, Stepped};
 ghost use Rattle.lists.specs.Lists.{any};

@@ -1,4 +1,6 @@
 // A message sent at the end of a line, in words of a lent slice.
+#![tactic(auto)]
+
 ghost use Rattle.words.specs.Words.{Stepped};
 ghost use Rattle.messages.specs.InWords.{message_of};
 ghost use Rattle.lines.specs.Lines.{sent_or_same};

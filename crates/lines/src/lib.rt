@@ -1,4 +1,6 @@
 // A line of messages in words of a lent slice: how many it holds, how many have arrived, and the name of one of them.
+#![tactic(auto)]
+
 ghost use Rattle.std.specs.Prelude.{◌≡◌, min, ◌≤◌, length, get_or, eqb};
 ghost use Rattle.limits.specs.Limits.{held_most};
 ghost use Rattle.messages.specs.Messages.{commit, name_of};

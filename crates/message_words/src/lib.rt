@@ -1,4 +1,6 @@
 // A message laid over words of a lent slice, and what a name in words stands for.
+#![tactic(auto)]
+
 ghost use Rattle.std.specs.Prelude.{◌≡◌, true, min};
 ghost use Rattle.limits.specs.Limits.{records_most};
 ghost use Rattle.messages.specs.InWords.{message_in, message_range, message_of};

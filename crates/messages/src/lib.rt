@@ -1,4 +1,6 @@
 // A message and its words: its name, and the timestamp of a dummy. Definitions and laws, the struct and the places; no code.
+#![tactic(auto)]
+
 use timestamp::Timestamp;
 
 // A message: the number of the record that it names, or 256 and more for a dummy, which has its own timestamp.

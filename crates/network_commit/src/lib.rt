@@ -1,4 +1,6 @@
 // Commit: its operations on the site's table, its record in the history, a message to each child due one.
+#![tactic(auto)]
+
 mod operation_causes; // operation_causes.rt: whether each operation may be done
 mod operations; // operations.rt: a commit's operations in words, and the values read
 

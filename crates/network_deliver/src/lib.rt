@@ -1,4 +1,6 @@
 // Deliver: the oldest message on the way becomes arrived.
+#![tactic(auto)]
+
 ghost use Rattle.std.specs.Prelude.{◌≡◌, [], length, leb};
 ghost use Rattle.network_layout.specs.Layout.{state_size};
 ghost use Rattle.protocol.specs.Network.{no_stamp, line_at};

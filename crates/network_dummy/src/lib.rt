@@ -1,4 +1,6 @@
 // Dummy: a commit without operations, sent to every child.
+#![tactic(auto)]
+
 ghost use Rattle.std.specs.Prelude.{◌≡◌, length};
 ghost use Rattle.network_layout.specs.Layout.{state_size};
 ghost use Rattle.protocol.specs.Steps.{dummy_number};

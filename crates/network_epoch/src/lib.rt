@@ -1,4 +1,6 @@
 // Epoch: a site without parents sets the epoch of its timestamp.
+#![tactic(auto)]
+
 ghost use Rattle.std.specs.Prelude.{◌≡◌, [], length};
 ghost use Rattle.network_layout.specs.Layout.{state_size};
 ghost use Rattle.protocol.specs.Network.{no_stamp};

@@ -1,4 +1,6 @@
 // The layout of a state in words, and what the calls answer. No code.
+#![tactic(auto)]
+
 use limits::{ITEMS_WIDE, OPERATIONS_WIDE, RECORDS_WIDE, SITES_WIDE};
 use timestamp::Timestamp;
 

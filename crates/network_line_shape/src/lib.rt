@@ -1,4 +1,6 @@
 // Whether the words of a line are those of one of a network: it holds what it says, the placement gives it, and each message is the parent's.
+#![tactic(auto)]
+
 ghost use Rattle.std.specs.Prelude.{◌≡◌, ◌+◌, ◌*◌, ◌≤◌, ◌<◌, length};
 ghost use Rattle.words.specs.Words.{part, chunks};
 ghost use Rattle.lists.specs.Lists.{every};

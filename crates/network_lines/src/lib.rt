@@ -1,4 +1,6 @@
 // The lines of a state by their numbers.
+#![tactic(auto)]
+
 ghost use Rattle.std.specs.Prelude.{◌≡◌, ◌≤◌, length, get_or};
 ghost use Rattle.limits.specs.Limits.{held_most};
 ghost use Rattle.lines.specs.Lines.{no_line, sent_or_same, delivered_or_same, taken_or_same};

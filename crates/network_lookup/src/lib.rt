@@ -1,4 +1,6 @@
 // What a reader answers where nothing refuses it: the table of a site and the two counts of a line, by number; and values in words.
+#![tactic(auto)]
+
 ghost use Rattle.std.specs.Prelude.{◌≡◌, pos, take};
 ghost use Rattle.lists.specs.Lists.{padded};
 ghost use Rattle.limits.specs.Limits.{items_most};

@@ -1,4 +1,6 @@
 // The words of a new network: its counts, its placement, its sites at their start, its lines empty and no base value but 0. What else means nothing stays as it was.
+#![tactic(auto)]
+
 ghost use Rattle.std.specs.Prelude.{◌+◌};
 ghost use Rattle.placement.specs.InWords.{items_in};
 ghost use Rattle.network_layout.specs.Layout.{sites_size};

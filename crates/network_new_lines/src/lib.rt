@@ -1,4 +1,6 @@
 // The words of a new network's lines: every line empty.
+#![tactic(auto)]
+
 ghost use Rattle.std.specs.Prelude.{◌+◌, ◌≤◌, ◌≡◌, length};
 ghost use Rattle.protocol.specs.Network.{lines_most};
 ghost use Rattle.network_layout.specs.Layout.{lines_size};

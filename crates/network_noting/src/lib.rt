@@ -1,4 +1,6 @@
 // A record noted for each item that it writes, in a table with a record's number for each item: of the two the earlier stays, or the later.
+#![tactic(auto)]
+
 ghost use Rattle.std.specs.Prelude.{◌≡◌};
 ghost use Rattle.protocol.specs.Network.{nth_record};
 ghost use Rattle.network_layout.specs.InWords.{network_in};

@@ -1,4 +1,6 @@
 // What a state's placement says: how many sites and items there are, who owns and copies what, and who sends to whom.
+#![tactic(auto)]
+
 ghost use Rattle.std.specs.Prelude.{◌≡◌, not, length, get_or};
 ghost use Rattle.limits.specs.Limits.{sites_most};
 ghost use Rattle.words.specs.Words.{part};

@@ -1,4 +1,6 @@
 // The point up to which a collect removes records, and the table of what becomes of each.
+#![tactic(auto)]
+
 ghost use Rattle.std.specs.Prelude.{◌≡◌, ◌+◌, length};
 ghost use Rattle.timestamp_order.specs.Order.{rank};
 ghost use Rattle.timestamp_order.specs.Parting.{Compares};

@@ -1,4 +1,6 @@
 // Readers of a state: a site's table and timestamp, and a line. They only look.
+#![tactic(auto)]
+
 ghost use Rattle.std.specs.Prelude.{◌≡◌, length};
 ghost use Rattle.protocol.specs.Questions.{asked_line};
 ghost use Rattle.network_layout.specs.Layout.{state_size};

@@ -1,4 +1,6 @@
 // The records of a state by their numbers.
+#![tactic(auto)]
+
 ghost use Rattle.std.specs.Prelude.{◌≡◌, min, ◌≤◌, length, take};
 ghost use Rattle.timestamp.specs.Value.{stamp_of, PlainValue};
 ghost use Rattle.timestamp_order.specs.Order.{rank};

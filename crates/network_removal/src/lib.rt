@@ -1,4 +1,6 @@
 // The records of a state that a table of names says go, removed: the others moved together, counted, and the flag set.
+#![tactic(auto)]
+
 ghost use Rattle.network_layout.specs.At.{AtState};
 ghost use Rattle.network_removal.specs.Removed.{FlagStep, RemovalStep};
 

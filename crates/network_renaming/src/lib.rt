@@ -1,4 +1,6 @@
 // The messages on all lines of a state by a table of names: whether one names a commit that goes, and the commits by their new names.
+#![tactic(auto)]
+
 ghost use Rattle.std.specs.Prelude.{◌≡◌, get_or};
 ghost use Rattle.lines.specs.Lines.{no_line};
 ghost use Rattle.line_renaming.specs.Renaming.{line_renamed_by};

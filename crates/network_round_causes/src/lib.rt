@@ -1,4 +1,6 @@
 // The number for which a round is refused: a line that has no room, a site whose own count is the largest, or an epoch that is.
+#![tactic(auto)]
+
 ghost use Rattle.std.specs.Prelude.{◌≡◌, max, length, get_or, leb};
 ghost use Rattle.limits.specs.Limits.{held_most};
 ghost use Rattle.lists.specs.Lists.{any, some_below};

@@ -1,4 +1,6 @@
 // The number for which a schedule is refused: no such site, no parents, or a parent from which nothing has arrived.
+#![tactic(auto)]
+
 ghost use Rattle.std.specs.Prelude.{◌≡◌};
 ghost use Rattle.limits.specs.Limits.{sites_most};
 ghost use Rattle.lists.specs.Lists.{some_below};

@@ -1,4 +1,6 @@
 // A message from a site to those of the others that a mask names.
+#![tactic(auto)]
+
 ghost use Rattle.std.specs.Prelude.{◌≡◌, true, false, ◌&&◌, cond, ◌<◌, length, leb};
 ghost use Rattle.placement.specs.Masks.{bit};
 ghost use Rattle.limits.specs.Limits.{sites_most, held_most};

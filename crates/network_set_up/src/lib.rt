@@ -1,4 +1,6 @@
 // Set-up: a new network, where no cause refuses it.
+#![tactic(auto)]
+
 ghost use Rattle.std.specs.Prelude.{◌≡◌, [], ◌∷◌, ◌++◌, ◌+◌, ◌<◌, length};
 ghost use Rattle.limits.specs.Limits.{items_most};
 ghost use Rattle.placement.specs.InWords.{items_in};

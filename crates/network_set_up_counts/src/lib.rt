@@ -1,4 +1,6 @@
 // What a set-up's counts give: the number of the first cause that they are refused for.
+#![tactic(auto)]
+
 ghost use Rattle.std.specs.Prelude.{◌≡◌};
 ghost use Rattle.lists.specs.Numbers.{outside as outsideOf};
 ghost use Rattle.protocol.specs.Steps.{wrong_items};

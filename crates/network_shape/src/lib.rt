@@ -1,4 +1,6 @@
 // Whether a state's words are those of a network. It looks only at what is held, and passes over empty lines at once.
+#![tactic(auto)]
+
 ghost use Rattle.std.specs.Prelude.{◌≡◌, ◌+◌, ◌≤◌, length};
 ghost use Rattle.words.specs.Words.{part, chunks};
 ghost use Rattle.lists.specs.Lists.{every, every_from};

@@ -1,4 +1,6 @@
 // The sites of a state by their numbers.
+#![tactic(auto)]
+
 ghost use Rattle.std.specs.Prelude.{◌≡◌, min};
 ghost use Rattle.timestamp.specs.Value.{stamp_of, PlainValue};
 ghost use Rattle.site_operations.specs.Operations.{worked};

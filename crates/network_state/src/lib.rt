@@ -1,4 +1,6 @@
 // What others read of a state: whether it is well shaped, how much it holds, and a record of its history.
+#![tactic(auto)]
+
 ghost use Rattle.std.specs.Prelude.{◌≡◌, length};
 ghost use Rattle.network_layout.specs.Layout.{state_size};
 ghost use Rattle.protocol.specs.Network.{no_record, nth_record};

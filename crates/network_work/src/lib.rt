@@ -1,4 +1,6 @@
 // A commit's work at its site: the operations on the table, and the record in the history.
+#![tactic(auto)]
+
 ghost use Rattle.std.specs.Prelude.{◌≡◌, ◌≤◌};
 ghost use Rattle.site_operations.specs.InWords.{ops_in};
 ghost use Rattle.limits.specs.Limits.{ops_most};

@@ -1,4 +1,6 @@
 // A read found in the history; whether its own commit writes the item before it; and the last commit before its own that does.
+#![tactic(auto)]
+
 ghost use Rattle.std.specs.Prelude.{◌≡◌, ◌+◌, length};
 ghost use Rattle.site_operations.specs.Operations.{touches};
 ghost use Rattle.origins.specs.Origin.{ops_before};

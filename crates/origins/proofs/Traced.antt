@@ -31,7 +31,7 @@ use Rattle.origins.proofs.Last.{IsRead, read_there, origin_last}
 
 -- ---- a read of a network whose commits are as they must be
 module _ (n : Network) (kept : Kept n) (k a : ℕ) (read : IsRead n k a) where
-  open times_at n use {upto_self, Upto-before, upto_other, before_trans, before_upto, never_before, before_test, test_before, test_fails}
+  open times_at n use {upto_self, upto_before, upto_other, before_trans, before_upto, never_before, before_test, test_before, test_fails}
 
   abbrev h : List Record
   h = n.history
@@ -139,7 +139,7 @@ module _ (n : Network) (kept : Kept n) (k a : ℕ) (read : IsRead n k a) where
         go false e =
             let up : m < i = omega (arith, other, ltb-false i m e) in
             let rise : Earlier m i = kept.rise x m i up low writer_writes t in
-            late i up low t ∙ sym (test_fails (nth_record n i).stamp (nth_record n m).stamp (Upto-before (nth_record n m).stamp (nth_record n i).stamp rise))
+            late i up low t ∙ sym (test_fails (nth_record n i).stamp (nth_record n m).stamp (upto_before (nth_record n m).stamp (nth_record n i).stamp rise))
 
     pub named_read : own_write n k a ≡ false → (nth_op n k a).value ≡ wrote x (value_before m) (nth_record n m).ops
     named_read alone =

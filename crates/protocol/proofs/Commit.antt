@@ -53,7 +53,7 @@ like_due xs j (o ∷ os) (u ∷ us) e f =
 
 -- ---- a commit that nothing refuses
 module _ (n : Network) (inv : Invariant n) (i : ℕ) (os : List Op) (site : i < length n.sites) (few : count_at_most n i ≡ false) (fit : first_number (map (op_number n.items i) os) ≡ 0) where
-  open times_at n use {upto_self, Upto-before, upto_then, before_test, later_fails, test_fails, made_under, cut_upto, cut_before, cut_test}
+  open times_at n use {upto_self, upto_before, upto_then, before_test, later_fails, test_fails, made_under, cut_upto, cut_before, cut_test}
 
   abbrev new : Site
   new = committed os (site_at n i)
@@ -158,7 +158,7 @@ module _ (n : Network) (inv : Invariant n) (i : ℕ) (os : List Op) (site : i < 
       let same : last_value x (keep p n.history) ≡ last_value x (keep p later)
       = sym (without_it x (last_value x (keep p n.history)) p
       (λ t. test_fails r.stamp c.stamp
-      (Upto-before c.stamp r.stamp (upto_then c.stamp (stamp_at n c.site) r.stamp (inv.past k l) (above c.site x (record_site n inv k l) t (s.held e))))))
+      (upto_before c.stamp r.stamp (upto_then c.stamp (stamp_at n c.site) r.stamp (inv.past k l) (above c.site x (record_site n inv k l) t (s.held e))))))
       ∙ sym (with_it x p) in
       inv.read k l a b e ∙ ap (λ (v : ℤ). wrote x v (take a c.ops)) same
 

@@ -20,14 +20,14 @@ use Rattle.protocol.specs.Earliest.{no_later, earliest_stamp, Earliest, Earliest
 use Rattle.protocol.proofs.Times.{times}
 
 module _ (place : ℕ → ℕ) where
-  open times place use {upto_self, Upto-before, upto_trans, fails_later, upto_turned}
+  open times place use {upto_self, upto_before, upto_trans, fails_later, upto_turned}
 
   -- ---- the test by which is sorted
   pub no_later_along : (s t u : Stamp) → no_later place s t ≡ true → no_later place t u ≡ true → no_later place s u ≡ true
   no_later_along = upto_trans
 
   pub no_later_either : (s t : Stamp) → no_later place s t ≡ false → no_later place t s ≡ true
-  no_later_either s t h = Upto-before t s (fails_later s t h)
+  no_later_either s t h = upto_before t s (fails_later s t h)
 
   -- ---- by one walk
   -- of two elements with timestamps the one that stays

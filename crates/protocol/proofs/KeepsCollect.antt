@@ -13,7 +13,7 @@ use Rattle.lists.specs.Lists.{every, any, is_empty, some_below}
 use Rattle.lists.specs.Numbers.{number_if}
 use Rattle.lists.proofs.Every.{and_true, every_at, every_all}
 use Rattle.lists.proofs.Some.{none_at, none_below}
-use Rattle.lists.proofs.Numbers.{or-false}
+use Rattle.lists.proofs.Numbers.{or_false}
 use Rattle.lists.proofs.Chains.{Each, keep_none}
 use Rattle.lists.proofs.Sorting.{each_sorted}
 use Rattle.lists.proofs.Renumber.{count_both, count_rises, keep_length, keep_at, keep_every}
@@ -52,7 +52,7 @@ module _ (goes : ℕ → Bool) (h : List Record) where
   messages_fit : (place : ℕ → ℕ) (p : ℕ) (ms : List Message) → any (names_one goes) ms ≡ false → every (message_fits place h p) ms ≡ true → every (message_fits place (staying goes h) p) (map (renamed goes) ms) ≡ true
   messages_fit place p [] e f = refl
   messages_fit place p (m ∷ ms) e f =
-      let none = or-false (names_one goes m) (any (names_one goes) ms) e in
+      let none = or_false (names_one goes m) (any (names_one goes) ms) e in
       let fit = and_true (message_fits place h p m) (every (message_fits place h p) ms) f in
       rw (renamed_fits place p m none.0 fit.0) (messages_fit place p ms none.1 fit.1)
 

@@ -17,7 +17,7 @@ use Rattle.protocol.specs.Run.{Turn}
 use Rattle.protocol.proofs.Times.{times}
 
 module _ (place : ℕ → ℕ) {A : Type 0} (number : A → ℕ) (stamp : A → Stamp) where
-  open times place use {Upto-before, upto_trans, before_upto, upto_then, never_before, fails_later, before_test, test_before}
+  open times place use {upto_before, upto_trans, before_upto, upto_then, never_before, fails_later, before_test, test_before}
 
   abbrev precedes : A → A → Bool
   precedes c d = precedes_by place (number c) (stamp c) (number d) (stamp d)
@@ -40,7 +40,7 @@ module _ (place : ℕ → ℕ) {A : Type 0} (number : A → ℕ) (stamp : A → 
   before_precedes c d e = go (ltb (number c) (number d))
     where
       go : (b : Bool) → cond b (not_later (order_by place (stamp c) (stamp d))) (is_earlier (order_by place (stamp c) (stamp d))) ≡ true
-      go true = Upto-before (stamp c) (stamp d) e
+      go true = upto_before (stamp c) (stamp d) e
       go false = before_test (stamp c) (stamp d) e
 
   -- ---- and to them
@@ -56,7 +56,7 @@ module _ (place : ℕ → ℕ) {A : Type 0} (number : A → ℕ) (stamp : A → 
       go false l e = inl (test_before (stamp c) (stamp d) e)
 
   case_upto : (c d : A) → Cases c d → UpTo c d
-  case_upto c d (inl s) = Upto-before (stamp c) (stamp d) s
+  case_upto c d (inl s) = upto_before (stamp c) (stamp d) s
   case_upto c d (inr l) = l.1
 
   pub precedes_upto : (c d : A) → precedes c d ≡ true → UpTo c d

@@ -119,7 +119,7 @@ by_number_lem f j (r ∷ h) g =
     ap₂ {C = List Record} (λ p ps. p ∷ ps) (g 0 (omega arith) ∙ ap f first) (by_number_lem f (suc j) h (λ k l. g (suc k) (omega arith) ∙ ap f (next k)))
 
 module _ (place : ℕ → ℕ) where
-  open times place use {upto_self, Upto-before, upto_other, before_trans, fails_later, test_fails}
+  open times place use {upto_self, upto_before, upto_other, before_trans, fails_later, test_fails}
 
   -- ---- what each turn sees, where no two turns have one timestamp
   abbrev Before : Turn → Turn → Type 0
@@ -132,7 +132,7 @@ module _ (place : ℕ → ℕ) where
   not_itself c = test_fails c.commit.stamp c.commit.stamp (upto_self c.commit.stamp)
 
   not_those_after : (c d : Turn) → Before c d → earlier_than c.commit d ≡ false
-  not_those_after c d e = test_fails d.commit.stamp c.commit.stamp (Upto-before c.commit.stamp d.commit.stamp e)
+  not_those_after c d e = test_fails d.commit.stamp c.commit.stamp (upto_before c.commit.stamp d.commit.stamp e)
 
   -- the table that the turns earlier than it leave
   run_sees : (table : List ℤ) (cs : List Turn) (k : ℕ) → Chain Before cs → has k cs ≡ true

@@ -38,7 +38,7 @@ use Rattle.protocol.proofs.Quiet.{moved, moved_many, moved_here, moved_sizes, mo
 
 -- ---- of the parents' oldest messages none is earlier than the chosen one
 module _ (n : Network) (j : ℕ) where
-  open times_at n use {upto_self, Upto-before, before_upto, test_before, test_upto}
+  open times_at n use {upto_self, upto_before, before_upto, test_before, test_upto}
 
   abbrev Least : ℕ → ℕ → Type 0
   Least best q = UpTo n (head_stamp n best j) (head_stamp n q j)
@@ -49,7 +49,7 @@ module _ (n : Network) (j : ℕ) where
   least_step p best q false false e true s old = subst (Least best) (sym (eqb-true q p s)) (test_upto (head_stamp n p j) (head_stamp n best j) e)
   least_step p best q true b e false s old = absurd (true≢false (old s).0)
   least_step p best q false true e false s old =
-      Upto-before (head_stamp n p j) (head_stamp n q j) (before_upto (head_stamp n p j) (head_stamp n best j) (head_stamp n q j) (test_before (head_stamp n p j) (head_stamp n best j) e) (old s).1)
+      upto_before (head_stamp n p j) (head_stamp n q j) (before_upto (head_stamp n p j) (head_stamp n best j) (head_stamp n q j) (test_before (head_stamp n p j) (head_stamp n best j) e) (old s).1)
   least_step p best q false false e false s old = (old s).1
 
   earliest_least : (k q : ℕ) → q < k → k ≤ sites_most → is_line n.items q j ≡ true → Least (earliest n j k) q
@@ -109,7 +109,7 @@ name_of (dummy t) = 0
 
 -- ---- a schedule that nothing refuses
 module _ (n : Network) (inv : Invariant n) (j : ℕ) (z : schedule_number n j ≡ 0) where
-  open times_at n use {Upto-before, upto_trans, before_trans, upto_then, upto_other, never_before, later_fails, fails_later, made_apart, cut_upto, cut_before}
+  open times_at n use {upto_before, upto_trans, before_trans, upto_then, upto_other, never_before, later_fails, fails_later, made_apart, cut_upto, cut_before}
 
   abbrev p : ℕ
   p = chosen n j
@@ -165,7 +165,7 @@ module _ (n : Network) (inv : Invariant n) (j : ℕ) (z : schedule_number n j �
   y_before = subst (Before n y) (sym stamp_is) (append_later (place_at n) y j (own_count (stamp_at n j)))
 
   pub schedule_grown : Grown n (moved n inv j new)
-  schedule_grown = moved_grown n inv j new (Upto-before (stamp_at n j) new.stamp (before_trans (stamp_at n j) y new.stamp site_before y_before))
+  schedule_grown = moved_grown n inv j new (upto_before (stamp_at n j) new.stamp (before_trans (stamp_at n j) y new.stamp site_before y_before))
 
   grows : (i : ℕ) → i < length n.sites → UpTo n (stamp_at n i) (stamp_at next i)
   grows = schedule_grown.grows
@@ -233,7 +233,7 @@ module _ (n : Network) (inv : Invariant n) (j : ℕ) (z : schedule_number n j �
 
     reached : (a : ℕ) → a < length (messages_at n q j) → UpTo n y (sent_at n q j a)
     reached zero l = least
-    reached (suc a) l = upto_trans y (sent_at n q j 0) (sent_at n q j (suc a)) least (Upto-before (sent_at n q j 0) (sent_at n q j (suc a)) (inv.queue q j from 0 (suc a) (omega arith) l))
+    reached (suc a) l = upto_trans y (sent_at n q j 0) (sent_at n q j (suc a)) least (upto_before (sent_at n q j 0) (sent_at n q j (suc a)) (inv.queue q j from 0 (suc a) (omega arith) l))
 
     -- and of another parent none is equal
     other_later : (q ≡ p → ⊥) → (a : ℕ) → a < length (messages_at n q j) → Before n y (sent_at n q j a)
@@ -336,7 +336,7 @@ module _ (n : Network) (inv : Invariant n) (j : ℕ) (z : schedule_number n j �
             ∙ sym (cut_upto j (stamp_at n j) r.stamp (stamp_made n inv j site) below)
           where
             told : (b : Bool) → not_later (order_at n r.stamp (heard_at n j)) ≡ b → not_later (order_at n r.stamp y) ≡ not_later (order_at n r.stamp (heard_at n j))
-            told true f = Upto-before r.stamp y (upto_then r.stamp (heard_at n j) y f fresh) ∙ sym f
+            told true f = upto_before r.stamp y (upto_then r.stamp (heard_at n j) y f fresh) ∙ sym f
             told false f =
                 let owed = inv.owed k j old (touch_due n.items r.ops j x t c) (fails_later r.stamp (heard_at n j) f) in
                 later_fails r.stamp y (waits_later r.site refl from other owed) ∙ sym f
@@ -385,7 +385,7 @@ module _ (n : Network) (inv : Invariant n) (j : ℕ) (z : schedule_number n j �
     named_value =
         joined_commit x after before (pos 0) n.history k old
         (λ i l other t. unheard i l x t e (λ g. other (ap name_of (sym g ∙ f))))
-        (subst (λ (t : Stamp). UpTo n t new.stamp) same (Upto-before y new.stamp y_before))
+        (subst (λ (t : Stamp). UpTo n t new.stamp) same (upto_before y new.stamp y_before))
         (later_fails (nth_record n k).stamp (stamp_at n j) (subst (Before n (stamp_at n j)) same site_before))
         after_it
         ∙ sym (wrote_taken n.items j x (last_value x (keep before n.history)) (nth_record n k).ops copied)

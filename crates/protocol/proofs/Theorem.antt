@@ -43,7 +43,7 @@ module _ (n : Network) (inv : Invariant n) where
 
 -- ---- what follows from the calls agrees with the run
 module _ (k : Known) (f : Follows k) where
-  open times (book_place k) use {Upto-before, later_fails, fails_later}
+  open times (book_place k) use {upto_before, later_fails, fails_later}
 
   abbrev n : Network
   n = f.full
@@ -116,7 +116,7 @@ module _ (k : Known) (f : Follows k) where
       chain_split gone (in_turn (book_place k) cs)
       (chain_sorted first (λ c d. gone d ≡ true → gone c ≡ true) (λ c d e p q g. p (q g)) (numbered 0 cs)
       (chain_number cs _
-      (λ m j a b. (goes_before m j (omega arith) b, λ e. goes_before j m b (omega arith) (Upto-before (record_at cs j).stamp (record_at cs m).stamp (fails_later (record_at cs m).stamp (record_at cs j).stamp e))))))
+      (λ m j a b. (goes_before m j (omega arith) b, λ e. goes_before j m b (omega arith) (upto_before (record_at cs j).stamp (record_at cs m).stamp (fails_later (record_at cs m).stamp (record_at cs j).stamp e))))))
 
   agreement_of : Agreement k
   agreement_of =

@@ -1,4 +1,6 @@
 // The codes of a record's operations: of each twice its item and its kind, as a byte of two words.
+#![tactic(auto)]
+
 ghost use Rattle.std.specs.Prelude.{◌≡◌, ◌<◌, get_or};
 ghost use Rattle.site_operations.specs.InWords.{op_at};
 ghost use Rattle.record_codes.specs.Codes.{code_of, code_number, codes_in, codes_most, AtPlace};

@@ -1,4 +1,6 @@
 // Whether the codes of a record's operations are known kinds of the items, tested all at once.
+#![tactic(auto)]
+
 ghost use Rattle.std.specs.Prelude.{◌≡◌, ◌&&◌, ◌*◌, ◌-◌, take, ltb};
 ghost use Rattle.lists.specs.Lists.{every};
 ghost use Rattle.record_codes.specs.Codes.{codes_in, codes_most, SomeOps};

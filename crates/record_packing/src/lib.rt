@@ -1,4 +1,6 @@
 // The operations of a record, packed: of each its code and the word of its value; and read from them one by one.
+#![tactic(auto)]
+
 ghost use Rattle.std.specs.Prelude.{◌≡◌, ◌+◌, ◌*◌, get_or};
 ghost use Rattle.site_operations.specs.Operations.{writes_item, written_item, no_op};
 ghost use Rattle.site_operations.specs.InWords.{op_at, Put};

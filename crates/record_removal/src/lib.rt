@@ -1,4 +1,6 @@
 // Records removed from the words of a history: those that stay are moved to its front, in their order.
+#![tactic(auto)]
+
 ghost use Rattle.std.specs.Prelude.{◌≡◌};
 ghost use Rattle.record_removal.specs.Removal.{Bank, Removal, AtRecord, Kept, moved};
 

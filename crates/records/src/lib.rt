@@ -1,4 +1,6 @@
 // A record of the history in words of a lent slice: written, read, and tested for shape.
+#![tactic(auto)]
+
 ghost use Rattle.std.specs.Prelude.{◌≡◌, ◌&&◌, ◌≤◌, length, take, eqb};
 ghost use Rattle.timestamp.specs.Value.{stamp_of, PlainValue};
 ghost use Rattle.timestamp_order.specs.Order.{rank};

@@ -1,4 +1,6 @@
 // Where the fields of a line end, and whether a letter stands in front of them.
+#![tactic(auto)]
+
 ghost use Rattle.std.specs.Prelude.{◌≡◌, ◌&&◌, ◌+◌, eqb, leb, length, drop};
 ghost use Rattle.script_notation.specs.Fields.{space, position};
 ghost use Rattle.script_notation.specs.Parse.{longest};

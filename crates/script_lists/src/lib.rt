@@ -1,4 +1,6 @@
 // The lists that a line's fields fill: the operations that are kept of a commit, and a set-up's items.
+#![tactic(auto)]
+
 ghost use Rattle.std.specs.Prelude.{◌≡◌, false, [], ◌∷◌, ◌++◌, ◌≤◌, take};
 ghost use Rattle.script_notation.specs.Parse.{listed, first_operations, placed, first_items};
 ghost use Rattle.script_lists.specs.Asked.{ToKeep, ToItems};

@@ -1,4 +1,5 @@
 // The script's notation: lines, calls and answers as text. Definitions and laws, no functions.
+#![tactic(auto)]
 
 // The bytes of a buffer that every answer fits in.
 pub const ANSWER: usize = 512;

@@ -1,4 +1,6 @@
 // Numbers printed from a place of a buffer on: alone, behind a byte, and the two of a schedule; and a question mark.
+#![tactic(auto)]
+
 ghost use Rattle.std.specs.Prelude.{◌∷◌, [], ◌+◌, ◌≤◌, ◌<◌, length};
 ghost use Rattle.decimal.specs.Decimal.{digits, signed_digits};
 ghost use Rattle.script_notation.specs.Print.{Put, answer_most};

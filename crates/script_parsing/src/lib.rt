@@ -1,4 +1,6 @@
 // A line's fields: the numbers and a commit's operations in them.
+#![tactic(auto)]
+
 ghost use Rattle.std.specs.Prelude.{◌≡◌, false, ◌≤◌, take};
 ghost use Rattle.decimal.specs.Decimal.{natural, number_of, integer_of};
 ghost use Rattle.script_notation.specs.Fields.{fields_from};

@@ -1,4 +1,6 @@
 // An answer's bytes, printed one behind another into a buffer, and a record of the history as a line.
+#![tactic(auto)]
+
 ghost use Rattle.std.specs.Prelude.{◌≡◌, ◌∷◌, [], ◌+◌, ◌≤◌, min, length, take, cond, eqb};
 ghost use Rattle.timestamp.specs.Value.{stamp_of, pair_of};
 ghost use Rattle.script_notation.specs.Fields.{space};

@@ -1,4 +1,6 @@
 // One site on a part of the state that is its own: the words of its timestamp, then its table of signed values, a word each.
+#![tactic(auto)]
+
 ghost use Rattle.std.specs.Prelude.{◌≡◌, true, min, length};
 ghost use Rattle.timestamp.specs.Value.{stamp_of, PlainValue};
 ghost use Rattle.site.specs.Site.{dummied, at_epoch, received};

@@ -1,4 +1,6 @@
 // Timestamps compared: epochs first, then the first tuples that differ, the site of the higher place earlier; and where the two part.
+#![tactic(auto)]
+
 ghost use Rattle.std.specs.Prelude.{◌≡◌};
 ghost use Rattle.timestamp.specs.Value.{stamp_of};
 ghost use Rattle.timestamp_order.specs.Order.{number_order, pair_order, rank};

@@ -1,0 +1,38 @@
+-- `put_committed` lays the values, and before them the timestamp.
+use mathlib.Core.Path.{◌≡◌, refl, ap, ap₂, ◌∙◌}
+use mathlib.Core.List.{List, ◌∷◌, ◌++◌}
+use Prim.Native.Nat.{ℕ, ◌+◌, ◌-◌}
+use native.Mathlib.Omega.{arith}
+use lib.ListN.{length, length-map}
+use mir.Val.{of_z}
+use mir.Syntax.{w32}
+use Rattle.words.specs.Words.{put, laid}
+use Rattle.words.proofs.Parts.{part_length}
+use Rattle.timestamp.specs.Value.{stamp_of}
+use Rattle.timestamp_words.specs.InWords.{stamp_words}
+use Rattle.c_answers.specs.Answers.{value_words}
+use Rattle.limits.specs.Limits.{ops_most}
+use Rattle.c_answers.proofs.Words.{front_behind, filled_words}
+use borrow.Author.Rules.{rules}
+use Rattle.c_answers.proofs.put_committed.Goals as goal
+
+pub put_list-requires : goal.put_list-requires
+put_list-requires c =
+    let w = c.args.w.now in
+    let places : length c.args.given.values ≡ ops_most = search rules in
+    record { sized = part_length w 18 (length w - 18) (omega (arith, c.requires.sized)) ∙ omega (arith, places, c.requires.sized); few = omega (arith, c.requires.filled.fits) }
+
+pub returns : goal.returns
+unfolding stamp_words
+returns c =
+    let w = c.args.w.now in
+    let g = c.args.given in
+    let places : length g.values ≡ ops_most = search rules in
+    let size = length-map g.values (of_z w32) in
+    let ys = g.count ∷ value_words g.values in (
+      refl,
+      c.lay.ensures
+          ∙ ap₂ {C = List ℕ} (λ (xs zs : List ℕ). laid (put w 18 (length w - 18) zs) 0 xs) c.to_words-t.ensures.0 c.put_list.ensures
+          ∙ front_behind w (stamp_words (stamp_of g.stamp)) ys 18 (length w - 18) refl (omega (arith, c.requires.sized)) (omega (arith, c.requires.sized))
+          ∙ ap (λ (l : List ℕ). stamp_words (stamp_of g.stamp) ++ l) (filled_words ops_most g.count g.values c.requires.filled places),
+    )

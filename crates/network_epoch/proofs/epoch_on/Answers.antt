@@ -1,0 +1,26 @@
+-- `epoch_on` refuses with its number, or sets the site's epoch.
+use mathlib.Core.Path.{sym, ◌∙◌}
+use Rattle.network_layout.specs.InWords.{network_in}
+use Rattle.network_layout.specs.At.{AtSite}
+use Rattle.network_layout.proofs.OnNetwork.{at_site}
+use Rattle.protocol.proofs.Allowed.{epoch_allowed}
+use Rattle.network_epoch.proofs.EpochLaws.{epoch_refused, epoch_done}
+use borrow.Author.Rules.{rules}
+use Rattle.network_epoch.proofs.epoch_on.Goals as goal
+
+pub returns-then-number-ne0 : goal.returns-then-number-ne0
+returns-then-number-ne0 c =
+    let A = c.args in
+    epoch_refused A.state.now c.requires A.site A.to c.epoch_number-number.result c.epoch_number-number.ensures c.if-number-ne0.true
+
+pub site_epoch-requires : goal.site_epoch-requires
+site_epoch-requires c =
+    let A = c.args in
+    let none = sym c.epoch_number-number.ensures ∙ c.if-number-ne0.false in
+    let at : AtSite A.state.now c.wide.result = at_site A.state.now c.requires A.site c.wide.result c.wide.ensures (epoch_allowed (network_in A.state.now) A.site A.to none).there in
+    search rules
+
+pub returns : goal.returns
+returns c =
+    let A = c.args in
+    epoch_done A.state.now c.requires A.site A.to (sym c.epoch_number-number.ensures ∙ c.if-number-ne0.false) c.site_epoch.new.state c.wide.result c.wide.ensures c.site_epoch.ensures

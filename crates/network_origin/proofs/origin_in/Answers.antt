@@ -1,0 +1,14 @@
+-- `origin_in` tests the shape, and goes on where it is that of a network.
+use mathlib.Core.Path.{sym, ◌∙◌}
+use borrow.Author.Tests.{not-true, not-false}
+use Rattle.network_origin.proofs.OriginLaws.{origin_unshaped}
+use Rattle.network_origin.proofs.origin_in.Goals as goal
+
+pub returns-then-not-shaped : goal.returns-then-not-shaped
+returns-then-not-shaped c =
+    let A = c.args in
+    origin_unshaped A.state.now A.reader A.operation (sym c.shaped.ensures ∙ not-true c.shaped.result c.if-not-shaped.true-raw)
+
+pub origin_on-requires : goal.origin_on-requires
+origin_on-requires c =
+    record { sized = c.requires; formed = sym c.shaped.ensures ∙ not-false c.shaped.result c.if-not-shaped.false-raw }

@@ -1,0 +1,10 @@
+use Prim.Native.Nat.{◌-◌}
+use Rattle.protocol.specs.Network.{lines_most}
+use Rattle.network_renaming.proofs.RenamedLaws.{RenamedBelow}
+use Rattle.network_renaming.proofs.rename.Given as goal
+
+abbrev pub invariant-loop-k : goal.invariant-loop-k
+invariant-loop-k l = RenamedBelow l.names l.initial.state l.state l.k
+
+abbrev pub decreases-loop-k : goal.decreases-loop-k
+decreases-loop-k l = lines_most - l.k

@@ -1,0 +1,14 @@
+-- `site_receive` changes one site of the network, as `receive` changes its words.
+use Prim.Native.Nat.{min}
+use Rattle.timestamp.specs.Value.{stamp_of}
+use Rattle.site.specs.Site.{received}
+use Rattle.site_operations.specs.InWords.{ops_in}
+use Rattle.limits.specs.Limits.{ops_most}
+use Rattle.network_layout.proofs.AccessLaws.{site_stepped}
+use Rattle.network_sites.proofs.site_receive.Goals as goal
+
+pub returns : goal.returns
+returns c =
+    let done = c.receive in
+    let os = ops_in (min c.args.n ops_most) c.args.ops.now in
+    site_stepped c.args.state.now c.args.i c.requires (received os (stamp_of c.args.t)) done.new.part done.auto.part done.ensures
