@@ -1,4 +1,6 @@
 // What is read of a history file, for C: a record laid into words, and where the part of the file stands.
+#![tactic(auto)]
+
 ghost use Rattle.std.specs.Prelude.{◌≡◌, cond, [], ◌∷◌, ◌++◌, ◌+◌, ◌-◌, length, drop, eqb};
 ghost use Rattle.timestamp.specs.Value.{stamp_of};
 ghost use Rattle.timestamp_words.specs.InWords.{stamp_size, stamp_words};

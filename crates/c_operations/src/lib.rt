@@ -1,4 +1,6 @@
 // A commit's operations as C lends them, in words, three each: kind, item, value.
+#![tactic(auto)]
+
 ghost use Rattle.std.specs.Prelude.{◌≡◌, map, min, take};
 ghost use Rattle.network_operations.specs.Gathered.{gathered_most, Gathers};
 ghost use Rattle.c_operations.specs.Operations.{operation_of};

@@ -65,8 +65,12 @@ module _ {block line entry mid exit out₀ out : List ℕ} {u : ℕ} {h : Held} 
       }
 
 -- it ends there
-pub reached_end : {block line entry exit : List ℕ} {u : ℕ} {h : Held} {formed well : Bool} → Reached block line entry exit u h → Passed block line entry exit (record { held = h; formed = formed; more = false; well = well })
-reached_end {block} {u = u} w = record { went = record { bytes = take u block; after_is = w.after_is; held_is = λ e. w.held_is; formed_is = ended }; whole = ended }
+pub reached_end : {block line entry exit : List ℕ} {u : ℕ} {h : Held} {r : Run} → Reached block line entry exit u h → r.more ≡ false → Passed block line entry exit r
+reached_end {block} {u = u} w m =
+    record {
+      went = record { bytes = take u block; after_is = w.after_is; held_is = λ e. ended (sym m ∙ e); formed_is = λ e. ended (sym m ∙ e) };
+      whole = λ e. ended (sym m ∙ e);
+    }
 
 -- all of it
 pub reached_all : {block line entry exit : List ℕ} {u : ℕ} {h : Held} {formed well : Bool} → length block ≤ u → formed ≡ shaped exit → Reached block line entry exit u h → Passed block line entry exit (record { held = h; formed = formed; more = true; well = well })

@@ -1,4 +1,6 @@
 // Where the lines of a block start and end, whether one is answered yet, and the newline behind an answer. No line is answered here.
+#![tactic(auto)]
+
 ghost use Rattle.std.specs.Prelude.{◌≡◌, ◌&&◌, [], ◌∷◌, ◌+◌, ◌<◌, ltb, leb, length};
 ghost use Rattle.decimal.specs.Decimal.{Printed};
 ghost use Rattle.console_notation.specs.Lines.{newline, line_most};

@@ -1,11 +1,11 @@
 -- Bytes laid at a place, and bytes held.
 use mathlib.Core.Path.{◌≡◌, sym, ap, subst, ◌∙◌}
-use mathlib.Core.List.{List, ◌++◌, append_assoc, append-nil}
+use mathlib.Core.List.{List, ◌++◌, append_assoc}
 use Prim.Native.Nat.{ℕ, ◌+◌, ◌-◌, ◌≤◌, min}
 use native.Mathlib.Omega.{arith}
-use lib.ListN.{length, take, drop, length-append, length-take, drop_of_length-le}
-use lib.Seq.{take_all, take_at, take-append-add, length-take-le}
-use Rattle.words.specs.Words.{part, put}
+use lib.ListN.{length, take, drop, length-append}
+use lib.Seq.{take_at, take-append-add, length-take-le}
+use Rattle.words.specs.Words.{put}
 use Rattle.words.proofs.Parts.{lent_put}
 use Rattle.lists.proofs.Lists.{take_min}
 use Rattle.decimal.specs.Decimal.{Printed}
@@ -15,16 +15,9 @@ use Rattle.console_held.specs.Held.{Holding}
 
 -- ---- bytes laid at a place
 -- a part lent for n bytes, which are copied over all of it
-pub laid_there : (w from y : List ℕ) (at n : ℕ) → n ≤ length from → at + n ≤ length w
-    → y ≡ take (length (take n from)) (take n from) ++ drop (length (take n from)) (part w at (at + n - at)) → Printed w (put w at (at + n - at) y) at (at + n) (take n from)
-laid_there w from y at n hf hw e =
+pub laid_there : (w from y : List ℕ) (at n : ℕ) → n ≤ length from → at + n ≤ length w → y ≡ take n from → Printed w (put w at (at + n - at) y) at (at + n) (take n from)
+laid_there w from y at n hf hw all =
     let size : length (take n from) ≡ n = length-take-le n from hf in
-    let room : length (part w at (at + n - at)) ≤ length (take n from) = omega (arith, length-take (at + n - at) (drop at w)) in
-    let all : y ≡ take n from
-    = e
-    ∙ ap (λ (z : List ℕ). z ++ drop (length (take n from)) (part w at (at + n - at))) (take_all (length (take n from)) (take n from) (omega arith))
-    ∙ ap (λ (z : List ℕ). take n from ++ z) (drop_of_length-le (part w at (at + n - at)) {i = length (take n from)} room)
-    ∙ append-nil (take n from) in
     record {
       end_is = omega arith;
       exit_is = lent_put w at n y ∙ ap (put w at n) all ∙ ap (λ (k : ℕ). put w at k (take n from)) (sym size);

@@ -1,4 +1,6 @@
 // What is held of a line that has not ended: its first bytes, more behind them, and what the end of a script adds.
+#![tactic(auto)]
+
 ghost use Rattle.std.specs.Prelude.{◌≡◌, [], ◌++◌, ◌-◌, min, take, drop};
 ghost use Rattle.decimal.specs.Decimal.{Printed};
 ghost use Rattle.console_notation.specs.Lines.{clipped};
@@ -63,7 +65,7 @@ fn append(from: &[u8], n: usize, out: &mut [u8], at: usize) -> usize
     ensures { Printed out.old out.new at result (take n from.now) }
 {
     let end = at + n;
-    bytes::copy(&from[..n], &mut out[at..end]);
+    out[at..end].copy_from_slice(&from[..n]);
     end
 }
 

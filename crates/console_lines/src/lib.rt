@@ -1,4 +1,6 @@
 // The lines that a block of bytes ends, each answered where it lies. Nothing is tested of the words: whether they are those of a network is known.
+#![tactic(auto)]
+
 ghost use Rattle.std.specs.Prelude.{◌≡◌, [], ◌∷◌};
 ghost use Rattle.network_layout.specs.InWords.{shaped, meaning};
 ghost use Rattle.console_notation.specs.Lines.{newline, told};

@@ -1,4 +1,6 @@
 // The history file: export of a state's history to bytes, and reading it back, from a buffer that the file may end.
+#![tactic(auto)]
+
 ghost use Rattle.std.specs.Prelude.{◌≡◌, ◌≤◌, length};
 ghost use Rattle.timestamp_order.specs.Order.{rank};
 ghost use Rattle.history_file.specs.Bytes.{same};

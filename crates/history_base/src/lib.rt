@@ -1,4 +1,6 @@
 // The base values that lead a history file, read.
+#![tactic(auto)]
+
 ghost use Rattle.std.specs.Prelude.{◌≡◌, map, ◌+◌, ◌*◌, ◌/◌, ◌≤◌, length};
 ghost use Rattle.limits.specs.Limits.{items_most};
 ghost use Rattle.words.specs.Words.{part, chunks};

@@ -1,4 +1,6 @@
 // Whether bytes are those of operations: their kinds, their items, their 00 bytes.
+#![tactic(auto)]
+
 ghost use Rattle.std.specs.Prelude.{◌≡◌, ◌*◌, ◌≤◌, length};
 ghost use Rattle.words.specs.Words.{chunks};
 ghost use Rattle.lists.specs.Lists.{every};

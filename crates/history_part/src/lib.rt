@@ -1,4 +1,6 @@
 // Whether records fill a part of a file.
+#![tactic(auto)]
+
 ghost use Rattle.std.specs.Prelude.{◌≡◌};
 ghost use Rattle.timestamp_order.specs.Order.{rank};
 ghost use Rattle.history_file.specs.Reading.{records_fill};

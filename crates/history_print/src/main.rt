@@ -99,6 +99,6 @@ fn append(text: &[u8], lines: &mut [u8], filled: usize) -> usize
 {
     let end = filled + text.len();
     lines[end] = 10;
-    bytes::copy(text, &mut lines[filled..end]);
+    lines[filled..end].copy_from_slice(text);
     end + 1
 }

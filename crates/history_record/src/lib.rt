@@ -1,4 +1,6 @@
 // A record as a value, from its bytes.
+#![tactic(auto)]
+
 ghost use Rattle.std.specs.Prelude.{◌≡◌, map, ◌+◌, ◌*◌, ◌≤◌, length, get_or};
 ghost use Rattle.words.specs.Words.{part, chunks};
 ghost use Rattle.timestamp.specs.Value.{pair_of, PlainValue};

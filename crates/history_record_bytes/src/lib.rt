@@ -1,4 +1,6 @@
 // The records of a state written as bytes, and how many they take.
+#![tactic(auto)]
+
 ghost use Rattle.std.specs.Prelude.{◌≡◌, ◌≤◌, length};
 ghost use Rattle.timestamp_order.specs.Timestamp.{room};
 ghost use Rattle.site_operations.specs.InWords.{ops_in};

@@ -1,4 +1,6 @@
 // The trailer of a state.
+#![tactic(auto)]
+
 ghost use Rattle.std.specs.Prelude.{◌≡◌};
 ghost use Rattle.network_layout.specs.InWords.{network_in};
 ghost use Rattle.history_trailer.specs.Asked.{trailer_of, ForTrailer};

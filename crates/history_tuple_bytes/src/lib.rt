@@ -1,4 +1,6 @@
 // The tuples of a timestamp in words, written as bytes.
+#![tactic(auto)]
+
 ghost use Rattle.std.specs.Prelude.{◌≡◌};
 ghost use Rattle.timestamp_words.specs.InWords.{stamp_in};
 ghost use Rattle.history_file.specs.Bytes.{joined};

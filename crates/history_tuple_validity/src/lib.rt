@@ -1,4 +1,6 @@
 // Whether bytes are those of the tuples of a timestamp that a site made.
+#![tactic(auto)]
+
 ghost use Rattle.std.specs.Prelude.{◌≡◌, map, ◌*◌, ◌≤◌, length, get_or};
 ghost use Rattle.words.specs.Words.{chunks};
 ghost use Rattle.lists.specs.Lists.{every};

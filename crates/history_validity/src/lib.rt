@@ -1,4 +1,6 @@
 // Whether bytes start with a record: its size, its counts, its fields.
+#![tactic(auto)]
+
 ghost use Rattle.std.specs.Prelude.{◌≡◌, cond, ◌≤◌, length, get_or, drop};
 ghost use Rattle.timestamp_order.specs.Order.{rank};
 ghost use Rattle.history_file.specs.Reading.{size_read, record_valid, counts_fit};

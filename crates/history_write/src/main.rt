@@ -8,7 +8,12 @@ use std::io;
 // Where the script was not read or answered to its end, there is no file.
 fn main(rt: HostRuntime) -> io::Result<()> {
     let mut state = [0u32; WORDS];
-    if console::run_on(&mut state, &mut rt.stdin(), &mut rt.stderr(), &mut rt.stderr()) {
+    if console::run_on(
+        &mut state,
+        &mut rt.stdin(),
+        &mut rt.stderr(),
+        &mut rt.stderr(),
+    ) {
         save(&rt, &state)?;
     }
     Ok(())
@@ -21,6 +26,5 @@ fn save(rt: &(impl Print + Eprint), state: &[u32; WORDS]) -> io::Result<()> {
     if answer.number != 0 {
         return eprintln!(rt; "{}", answer.number);
     }
-    let n = answer.length;
-    rt.write_all(&file[..n])
+    rt.write_all(&file[..answer.length])
 }

@@ -1,4 +1,6 @@
 // A network of sites in one lent array of words: set-up, commit, dummy, epoch, deliver, schedule, collect, round, waiting report, readers, the order of the sites, the base, the origin of a read; and what else is read of a state.
+#![tactic(auto)]
+
 pub use network_base::base;
 pub use network_collect::collect;
 pub use network_commit::commit;

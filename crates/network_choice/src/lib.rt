@@ -1,4 +1,6 @@
 // Which message a schedule takes: of the parents' oldest messages the earliest.
+#![tactic(auto)]
+
 ghost use Rattle.std.specs.Prelude.{◌≡◌, ◌+◌};
 ghost use Rattle.timestamp_words.specs.InWords.{stamp_in};
 ghost use Rattle.limits.specs.Limits.{sites_most};

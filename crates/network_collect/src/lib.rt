@@ -1,4 +1,6 @@
 // Collect: the commits that are not later than any site are folded into the base values, and their records removed.
+#![tactic(auto)]
+
 ghost use Rattle.std.specs.Prelude.{◌≡◌, length};
 ghost use Rattle.network_layout.specs.Layout.{state_size};
 ghost use Rattle.network_layout.specs.At.{AtNetwork};

@@ -1,4 +1,6 @@
 // The earliest write of each item on the lines into a site, found by one walk over their messages.
+#![tactic(auto)]
+
 ghost use Rattle.std.specs.Prelude.{◌≡◌, get_or};
 ghost use Rattle.messages.specs.Messages.{commit};
 ghost use Rattle.network_layout.specs.InWords.{network_in};

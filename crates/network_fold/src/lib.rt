@@ -1,4 +1,6 @@
 // The records that a collect removes, folded into the base values: of each item the last write of the last in turn of them that writes it.
+#![tactic(auto)]
+
 ghost use Rattle.std.specs.Prelude.{◌≡◌, cond, pos, get_or};
 ghost use Rattle.std.proofs.Math.Option;
 ghost use Rattle.std.proofs.Common.{to_z};

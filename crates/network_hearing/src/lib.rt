@@ -1,4 +1,6 @@
 // What one site does in a round: its lines delivered, schedules until one is refused, and a dummy. Each is the step itself.
+#![tactic(auto)]
+
 ghost use Rattle.std.specs.Prelude.{◌≡◌, length};
 ghost use Rattle.protocol.specs.Waiting.{into};
 ghost use Rattle.protocol.specs.Round.{line_calls, deliver_calls, schedule_all, site_calls};

@@ -1,4 +1,6 @@
 // Of each item the last in turn of the records that go and write it, found by one walk over the records.
+#![tactic(auto)]
+
 ghost use Rattle.std.specs.Prelude.{◌+◌, length};
 ghost use Rattle.network_layout.specs.InWords.{network_in};
 ghost use Rattle.network_last_writes.specs.LastWrites.{LastWrites, Folding, NotingNext};

@@ -1,4 +1,6 @@
 // A commit whose operations come as records: their fields are gathered into arrays, and committed.
+#![tactic(auto)]
+
 ghost use Rattle.std.specs.Prelude.{List, [], ◌∷◌, ◌++◌, ◌≤◌, take};
 ghost use Rattle.network_layout.specs.declared.Operation.{Operation as Op};
 ghost use Rattle.network_operations.specs.Gathered.{gathered_most, Gathers, operations_call};

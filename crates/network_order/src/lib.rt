@@ -1,4 +1,6 @@
 // The order of a network's sites. It only looks.
+#![tactic(auto)]
+
 ghost use Rattle.std.specs.Prelude.{◌≡◌, length};
 ghost use Rattle.network_layout.specs.Layout.{state_size};
 ghost use Rattle.network_layout.specs.At.{AtNetwork};

@@ -1,4 +1,6 @@
 // Round: an epoch above all others to every site without parents, then in the order of places what each site does.
+#![tactic(auto)]
+
 ghost use Rattle.std.specs.Prelude.{◌≡◌, length, eqb};
 ghost use Rattle.limits.specs.Limits.{sites_most};
 ghost use Rattle.timestamp_order.specs.Order.{rank};

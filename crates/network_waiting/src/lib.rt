@@ -1,4 +1,6 @@
 // Waiting report: the items that messages on the lines into a site write and that it has a copy of, the one with the earliest write first.
+#![tactic(auto)]
+
 ghost use Rattle.std.specs.Prelude.{◌≡◌, ◌-◌, ◌<◌, length};
 ghost use Rattle.lists.specs.Sorting.{place_in};
 ghost use Rattle.protocol.specs.Waiting.{is_waiting};

@@ -1,5 +1,7 @@
 // The calls by their letters: the fields behind the letter parsed, the call made, its answer printed. No words are tested: whether they are those of a
 // network is known before a call, and answered for the words after it.
+#![tactic(auto)]
+
 ghost use Rattle.std.specs.Prelude.{◌≡◌, true, []};
 ghost use Rattle.std.proofs.Math.Option.{some};
 ghost use Rattle.decimal.specs.Decimal.{natural};

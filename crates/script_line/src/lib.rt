@@ -1,4 +1,6 @@
 // One line of a script, with a test of the state, and on words of which it is known whether they are those of a network.
+#![tactic(auto)]
+
 ghost use Rattle.std.specs.Prelude.{get_or};
 ghost use Rattle.script_notation.specs.Fields.{fields_from};
 ghost use Rattle.script_notation.specs.Parse.{parse, called as calledBy};

@@ -1,4 +1,6 @@
 // Replies that need no step: a question mark, and the number of a call on no network; and what a set-up's number says of the words.
+#![tactic(auto)]
+
 ghost use Rattle.std.specs.Prelude.{◌≡◌, true, cond, ◌∷◌, [], ◌+◌, ◌≤◌, eqb, length};
 ghost use Rattle.decimal.specs.Decimal.{digits};
 ghost use Rattle.script_notation.specs.Print.{answer_most};
