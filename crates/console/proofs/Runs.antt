@@ -12,7 +12,7 @@ use Rattle.protocol.specs.Network.{Network}
 use Rattle.network_layout.specs.InWords.{shaped, meaning}
 use Rattle.console_notation.specs.declared.Held.{Held}
 use Rattle.console_notation.specs.declared.Progress.{Progress}
-use Rattle.console_notation.specs.Lines.{ending, clip_most, line_most, Told, told, used}
+use Rattle.console_notation.specs.Lines.{ending, clip_most, line_most, Told, told}
 use Rattle.console_blocks.specs.Promises.{Fed}
 use Rattle.console_held.specs.Held.{held_of}
 use Rattle.console_notation.proofs.Cutting.{and_then, told_append, told_none}

@@ -41,7 +41,16 @@ pub fn run_on<R: Read, W: Write, E: Write>(
             return at.well;
         }
         let held = at.held;
-        at = turn(held, at.formed, state, &mut block, &mut answers, from, out, told);
+        at = turn(
+            held,
+            at.formed,
+            state,
+            &mut block,
+            &mut answers,
+            from,
+            out,
+            told,
+        );
     }
     false
 }

@@ -1,4 +1,6 @@
 // A script's bytes, block by block: the lines that end are answered, and what is left of a block is held for the next one.
+#![tactic(auto)]
+
 ghost use Rattle.std.specs.Prelude.{◌≡◌, [], ◌∷◌};
 ghost use Rattle.network_layout.specs.InWords.{shaped, meaning};
 ghost use Rattle.console_notation.specs.Lines.{newline, ending, told};

@@ -1,4 +1,6 @@
 // The engine for C and what calls C: each call under its name in the header, its answer laid into an array that the caller lends.
+#![tactic(auto)]
+
 ghost use Rattle.std.specs.Prelude.{◌≡◌, [], map};
 ghost use Rattle.timestamp_words.specs.InWords.{stamp_in, stamp_words};
 ghost use Rattle.timestamp_order.specs.Order.{rank, order_by};

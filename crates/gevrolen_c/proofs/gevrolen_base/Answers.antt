@@ -9,25 +9,18 @@ use Rattle.network_base.specs.Base.{base_answer}
 use Rattle.c_answers.specs.Answers.{value_words, flag_word}
 use Rattle.c_answers.proofs.Words.{listed_words}
 use borrow.Author.Rules.{rules}
-use Rattle.gevrolen_c.proofs.gevrolen_base.Statement.{statement}
-use Rattle.gevrolen_c.proofs.gevrolen_base.Tie as tie
+use Rattle.gevrolen_c.proofs.gevrolen_base.Goals as goal
 
-base-requires : tie.Need-base-requires
-base-requires c κs = search rules
-
-put-base-requires : tie.Need-put-base-requires
-put-base-requires c κs =
+pub put_base-requires : goal.put_base-requires
+put_base-requires c =
     let e = c.base.ensures in
     record { sized = search rules; values = base_answer _; count_is = e.count_is; values_are = e.values_are }
 
-returns : tie.Need-returns
+pub returns : goal.returns
 returns c =
-    let w = c.before.before.before.args.state.now in
-    let g = c.before.base.result in
-    let e = c.before.base.ensures in
-    let said = c.put-base.ensures in
+    let w = c.args.state.now in
+    let g = c.base.result in
+    let e = c.base.ensures in
+    let said = c.put_base.ensures in
     let values = ap (λ (vs : List ℤ). g.count ∷ value_words vs) e.values_are ∙ listed_words items_most g.count (base_answer w) e.count_is in
     (rw said.0 e.performed, said.1 ∙ ap₂ {C = List ℕ} (λ (b : Bool) (l : List ℕ). flag_word b ∷ l) e.folded_is values)
-
-pub gevrolen_base_spec : {M : Type 1} → statement M
-gevrolen_base_spec = tie.close (tie.spec base-requires put-base-requires returns)
