@@ -5,5 +5,10 @@ use network_layout::WORDS;
 
 fn main(rt: HostRuntime) {
     let mut state = [0u32; WORDS];
-    console::run_on(&mut state, &mut rt.stdin(), &mut rt.stdout(), &mut rt.stderr());
+    console::run_on(
+        &mut state,
+        &mut rt.stdin(),
+        &mut rt.stdout(),
+        &mut rt.stderr(),
+    );
 }
