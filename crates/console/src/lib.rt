@@ -1,4 +1,5 @@
-// Scripts from a reader, their answers to a writer: a block is read, its lines are answered, and the answers are written before the next is read.
+// Scripts from a reader, their answers to a writer: a block is read, its lines are answered, and the answers are written before the next is read. They are
+// not flushed: a writer that holds bytes back is its caller's to flush.
 #![tactic(auto)]
 
 ghost use Rattle.std.specs.Prelude.{◌≡◌, ◌≤◌, false, length};
