@@ -32,4 +32,3 @@ overflow_add-at c = let A = c.args in record { fits = omega (arith, c.well_forme
 
 pub spell-requires-2 : goal.spell-requires-2
 spell-requires-2 c = let A = c.args in omega (arith, length-set A.out.now A.at 45, digits_short c.magnitude-m.result (omega arith), leb-true (A.at + 11) (length A.out.now) (sym c.has_room.ensures ∙ not-false c.has_room.result c.if-not-has_room.false-raw))
-
