@@ -269,7 +269,7 @@ def by_model():
 def by_build():
     from library import Library
 
-    program = ROOT / "target" / "bin" / "gevrolen"
+    program = ROOT / "crates" / "gevrolen" / "out" / "gevrolen"
     answers = {name: subprocess.run([program], input=source.read_bytes(), stdout=subprocess.PIPE, check=True).stdout for name, (source, _) in stored().items()}
     return {**answers, "calls": calls(Library())}
 

@@ -420,7 +420,7 @@ def check_try():
     shown = "".join("%-14s -> %s\n" % pair for pair in lines)
     expect("the answers in README.md", shown in (ROOT / "README.md").read_text(), True)
     (command,) = re.findall(r"^awk .*$", (ROOT / "try").read_text(), re.M)
-    expect("the answers of ./try", subprocess.run(["sh", "-c", command], cwd=ROOT, check=True, stdout=subprocess.PIPE, text=True).stdout, shown)
+    expect("the answers of ./try", subprocess.run(["sh", "-c", command], cwd=crate, check=True, stdout=subprocess.PIPE, text=True).stdout, shown)
 
 
 def main():
