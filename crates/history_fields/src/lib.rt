@@ -58,6 +58,9 @@ fn last_said(b: &[u8]) -> u32
     history_numbers::field(b, t + 15)
 }
 
+// The flag of a table and that of base values.
+const FLAGS: u32 = 3;
+
 // 1 to 8 sites, 1 to 64 items, no flag but those of a table and of base values, and the last byte 0.
 pub fn trailer_fits(b: &[u8]) -> bool
     requires { trailer_size ≤ length b.now }
@@ -79,7 +82,7 @@ pub fn trailer_fits(b: &[u8]) -> bool
     if 64 < items {
         return false;
     }
-    if 3 < flag {
+    if FLAGS < flag {
         return false;
     }
     last == 0

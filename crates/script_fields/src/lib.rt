@@ -19,11 +19,14 @@ pub fn find(text: &[u8], from: usize, byte: u8) -> usize
     i
 }
 
+// The bytes of the longest line.
+const LINE_BYTES: usize = 512;
+
 // A line that is not too long, whose first field is one byte.
 pub fn lettered(text: &[u8]) -> bool
     ensures { result ≡ (leb (length text.now) longest && eqb (position space text.now) 1) }
 {
-    if 512 < text.len() {
+    if LINE_BYTES < text.len() {
         return false;
     }
     find(text, 0, 32) == 1

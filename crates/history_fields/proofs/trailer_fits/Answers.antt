@@ -19,10 +19,10 @@ pub returns-then-items-gt64 : goal.returns-then-items-gt64
 returns-then-items-gt64 c =
     many_items c.args.b.now c.sites_said-sites.result c.items_said-items.result c.flag_said-flag.result c.last_said-last.result c.sites_said-sites.ensures c.items_said-items.ensures c.flag_said-flag.ensures c.last_said-last.ensures c.if-sites-lt1.false c.if-sites-gt8.false c.if-items-lt1.false c.if-items-gt64.true
 
-pub returns-then-flag-gt3 : goal.returns-then-flag-gt3
-returns-then-flag-gt3 c =
-    other_flag c.args.b.now c.sites_said-sites.result c.items_said-items.result c.flag_said-flag.result c.last_said-last.result c.sites_said-sites.ensures c.items_said-items.ensures c.flag_said-flag.ensures c.last_said-last.ensures c.if-sites-lt1.false c.if-sites-gt8.false c.if-items-lt1.false c.if-items-gt64.false (omega (arith, c.if-flag-gt3.true))
+pub returns-then-flag-gt-FLAGS : goal.returns-then-flag-gt-FLAGS
+returns-then-flag-gt-FLAGS c =
+    other_flag c.args.b.now c.sites_said-sites.result c.items_said-items.result c.flag_said-flag.result c.last_said-last.result c.sites_said-sites.ensures c.items_said-items.ensures c.flag_said-flag.ensures c.last_said-last.ensures c.if-sites-lt1.false c.if-sites-gt8.false c.if-items-lt1.false c.if-items-gt64.false (omega (arith, c.if-flag-gt-FLAGS.true))
 
 pub returns : goal.returns
 returns c =
-    trailer_last c.args.b.now c.sites_said-sites.result c.items_said-items.result c.flag_said-flag.result c.last_said-last.result c.sites_said-sites.ensures c.items_said-items.ensures c.flag_said-flag.ensures c.last_said-last.ensures c.if-sites-lt1.false c.if-sites-gt8.false c.if-items-lt1.false c.if-items-gt64.false (omega (arith, c.if-flag-gt3.false))
+    trailer_last c.args.b.now c.sites_said-sites.result c.items_said-items.result c.flag_said-flag.result c.last_said-last.result c.sites_said-sites.ensures c.items_said-items.ensures c.flag_said-flag.ensures c.last_said-last.ensures c.if-sites-lt1.false c.if-sites-gt8.false c.if-items-lt1.false c.if-items-gt64.false (omega (arith, c.if-flag-gt-FLAGS.false))

@@ -9,12 +9,12 @@ use Rattle.script_notation.specs.Fields.{space, position}
 use Rattle.script_notation.specs.Parse.{longest}
 use Rattle.script_fields.proofs.lettered.Goals as goal
 
-pub returns-then-text-gt512 : goal.returns-then-text-gt512
-returns-then-text-gt512 c = let T = c.args.text.now in rw (lt-leb (length T) longest (omega arith))
+pub returns-then-text-gt-LINE_BYTES : goal.returns-then-text-gt-LINE_BYTES
+returns-then-text-gt-LINE_BYTES c = let T = c.args.text.now in rw (lt-leb (length T) longest (omega arith))
 
 pub returns : goal.returns
 returns c =
     let T = c.args.text.now in
-    let short : length T ≤ longest = c.if-text-gt512.false in
+    let short : length T ≤ longest = c.if-text-gt-LINE_BYTES.false in
     let first : c.find.result ≡ position space T = omega (arith, c.find.ensures) in
     rw (le-leb (length T) longest short) (ap (λ (k : ℕ). eqb k 1) first)
