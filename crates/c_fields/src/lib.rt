@@ -1,12 +1,13 @@
-// Answers of a few fields laid into words, as C lends them: a timestamp, a line, an origin, a schedule.
+// Answers of a few fields laid into words, as C lends them: a timestamp, a line, an origin, a schedule. Each is zeros where the call is refused.
 #![tactic(auto)]
 
 ghost use Rattle.std.specs.Prelude.{◌≡◌, [], ◌∷◌, ◌+◌, ◌<◌, length};
-ghost use Rattle.timestamp.specs.Value.{stamp_of};
+ghost use Rattle.causes.specs.Refusals.{number_of, answered};
 ghost use Rattle.timestamp_words.specs.InWords.{stamp_size, stamp_words};
-ghost use Rattle.network_layout.specs.Promises.{origin_number};
-ghost use Rattle.c_fields.specs.Fields.{ForLine, origin_words};
+ghost use Rattle.network_layout.specs.Promises.{answered_stamp, scheduled_parent, scheduled_stamp};
+ghost use Rattle.c_fields.specs.Fields.{ForLine, line_held, line_arrived, origin_words};
 
+use causes::{Refusal, number_of};
 use network_layout::{Lined, Origin, Scheduled};
 use timestamp::Timestamp;
 
@@ -27,54 +28,53 @@ pub fn few(n: usize) -> u32
     n as u32
 }
 
-pub fn put_stamp(w: &mut [u32], stamp: Timestamp)
+// A timestamp. It answers the call's number.
+pub fn put_stamp(w: &mut [u32], given: Result<Timestamp, Refusal>) -> u32
     requires { length w.old ≡ stamp_size }
-    ensures { w.new ≡ stamp_words (stamp_of stamp) }
+    ensures { (result ≡ number_of given) × (w.new ≡ stamp_words (answered_stamp given)) }
 {
-    timestamp_words::write_to(stamp, w);
+    timestamp_words::write_to(given.unwrap_or(timestamp::zero()), w);
+    number_of(given)
 }
 
 // What a line holds and what has arrived. It answers the reader's number.
-pub fn put_line(w: &mut [u32], given: Lined) -> u32
+pub fn put_line(w: &mut [u32], given: Result<Lined, Refusal>) -> u32
     requires { ForLine w.old given }
-    ensures { (result ≡ given.number) × (w.new ≡ given.held ∷ (given.arrived ∷ [])) }
+    ensures { (result ≡ number_of given) × (w.new ≡ line_held given ∷ (line_arrived given ∷ [])) }
 {
-    words::store(w, 0, few(given.held));
-    words::store(w, 1, few(given.arrived));
-    given.number
+    match given {
+        Ok(line) => w.copy_from_slice(&[line.held as u32, line.arrived as u32]),
+        Err(_) => w.fill(0),
+    }
+    number_of(given)
 }
 
 // The kind of an origin, and the record number of the commit. It answers the call's number.
-pub fn put_origin(w: &mut [u32], given: Origin) -> u32
+pub fn put_origin(w: &mut [u32], given: Result<Origin, Refusal>) -> u32
     requires { length w.old ≡ 2 }
-    ensures { (result ≡ origin_number given) × (w.new ≡ origin_words given) }
+    ensures { (result ≡ number_of given) × (w.new ≡ origin_words given) }
+{
+    w.copy_from_slice(&origin_words(given));
+    number_of(given)
+}
+
+fn origin_words(given: Result<Origin, Refusal>) -> [u32; 2]
+    ensures { result ≡ origin_words given }
 {
     match given {
-        Origin::Refused(number) => {
-            words::copy(w, &[NONE, 0]);
-            number
-        }
-        Origin::Start => {
-            words::copy(w, &[START, 0]);
-            0
-        }
-        Origin::Folded => {
-            words::copy(w, &[FOLDED, 0]);
-            0
-        }
-        Origin::Commit(k) => {
-            words::copy(w, &[COMMIT, k]);
-            0
-        }
+        Err(_) => [NONE, 0],
+        Ok(Origin::Start) => [START, 0],
+        Ok(Origin::Folded) => [FOLDED, 0],
+        Ok(Origin::Commit(k)) => [COMMIT, k],
     }
 }
 
 // A schedule's parent and timestamp. It answers the schedule's number.
-pub fn put_scheduled(w: &mut [u32], given: Scheduled) -> u32
+pub fn put_scheduled(w: &mut [u32], given: Result<Scheduled, Refusal>) -> u32
     requires { length w.old ≡ 1 + stamp_size }
-    ensures { (result ≡ given.number) × (w.new ≡ given.parent ∷ stamp_words (stamp_of given.stamp)) }
+    ensures { (result ≡ number_of given) × (w.new ≡ scheduled_parent given ∷ stamp_words (scheduled_stamp given)) }
 {
-    put_stamp(&mut w[1..], given.stamp);
-    words::store(w, 0, given.parent);
-    given.number
+    put_stamp(&mut w[1..], given.map(|scheduled| scheduled.stamp));
+    w[0] = given.map_or(0, |scheduled| scheduled.parent);
+    number_of(given)
 }

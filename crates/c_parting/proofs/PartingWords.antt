@@ -1,24 +1,11 @@
--- The two words of a parting: laid into an array of two, and told apart.
-use mathlib.Core.Path.{◌≡◌, refl, sym, ap, ◌∙◌}
+-- The two words of a parting tell it apart.
+use mathlib.Core.Path.{◌≡◌, refl, ap}
 use mathlib.Core.List.{List}
 use mathlib.Core.Option.{none, some}
 use Prim.Native.Nat.{ℕ}
 use native.Mathlib.Omega.{arith}
-use lib.ListN.{length, get_or}
-use Rattle.words.specs.Words.{overlaid}
-use Rattle.words.proofs.Walks.{overlaid_same}
-use Rattle.timestamp_order.specs.declared.Parting.{Parting}
-use Rattle.timestamp_order.specs.declared.Parting.TheVariants.{Epochs, After}
-use Rattle.timestamp_order.specs.Parting.{shared_of}
-use Rattle.c_parting.specs.Fields.{parting_words, WordsTell}
-
--- a parting, which the code has taken apart
-pub parting_laid : (w out : List ℕ) (given p : Parting) → length w ≡ 2 → given ≡ p → out ≡ overlaid w (parting_words (shared_of p)) → out ≡ parting_words (shared_of given)
-parting_laid w out given p size e f = f ∙ overlaid_same w (parting_words (shared_of p)) (two p ∙ sym size) ∙ ap (λ (q : Parting). parting_words (shared_of q)) (sym e)
-  where
-    two : (x : Parting) → length (parting_words (shared_of x)) ≡ 2
-    two Epochs = refl
-    two (After n) = refl
+use lib.ListN.{get_or}
+use Rattle.c_parting.specs.Fields.{WordsTell}
 
 pub words_tell : WordsTell
 words_tell none none e = refl

@@ -13,12 +13,7 @@ pub fn put_parting(w: &mut [u32], given: Parting)
     ensures { w.new ≡ parting_words (shared_of given) }
 {
     match given {
-        Parting::Epochs => {
-            words::copy(w, &[1, 0]);
-        }
-        Parting::After(n) => {
-            let shared = n as u32;
-            words::copy(w, &[0, shared]);
-        }
+        Parting::Epochs => words::copy(w, &[1, 0]),
+        Parting::After(n) => words::copy(w, &[0, n as u32]),
     }
 }

@@ -25,9 +25,12 @@ use Rattle.console_lines.specs.Promises.{Effect, Collected, Ended}
 use Rattle.console_lines.proofs.Steps.{effect_as, effect_then, nothing_left}
 use Rattle.console_notation.specs.declared.Held.{Held}
 use Rattle.console_held.specs.Held.{held_of, Holding}
-use Rattle.console_held.proofs.Holding.{holding_as}
 use Rattle.console_blocks.specs.declared.Advance.{Advance}
 use Rattle.console_blocks.specs.Promises.{Begun, Advanced}
+
+-- what is held, by another name
+holding_as : {l m : List ℕ} {h : Held} → l ≡ m → Holding l h → Holding m h
+holding_as {h = h} e p = subst (λ (l : List ℕ). Holding l h) e p
 
 -- ---- a block up to its first newline
 module _ {block line entry out₀ : List ℕ} {at end : ℕ} (e : end ≡ 0 + position newline block) where

@@ -47,10 +47,7 @@ pub fn feed(
 pub fn finish(held: Held, state: &mut [u32; WORDS], out: &mut [u8], at: usize) -> Progress
     ensures { Fed (ending (held_of held)) (held_of held) state.old state.new out.old out.new at result }
 {
-    let added = console_held::ending(held);
-    let bytes = added.bytes;
-    let count = added.count;
-    feed(&bytes[..count], held, state, out, at)
+    feed(console_held::ending(held), held, state, out, at)
 }
 
 // What `feed` does, where it is known whether the words are those of a network: nothing is tested.

@@ -17,7 +17,7 @@ pub struct Line {
 pub fn line_end(block: &[u8], from: usize) -> usize
     ensures { result ≡ end_from block.now from }
 {
-    script_fields::find(block, from, 10)
+    script_fields::find(block, from, b'\n')
 }
 
 // The line behind the newline at `end`.
@@ -26,29 +26,30 @@ pub fn line_behind(block: &[u8], end: usize) -> Line
     ensures { LineBehind block.now end result }
 {
     let from = end + 1;
-    let to = line_end(block, from);
-    Line { from, end: to }
+    Line {
+        from,
+        end: line_end(block, from),
+    }
 }
 
+// The most bytes of an answer and its newline.
+const LINE_MOST: usize = 294;
+
 // A newline stands at `end` of so many bytes, and there is room for an answer.
+#[tactic(auto, using(decimal::proofs::Printing::room_test))]
 pub fn goes_on(end: usize, size: usize, at: usize, room: usize) -> bool
     ensures { result ≡ (ltb end size && leb (at + line_most) room) }
 {
-    if size <= end {
-        return false;
-    }
-    if room < 294 {
-        return false;
-    }
-    at <= room - 294
+    end < size && LINE_MOST <= room && at <= room - LINE_MOST
 }
 
 // A newline behind an answer that ends at `end`. It answers where the next one starts.
+#[tactic(auto, using(decimal::proofs::Printing::printed_byte))]
 pub fn end_line(out: &mut [u8], end: usize) -> usize
     requires { end < length out.old }
     ensures { Printed out.old out.new end result (newline ∷ []) }
 {
-    out[end] = 10;
+    out[end] = b'\n';
     end + 1
 }
 

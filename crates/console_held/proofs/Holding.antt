@@ -1,5 +1,5 @@
 -- Bytes laid at a place, and bytes held.
-use mathlib.Core.Path.{◌≡◌, sym, ap, subst, ◌∙◌}
+use mathlib.Core.Path.{◌≡◌, sym, ap, ◌∙◌}
 use mathlib.Core.List.{List, ◌++◌, append_assoc}
 use Prim.Native.Nat.{ℕ, ◌+◌, ◌-◌, ◌≤◌, min}
 use native.Mathlib.Omega.{arith}
@@ -10,7 +10,6 @@ use Rattle.words.proofs.Parts.{lent_put}
 use Rattle.lists.proofs.Lists.{take_min}
 use Rattle.decimal.specs.Decimal.{Printed}
 use Rattle.console_notation.specs.Lines.{clip_most, clipped}
-use Rattle.console_notation.specs.declared.Held.{Held}
 use Rattle.console_held.specs.Held.{Holding}
 
 -- ---- bytes laid at a place
@@ -24,10 +23,6 @@ laid_there w from y at n hf hw all =
     }
 
 -- ---- bytes held
--- what is held, by another name
-pub holding_as : {l m : List ℕ} {h : Held} → l ≡ m → Holding l h → Holding m h
-holding_as {h = h} e p = subst (λ (l : List ℕ). Holding l h) e p
-
 -- as many as are still held, behind those that are
 pub held_there : (bytes from x : List ℕ) (count at n end : ℕ) → length bytes ≡ clip_most → at ≡ min count clip_most → n ≡ min (clip_most - at) (length from) → Printed bytes x at end (take n from)
     → Holding (clipped (take count bytes ++ from)) (record { bytes = x; count = end })

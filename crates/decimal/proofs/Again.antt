@@ -16,8 +16,8 @@ use Rattle.lists.specs.Lists.{every}
 use Rattle.lists.proofs.Every.{every_snoc}
 use Rattle.decimal.specs.Decimal.{digits, signed_digits, is_digit, extra_zero, value_from, greatest, natural, negative, not_negative, signed}
 use Rattle.decimal.proofs.Digits.{digits_small, digits_more, digits_some}
-use Rattle.decimal.proofs.Signs.{signed_plus, signed_minus}
-use Rattle.decimal.proofs.Values.{told, natural_is}
+use Rattle.decimal.proofs.Signs.{minus_ahead, signed_plus, signed_minus}
+use Rattle.decimal.proofs.Values.{natural_told}
 
 value_append : (v : ℕ) (xs ys : List ℕ) → value_from v (xs ++ ys) ≡ value_from (value_from v xs) ys
 unfolding value_from
@@ -76,17 +76,23 @@ no_extra (suc k) =
 pub natural_again : (n : ℕ) → n ≤ greatest → natural (digits n) ≡ some n
 natural_again n h =
     let a = digits_are (suc n) n (omega arith) in
-    let is : n ≡ told 0 (digits n) = sym (rw (a.only, a.value, le-leb n greatest h)) in
-    sym (natural_is (digits n) n is (λ z. omega (arith, digits_some n)) (no_extra n) h)
+    sym (natural_told (digits n) (λ z. omega (arith, digits_some n)) (no_extra n)) ∙ (rw (a.only, a.value, le-leb n greatest h))
 
-not_minus : (n : ℕ) → get_or (digits n) 0 0 ≡ 45 → ⊥
-not_minus zero e = omega (arith, ap (λ (l : List ℕ). get_or l 0 0) (digits_small 0 (omega arith)))
-not_minus (suc k) e = omega (arith, (digits_are (suc (suc k)) (suc k) (omega arith)).first (omega arith))
+not_minus : (n : ℕ) → minus_ahead (digits n) ≡ false
+not_minus n = first (digits n) (λ e. go n e)
+  where
+    first : (l : List ℕ) → (get_or l 0 0 ≡ 45 → ⊥) → minus_ahead l ≡ false
+    first [] h = refl
+    first (d ∷ ds) h = rw (ne_eqb d 45 h)
+
+    go : (n : ℕ) → get_or (digits n) 0 0 ≡ 45 → ⊥
+    go zero e = omega (arith, ap (λ (l : List ℕ). get_or l 0 0) (digits_small 0 (omega arith)))
+    go (suc k) e = omega (arith, (digits_are (suc (suc k)) (suc k) (omega arith)).first (omega arith))
 
 pub signed_again : (z : ℤ) → SFits w32 z → signed (signed_digits z) ≡ some z
 signed_again (pos n) f =
     let h : n < 2147483648 = f.sfits in
-    sym (signed_plus (digits n) (λ e. omega (arith, digits_some n)) (not_minus n)) ∙ ap not_negative (natural_again n (omega arith)) ∙ (rw (le-leb n 2147483647 (omega arith)))
+    sym (signed_plus (digits n) (not_minus n)) ∙ ap not_negative (natural_again n (omega arith)) ∙ (rw (le-leb n 2147483647 (omega arith)))
 signed_again (negsuc n) f =
     let h : n < 2147483648 = f.sfits in
-    sym (signed_minus (45 ∷ digits (suc n)) (λ e. omega arith) refl) ∙ ap negative (natural_again (suc n) (omega arith)) ∙ (rw (le-leb n 2147483647 (omega arith)))
+    sym (signed_minus (45 ∷ digits (suc n)) refl) ∙ ap negative (natural_again (suc n) (omega arith)) ∙ (rw (le-leb n 2147483647 (omega arith)))

@@ -1,70 +1,23 @@
 -- A signed number from its sign and its magnitude.
 use mathlib.Core.Path.{◌≡◌, refl, sym, ap, subst, ◌∙◌}
-use mathlib.Core.Bool.{Bool, true, false, cond, not, false≢true}
-use mathlib.Core.Option.{Option, none, some}
+use mathlib.Core.Bool.{Bool, true, false, false≢true}
 use mathlib.Core.List.{List, [], ◌∷◌}
-use lib.ListN.{length, get_or, drop}
-use Prim.Native.Nat.{ℕ, zero, suc, ◌+◌, ◌-◌, ◌≤◌, ◌<◌}
+use lib.ListN.{length, take, drop}
+use lib.Dec.{eqb}
+use lib.Pointwise.{pointwise}
+use Rattle.std.proofs.Math.Bool.{and-true}
+use Prim.Native.Nat.{ℕ, suc, ◌+◌, ◌≤◌, ◌<◌}
 use native.Mathlib.Omega.{arith}
 use lib.IntN.{ℤ, pos, negsuc, nat_abs, ◌-ℤ◌}
 use lib.Signed.{le_z}
-use borrow.Author.Tests.{not-true, not-false, le-leb, lt-leb, leb-false, eq-eqb, ne_eqb}
+use borrow.Author.Tests.{leb-false}
 use mir.Syntax.{w32}
-use mir.Val.{to_z, SFits}
-use mir.ValLaws.{to_z-of_z, to_z_pos}
-use Rattle.signed_words.proofs.Signed.{again, down, bits_under, bits_cast_2, minus_small}
+use mir.Val.{SFits}
+use mir.ValLaws.{to_z-of_z}
+use Rattle.signed_words.proofs.Signed.{again, bits_under, bits_cast_2, minus_small}
 use Rattle.decimal.proofs.Digits.{digits_short}
+use Rattle.decimal.proofs.Values.{natural_empty}
 use Rattle.decimal.specs.Decimal.{digits, signed_digits, natural, not_negative, negative, signed}
-
-module _ (ok : Bool) (v : ℕ) where
-  abbrev given : Option ℕ
-  given = cond ok (some v) none
-
-  module _ (h : not ok ≡ true) where
-    pub plus_none : none ≡ not_negative given
-    plus_none = rw (not-true ok h)
-
-    pub minus_none : none ≡ negative given
-    minus_none = rw (not-true ok h)
-
-  module _ (h : not ok ≡ false) where
-    pub plus_large : 2147483647 < v → none ≡ not_negative given
-    plus_large g = rw (not-false ok h, lt-leb v 2147483647 g)
-
-    pub plus_is : v ≤ 2147483647 → some (to_z w32 v) ≡ not_negative given
-    plus_is g = rw (not-false ok h, le-leb v 2147483647 g) (ap (λ (z : ℤ). some z) (to_z_pos w32 v (omega arith)))
-
-    pub minus_zero : v ≡ 0 → none ≡ negative given
-    minus_zero g = rw (not-false ok h, g)
-
-large : (v : ℕ) → 2147483648 < v → none ≡ negative (some v)
-large zero g = absurd (omega arith)
-large (suc n) g = rw (lt-leb n 2147483647 (omega arith))
-
-abbrev below : ℕ → ℤ
-below v = negsuc 0 -ℤ to_z w32 (v - 1)
-
-below_is : (n : ℕ) → n < 2147483648 → below (suc n) ≡ negsuc n
-below_is n g =
-    let e : suc n - 1 ≡ n = omega arith in
-    ap (λ (k : ℕ). negsuc 0 -ℤ to_z w32 k) e ∙ ap (λ (z : ℤ). negsuc 0 -ℤ z) (to_z_pos w32 n g) ∙ down n
-
-pub minus_fits : (v : ℕ) → (v ≡ 0 → ⊥) → v ≤ 2147483648 → SFits w32 (below v)
-minus_fits zero z g = absurd (z refl)
-minus_fits (suc n) z g = let s : n < 2147483648 = omega arith in subst (λ (x : ℤ). SFits w32 x) (sym (below_is n s)) (record { sfits = s })
-
-is : (v : ℕ) → (v ≡ 0 → ⊥) → v ≤ 2147483648 → some (again (below v)) ≡ negative (some v)
-is zero z g = absurd (z refl)
-is (suc n) z g =
-    let s : n < 2147483648 = omega arith in
-    rw (le-leb n 2147483647 (omega arith)) (ap (λ (x : ℤ). some x) (to_z-of_z w32 (below (suc n)) (minus_fits (suc n) z g) ∙ below_is n s))
-
-module _ (ok : Bool) (v : ℕ) (h : not ok ≡ false) where
-  pub minus_large : 2147483648 < v → none ≡ negative (given ok v)
-  minus_large g = rw (not-false ok h) (large v g)
-
-  pub minus_is : (v ≡ 0 → ⊥) → v ≤ 2147483648 → some (again (below v)) ≡ negative (given ok v)
-  minus_is z g = rw (not-false ok h) (is v z g)
 
 -- ---- without its sign
 module _ (v : ℤ) (f : SFits w32 v) where
@@ -103,20 +56,18 @@ module _ (v : ℤ) (f : SFits w32 v) where
       go (negsuc n) g = absurd (false≢true g)
 
 -- ---- by its first byte
-pub signed_empty : (l : List ℕ) → length l ≡ 0 → none ≡ signed l
-unfolding signed
-signed_empty [] e = refl
-signed_empty (d ∷ ds) e = absurd (omega arith)
+abbrev pub minus_ahead : List ℕ → Bool
+minus_ahead l = pointwise eqb (take 1 l) (45 ∷ [])
 
-pub signed_minus : (l : List ℕ) → (length l ≡ 0 → ⊥) → get_or l 0 0 ≡ 45 → negative (natural (drop 1 l)) ≡ signed l
+pub signed_minus : (l : List ℕ) → minus_ahead l ≡ true → negative (natural (drop 1 l)) ≡ signed l
 unfolding signed
-signed_minus [] n e = absurd (n refl)
-signed_minus (d ∷ ds) n e = rw (eq-eqb d 45 e)
+signed_minus [] e = cc
+signed_minus (d ∷ ds) e = rw (sym (and-true (eqb d 45)) ∙ e)
 
-pub signed_plus : (l : List ℕ) → (length l ≡ 0 → ⊥) → (get_or l 0 0 ≡ 45 → ⊥) → not_negative (natural l) ≡ signed l
+pub signed_plus : (l : List ℕ) → minus_ahead l ≡ false → not_negative (natural l) ≡ signed l
 unfolding signed
-signed_plus [] n e = absurd (n refl)
-signed_plus (d ∷ ds) n e = rw (ne_eqb d 45 e)
+signed_plus [] e = ap not_negative (sym (natural_empty [] refl))
+signed_plus (d ∷ ds) e = rw (sym (and-true (eqb d 45)) ∙ e)
 
 -- a signed number of 32 bits has eleven bytes at most
 pub signed_short : (z : ℤ) → SFits w32 z → length (signed_digits z) ≤ 11

@@ -1,21 +1,17 @@
 -- Laws of the value of digits, one digit at a time, and of the texts that are numbers.
-use mathlib.Core.Path.{◌≡◌, refl, sym, ap, subst, ◌∙◌}
-use mathlib.Core.Bool.{Bool, true, false, cond, not, ◌&&◌, false≢true}
+use mathlib.Core.Path.{◌≡◌, refl, sym, ap, ◌∙◌}
+use mathlib.Core.Bool.{Bool, true, false, cond, not, ◌&&◌}
 use mathlib.Core.Option.{Option, none, some}
 use mathlib.Core.List.{List, [], ◌∷◌}
 use Prim.Native.Nat.{ℕ, suc, ◌+◌, ◌-◌, ◌*◌, ◌≤◌, ◌<◌}
 use native.Mathlib.Omega.{arith}
 use native.Mathlib.Numerals.{add-one}
-use lib.IntN.{ℤ}
 use lib.ListN.{length, get_or, drop, drop_of_length-le}
 use lib.Seq.{drop-cons}
 use lib.Dec.{leb, ltb}
-use borrow.Author.Tests.{le-leb, lt-leb, lt-ltb, le-ltb}
+use borrow.Author.Tests.{le-leb, lt-leb, leb-true, leb-false, lt-ltb, le-ltb}
 use Rattle.lists.specs.Lists.{every}
-use Rattle.lists.proofs.Every.{and_true}
-use Rattle.decimal.specs.Decimal.{is_digit, extra_zero, value_from, greatest, natural, as_number, as_integer, number_of, integer_of}
-use Rattle.decimal.specs.declared.Number.{Number}
-use Rattle.decimal.specs.declared.Integer.{Integer}
+use Rattle.decimal.specs.Decimal.{is_digit, extra_zero, value_from, greatest, natural}
 
 -- digits only raise it
 pub value_above : (v : ℕ) (l : List ℕ) → v ≤ value_from v l
@@ -24,120 +20,86 @@ value_above v [] = omega arith
 value_above v (d ∷ l) = omega (arith, value_above (v * 10 + (d - 48)) l)
 
 -- what is asked of a text: digits only, of a value that is not too large
-abbrev pub told : ℕ → List ℕ → ℕ
-told v l = cond (every is_digit l && leb (value_from v l) greatest) (value_from v l) (greatest + 1)
+abbrev pub told : ℕ → List ℕ → Option ℕ
+told v l = cond (every is_digit l && leb (value_from v l) greatest) (some (value_from v l)) none
 
-abbrev pub step : ℕ → ℕ → ℕ
-step v d = cond (is_digit d) (v * 10 + (d - 48)) (greatest + 1)
+-- one digit more
+abbrev pub step : ℕ → ℕ → Option ℕ
+step v d = cond (is_digit d && leb (v * 10 + (d - 48)) greatest) (some (v * 10 + (d - 48))) none
 
-pub told_end : (v : ℕ) → v ≤ greatest → told v [] ≡ v
+pub told_end : (v : ℕ) → v ≤ greatest → some v ≡ told v []
 unfolding value_from
 told_end v h = rw (le-leb v greatest h)
 
+-- where the value is too large, it stays so with more digits
+large : (a : Bool) (v x : ℕ) → v ≤ x → leb v greatest ≡ false → cond (a && leb x greatest) (some x) none ≡ none
+large true v x h e = rw (lt-leb x greatest (let g : greatest < v = leb-false v greatest e in omega arith))
+large false v x h e = refl
+
 module _ (v d : ℕ) (l : List ℕ) where
-  by : (b : Bool) → is_digit d ≡ b → step v d ≤ greatest → told v (d ∷ l) ≡ told (step v d) l
+  abbrev more : ℕ
+  more = v * 10 + (d - 48)
+
+  out : (a b : Bool) → is_digit d ≡ a → leb more greatest ≡ b → none ≡ cond (a && b) (some more) none → none ≡ told v (d ∷ l)
   unfolding value_from
-  by true e h = rw e
-  by false e h = absurd (let g : greatest + 1 ≤ greatest = rw e at h in omega arith)
+  out true true e f g = cc
+  out true false e f g = rw e (sym (large (every is_digit l) more (value_from more l) (value_above more l) f))
+  out false b e f g = rw e
 
-  pub told_next : step v d ≤ greatest → told v (d ∷ l) ≡ told (step v d) l
-  told_next h = by (is_digit d) refl h
-
-  over : (b : Bool) → every is_digit l ≡ b → greatest < value_from (v * 10 + (d - 48)) l → told (v * 10 + (d - 48)) l ≡ greatest + 1
-  over true e h = rw (e, lt-leb (value_from (v * 10 + (d - 48)) l) greatest h)
-  over false e h = rw e
-
-  out : (b : Bool) → is_digit d ≡ b → greatest < step v d → told v (d ∷ l) ≡ greatest + 1
+  next : (a b : Bool) → is_digit d ≡ a → leb more greatest ≡ b → (w : ℕ) → some w ≡ cond (a && b) (some more) none → (told v (d ∷ l) ≡ told w l) × (w ≤ greatest)
   unfolding value_from
-  out true e h = let g : greatest < v * 10 + (d - 48) = rw e at h in rw e (over (every is_digit l) refl (omega (arith, value_above (v * 10 + (d - 48)) l)))
-  out false e h = rw e
+  next true true e f w g = let k : w ≡ more = cc in let h : more ≤ greatest = leb-true more greatest f in (rw (e, k), omega arith)
+  next true false e f w g = cc
+  next false b e f w g = cc
 
-  pub told_out : greatest < step v d → told v (d ∷ l) ≡ greatest + 1
-  told_out h = out (is_digit d) refl h
+  pub told_out : none ≡ step v d → none ≡ told v (d ∷ l)
+  told_out = out (is_digit d) (leb more greatest) refl refl
+
+  pub told_next : (w : ℕ) → some w ≡ step v d → (told v (d ∷ l) ≡ told w l) × (w ≤ greatest)
+  told_next = next (is_digit d) (leb more greatest) refl refl
 
 -- ---- a walk over the digits, i of them passed and worth v
-module _ (l : List ℕ) (v i : ℕ) (e : told 0 l ≡ told v (drop i l)) where
-  module _ (h : i < length l) (r : ℕ) (f : r ≡ step v (get_or l i 0)) where
-    pub walk_out : greatest < r → told 0 l ≡ greatest + 1
-    walk_out g = e ∙ ap (told v) (drop-cons l i 0 h) ∙ told_out v (get_or l i 0) (drop (suc i) l) (omega arith)
+abbrev pub Walked : List ℕ → ℕ → ℕ → Type 0
+Walked l v i = (told 0 l ≡ told v (drop i l)) × (v ≤ greatest)
 
-    pub walk_next : r ≤ greatest → told 0 l ≡ told r (drop (i + 1) l)
-    walk_next g =
-        e
-        ∙ ap (told v) (drop-cons l i 0 h)
-        ∙ told_next v (get_or l i 0) (drop (suc i) l) (omega arith)
-        ∙ ap (λ (k : ℕ). told k (drop (suc i) l)) (sym f)
-        ∙ ap (λ (k : ℕ). told r (drop k l)) (sym (add-one i))
+module _ (l : List ℕ) (v i : ℕ) (e : Walked l v i) where
+  module _ (h : i < length l) where
+    pub walk_out : none ≡ step v (get_or l i 0) → none ≡ told 0 l
+    walk_out g = told_out v (get_or l i 0) (drop (suc i) l) g ∙ sym (e.0 ∙ ap (told v) (drop-cons l i 0 h))
 
-  pub walk_end : length l ≤ i → v ≤ greatest → told 0 l ≡ v
-  walk_end h g = e ∙ ap (told v) (drop_of_length-le l {i = i} h) ∙ told_end v g
+    pub walk_next : (w : ℕ) → some w ≡ step v (get_or l i 0) → Walked l w (i + 1)
+    walk_next w g =
+        let next = told_next v (get_or l i 0) (drop (suc i) l) w g in
+        (e.0 ∙ ap (told v) (drop-cons l i 0 h) ∙ next.0 ∙ ap (λ (k : ℕ). told w (drop k l)) (sym (add-one i)), next.1)
+
+  pub walk_end : length l ≤ i → some v ≡ told 0 l
+  walk_end h = told_end v e.1 ∙ sym (e.0 ∙ ap (told v) (drop_of_length-le l {i = i} h))
 
 -- ---- which texts are numbers
 -- the tests of a number: not empty, no extra zero, digits, not too large
-empty_fails : (a z d g : Bool) → a ≡ false → ((a && (not z && d)) && g) ≡ false
-empty_fails a z d g e = rw e
+zero_fails : (a z d g : Bool) (x : Option ℕ) → z ≡ true → cond ((a && (not z && d)) && g) x none ≡ none
+zero_fails true z d g x e = rw e
+zero_fails false z d g x e = refl
 
-zero_fails : (a z d g : Bool) → z ≡ true → ((a && (not z && d)) && g) ≡ false
-zero_fails true z d g e = rw e
-zero_fails false z d g e = refl
-
-told_fails : (a z d g : Bool) → (d && g) ≡ false → ((a && (not z && d)) && g) ≡ false
-told_fails true true d g e = refl
-told_fails true false d g e = e
-told_fails false z d g e = refl
-
-told_holds : (a z d g : Bool) → a ≡ true → z ≡ false → (d && g) ≡ true → ((a && (not z && d)) && g) ≡ true
-told_holds a z d g e f h = rw (e, f) h
+others_hold : (a z d g : Bool) (x : Option ℕ) → a ≡ true → z ≡ false → cond (d && g) x none ≡ cond ((a && (not z && d)) && g) x none
+others_hold a z d g x e f = rw (e, f)
 
 module _ (l : List ℕ) where
-  abbrev all : Bool
-  all = every is_digit l
-
-  abbrev small : Bool
-  small = leb (value_from 0 l) greatest
-
   pub natural_empty : length l ≡ 0 → none ≡ natural l
   unfolding natural
-  natural_empty e = rw (empty_fails (ltb 0 (length l)) (extra_zero l) all small (le-ltb 0 (length l) (omega arith)))
+  natural_empty e = rw (le-ltb 0 (length l) (omega arith))
 
   pub natural_zero : extra_zero l ≡ true → none ≡ natural l
   unfolding natural
-  natural_zero e = rw (zero_fails (ltb 0 (length l)) (extra_zero l) all small e)
+  natural_zero e = sym (zero_fails (ltb 0 (length l)) (extra_zero l) (every is_digit l) (leb (value_from 0 l) greatest) (some (value_from 0 l)) e)
 
-  module _ (v : ℕ) (e : v ≡ told 0 l) where
-    too_large : (b : Bool) → (all && small) ≡ b → greatest < v → (all && small) ≡ false
-    too_large true f h =
-        let big : greatest < value_from 0 l = rw f at (subst (λ (k : ℕ). greatest < k) e h) in
-        absurd (let z : ◌≡◌ {A = Bool} true false = sym (and_true all small f).1 ∙ lt-leb (value_from 0 l) greatest big in false≢true (sym z))
-    too_large false f h = f
-
-    pub natural_large : greatest < v → none ≡ natural l
-    unfolding natural
-    natural_large h = rw (told_fails (ltb 0 (length l)) (extra_zero l) all small (too_large (all && small) refl h))
-
-    is_told : (b : Bool) → (all && small) ≡ b → v ≤ greatest → ((all && small) ≡ true) × (v ≡ value_from 0 l)
-    is_told true f h = (f, e ∙ (rw f))
-    is_told false f h = absurd (let g : v ≡ greatest + 1 = e ∙ (rw f) in omega arith)
-
-    pub natural_is : (length l ≡ 0 → ⊥) → extra_zero l ≡ false → v ≤ greatest → some v ≡ natural l
-    unfolding natural
-    natural_is n z h =
-        let q = is_told (all && small) refl h in
-        rw (told_holds (ltb 0 (length l)) (extra_zero l) all small (lt-ltb 0 (length l) (omega arith)) z q.0) (ap (λ (k : ℕ). some k) q.1)
+  pub natural_told : (length l ≡ 0 → ⊥) → extra_zero l ≡ false → told 0 l ≡ natural l
+  unfolding natural
+  natural_told n z =
+      others_hold (ltb 0 (length l)) (extra_zero l) (every is_digit l) (leb (value_from 0 l) greatest) (some (value_from 0 l)) (lt-ltb 0 (length l) (omega arith)) z
 
 -- what is a number is not empty
 pub natural_long : (l : List ℕ) (v : ℕ) → some v ≡ natural l → 1 ≤ length l
 unfolding natural
 natural_long [] v e = let z : ◌≡◌ {A = ℕ} 0 1 = cc in omega arith
 natural_long (d ∷ ds) v e = omega arith
-
--- what is answered means what was read
-pub number_means : {r : Number} {o : Option ℕ} → r ≡ as_number o → number_of r ≡ o
-unfolding as_number
-number_means {o = none} e = ap number_of e
-number_means {o = some n} e = ap number_of e
-
-pub integer_means : {r : Integer} {o : Option ℤ} → r ≡ as_integer o → integer_of r ≡ o
-unfolding as_integer
-integer_means {o = none} e = ap integer_of e
-integer_means {o = some z} e = ap integer_of e

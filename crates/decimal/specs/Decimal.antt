@@ -1,10 +1,8 @@
 -- Numbers in decimal: the bytes that a number is printed as, and the number that bytes stand for, if they do.
-use Rattle.std.specs.Prelude.{◌≡◌, Bool, true, false, cond, not, ◌&&◌, List, [], ◌∷◌, ◌++◌, ℕ, zero, suc, ◌+◌, ◌-◌, ◌*◌, ◌/◌, ◌%◌, ◌≤◌, ℤ, pos, negsuc, length, get_or, eqb, ltb, leb}
+use Rattle.std.specs.Prelude.{◌≡◌, Bool, cond, not, ◌&&◌, List, [], ◌∷◌, ◌++◌, ℕ, zero, suc, ◌+◌, ◌-◌, ◌*◌, ◌/◌, ◌%◌, ◌≤◌, ℤ, pos, negsuc, length, get_or, eqb, ltb, leb}
 use Rattle.std.proofs.Math.Option.{Option, none, some}
 use Rattle.words.specs.Words.{put}
 use Rattle.lists.specs.Lists.{every}
-use Rattle.decimal.specs.declared.Number.{Number}
-use Rattle.decimal.specs.declared.Integer.{Integer}
 
 -- ---- printed
 -- the digits of n, the highest first, of which only the last k where there are more
@@ -68,18 +66,3 @@ negative (some (suc n)) = cond (leb n 2147483647) (some (negsuc n)) none
 unfoldable pub signed : List ℕ → Option ℤ
 signed [] = none
 signed (d ∷ ds) = cond (eqb d 45) (negative (natural ds)) (not_negative (natural (d ∷ ds)))
-
--- ---- the values of the code, 0 where there is no number, and what they mean
-unfoldable pub as_number : Option ℕ → Number
-as_number none = record { ok = false; value = 0 }
-as_number (some n) = record { ok = true; value = n }
-
-unfoldable pub as_integer : Option ℤ → Integer
-as_integer none = record { ok = false; value = pos 0 }
-as_integer (some z) = record { ok = true; value = z }
-
-abbrev pub number_of : Number → Option ℕ
-number_of r = cond r.ok (some r.value) none
-
-abbrev pub integer_of : Integer → Option ℤ
-integer_of r = cond r.ok (some r.value) none

@@ -1,7 +1,7 @@
 // Numbers printed as decimal bytes into a lent buffer.
 #![tactic(auto)]
 
-ghost use Rattle.std.specs.Prelude.{◌≡◌, ◌+◌, ◌-◌, ◌≤◌, length, nat_abs, leb};
+ghost use Rattle.std.specs.Prelude.{◌≡◌, ◌+◌, ◌-◌, ◌≤◌, length, leb};
 ghost use Rattle.decimal.specs.Decimal.{digits, signed_digits, Printed, PrintedIn};
 
 // The digits of a number from a place on. It answers the place behind them. Where fewer than ten bytes are left it prints nothing.
@@ -21,22 +21,12 @@ pub fn put_signed(out: &mut [u8], at: usize, v: i32) -> usize
     if !has_room(out.len(), at, 11) {
         return at;
     }
-    let m = magnitude(v);
+    let m = v.unsigned_abs();
     if 0 <= v {
         return spell(out, at, m);
     }
-    out[at] = 45;
+    out[at] = b'-';
     spell(out, at + 1, m)
-}
-
-// A number without its sign.
-fn magnitude(v: i32) -> u32
-    ensures { result ≡ nat_abs v }
-{
-    if 0 <= v {
-        return v as u32;
-    }
-    ((-1 - v) as u32) + 1
 }
 
 // How many digits a number has.
@@ -73,8 +63,5 @@ fn spell(out: &mut [u8], at: usize, n: u32) -> usize
 fn has_room(len: usize, at: usize, k: usize) -> bool
     ensures { result ≡ leb (at + k) len }
 {
-    if len < k {
-        return false;
-    }
-    at <= len - k
+    k <= len && at <= len - k
 }

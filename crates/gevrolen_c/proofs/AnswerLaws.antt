@@ -39,8 +39,11 @@ module _ (call : Call) (entry exit : List ℕ) (number parent : ℕ) (t : Stamp)
   pub committed_call : (r : ℕ) → r ≡ number → answer ≡ stamp_words t ++ listed ops_most (value_words vs) → Answered call committed_words entry exit r answer
   committed_call r same e = rw same (committed_answer e)
 
-  pub dummied_answer : answer ≡ stamp_words t → Answered call dummied_words entry exit number answer
+  dummied_answer : answer ≡ stamp_words t → Answered call dummied_words entry exit number answer
   dummied_answer e = record { number_is = p.number_is; answer_is = e ∙ ap stamp_words p.stamp_is; after_is = p.after_is; kept = p.kept }
+
+  pub dummied_call : (r : ℕ) → r ≡ number → answer ≡ stamp_words t → Answered call dummied_words entry exit r answer
+  dummied_call r same e = rw same (dummied_answer e)
 
   scheduled_answer : answer ≡ parent ∷ stamp_words t → Answered call scheduled_words entry exit number answer
   scheduled_answer e =

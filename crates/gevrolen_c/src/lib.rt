@@ -26,6 +26,7 @@ ghost use Rattle.c_operations.specs.Operations.{operation_of};
 ghost use Rattle.gevrolen_c.specs.Answers.{committed_words, dummied_words, scheduled_words, Answered, report_words, table_words, line_words, origin_laid, base_laid, FileRead, LinesRun};
 ghost use Rattle.gevrolen_c.specs.Version.{version};
 
+use causes::number_of;
 use limits::SITES_WIDE;
 use network::{Based, WORDS};
 use script::ANSWER;
@@ -72,7 +73,7 @@ pub extern "C" fn gevrolen_set_up(
 ) -> u32
     ensures { Performed (set_up sites items primaries.now masks.now) state.old state.new result 0 no_stamp [] }
 {
-    network::set_up(state, sites, items, primaries, masks)
+    number_of(network::set_up(state, sites, items, primaries, masks))
 }
 
 #[unsafe(no_mangle)]
@@ -112,23 +113,21 @@ pub extern "C" fn gevrolen_dummy(
 ) -> u32
     ensures { Answered (dummy site) dummied_words state.old state.new result answer.new }
 {
-    let given = network::dummy(state, site);
-    c_answers::put_stamp(answer, given.stamp);
-    given.number
+    c_answers::put_stamp(answer, network::dummy(state, site))
 }
 
 #[unsafe(no_mangle)]
 pub extern "C" fn gevrolen_epoch(state: &mut [u32; WORDS], site: u32, number: u32) -> u32
     ensures { Performed (epoch site number) state.old state.new result 0 no_stamp [] }
 {
-    network::epoch(state, site, number)
+    number_of(network::epoch(state, site, number))
 }
 
 #[unsafe(no_mangle)]
 pub extern "C" fn gevrolen_deliver(state: &mut [u32; WORDS], parent: u32, child: u32) -> u32
     ensures { Performed (deliver parent child) state.old state.new result 0 no_stamp [] }
 {
-    network::deliver(state, parent, child)
+    number_of(network::deliver(state, parent, child))
 }
 
 #[unsafe(no_mangle)]
@@ -147,8 +146,8 @@ pub extern "C" fn gevrolen_collect(state: &mut [u32; WORDS], removed: &mut u32) 
     ensures { Performed collect state.old state.new result 0 no_stamp [] × (removed.new ≡ removed_by (meaning state.old)) }
 {
     let given = network::collect(state);
-    *removed = given.removed;
-    given.number
+    *removed = given.unwrap_or(0);
+    number_of(given)
 }
 
 #[unsafe(no_mangle)]
@@ -156,8 +155,8 @@ pub extern "C" fn gevrolen_round(state: &mut [u32; WORDS], raised: &mut u32) -> 
     ensures { Performed round state.old state.new result 0 no_stamp [] × (raised.new ≡ epoch_by (meaning state.old)) }
 {
     let given = network::round(state);
-    *raised = given.epoch;
-    given.number
+    *raised = given.unwrap_or(0);
+    number_of(given)
 }
 
 // ---- calls that only look
@@ -183,9 +182,7 @@ pub extern "C" fn gevrolen_table(state: &[u32; WORDS], site: u32, answer: &mut [
 pub extern "C" fn gevrolen_stamp(state: &[u32; WORDS], site: u32, answer: &mut [u32; STAMP]) -> u32
     ensures { Performed (ask (stamp_of site)) state.now state.now result 0 no_stamp [] × (answer.new ≡ stamp_words (stamp_answer site state.now)) }
 {
-    let given = network::stamp(state, site);
-    c_answers::put_stamp(answer, given.stamp);
-    given.number
+    c_answers::put_stamp(answer, network::stamp(state, site))
 }
 
 #[unsafe(no_mangle)]
@@ -217,9 +214,8 @@ pub extern "C" fn gevrolen_places(state: &[u32; WORDS], places: &mut [u8; SITES_
     ensures { Performed (ask placesQuestion) state.now state.now result 0 no_stamp [] × (places.new ≡ places_answer state.now) }
 {
     let given = network::places(state);
-    let found = given.places;
-    *places = found;
-    given.number
+    *places = given.unwrap_or([0; SITES_WIDE]);
+    number_of(given)
 }
 
 #[unsafe(no_mangle)]
@@ -240,10 +236,8 @@ pub extern "C" fn gevrolen_compare(
     ensures { (result ≡ order_number (order_by (rank places.now) (stamp_in first.now) (stamp_in second.now))) × (answer.new ≡ parting_words (parting (stamp_in first.now) (stamp_in second.now))) }
 {
     let found = timestamp_comparison::compare_words(first, second, *places);
-    let parting = found.parting;
-    let order = found.order;
-    c_parting::put_parting(answer, parting);
-    c_answers::order_number(order)
+    c_parting::put_parting(answer, found.parting);
+    c_answers::order_number(found.order)
 }
 
 // ---- the history file
@@ -274,12 +268,11 @@ pub extern "C" fn gevrolen_read(
     *places = found;
     let values = given.base;
     let kept = Based {
-        number: given.number,
         folded: given.folded,
-        count: words::wide(given.items),
+        count: given.items as usize,
         values,
     };
-    c_answers::put_base(base, kept);
+    c_answers::put_base(base, Ok(kept));
     let start = c_files::part_start(given.number, buffer.len(), given.length);
     *answer = c_files::file_fields(start, given.length, given.records, given.sites, given.items);
     given.number

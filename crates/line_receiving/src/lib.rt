@@ -1,7 +1,6 @@
 // Messages of a line that arrive in order and are taken off at its front, in words of a lent slice.
 #![tactic(auto)]
 
-ghost use Rattle.std.specs.Prelude.{◌≡◌, ◌-◌};
 ghost use Rattle.words.specs.Words.{Stepped};
 ghost use Rattle.lines.specs.Lines.{delivered_or_same, taken_or_same};
 ghost use Rattle.lines.specs.InWords.{line_in, line_range, line_size};
@@ -34,16 +33,6 @@ pub fn take(l: &mut [u32])
         return;
     }
     words::store(l, HELD, n - 1);
-    words::store(l, ARRIVED, less(words::word(l, ARRIVED)));
+    words::store(l, ARRIVED, words::word(l, ARRIVED).saturating_sub(1));
     words::shift(&mut l[BOXES..WORDS], MESSAGE);
-}
-
-// One less, and 0 of 0.
-fn less(x: u32) -> u32
-    ensures { result ≡ x - 1 }
-{
-    if x == 0 {
-        return 0;
-    }
-    x - 1
 }

@@ -1,14 +1,15 @@
 -- One message by its new name, in words too; and the messages of a line one after another.
 use mathlib.Core.Path.{◌≡◌, refl, sym, ap, ap₂, ◌∙◌}
-use mathlib.Core.Bool.{Bool, true, false, not, cond}
+use mathlib.Core.Bool.{Bool, true, false, not, cond, ◌||◌}
 use mathlib.Core.List.{List, [], ◌∷◌, map}
-use Prim.Native.Nat.{ℕ, ◌+◌, ◌-◌, ◌*◌, ◌≤◌, ◌<◌, min}
+use Prim.Native.Nat.{ℕ, suc, ◌+◌, ◌*◌, ◌≤◌, ◌<◌, min}
 use native.Mathlib.Omega.{arith}
 use lib.ListN.{length, get_or, set, take, drop, length-map, length-drop, get_or-eq_default}
 use lib.Seq.{take_at, length-take-le}
 use lib.Dec.{ltb}
 use borrow.Author.Tests.{not-false, lt-ltb, le-ltb, ltb-true, ltb-false}
 use Rattle.limits.specs.Limits.{records_most, held_most}
+use Rattle.std.specs.List.{list_any, range_with_len}
 use Rattle.lists.specs.Lists.{every, any}
 use Rattle.lists.proofs.Lists.{take_min, map_take, mapped, mapped_at, mapped_next}
 use Rattle.lists.proofs.Every.{and_true}
@@ -27,6 +28,15 @@ use Rattle.line_renaming.specs.Renaming.{names_gone, renamed_by, line_renamed_by
 set_first : (b : List ℕ) (v : ℕ) → 0 < length b → set b 0 v ≡ v ∷ drop 1 b
 set_first [] v h = absurd (omega arith)
 set_first (x ∷ b) v h = refl
+
+-- a test asked at the places of a list of messages, of each of them
+pub any_by_place : (p : Message → Bool) (q : ℕ → Bool) (ms : List Message) (a : ℕ)
+    → ((i : ℕ) → i < length ms → q (a + i) ≡ p (get_or ms i (commit 0))) → list_any q (range_with_len a (length ms)) ≡ any p ms
+any_by_place p q [] a h = refl
+any_by_place p q (m ∷ ms) a h =
+    let first : a ≡ a + 0 = omega arith in
+    ap₂ (λ (s t : Bool). s || t) (ap q first ∙ h 0 (omega arith))
+    (any_by_place p q ms (a + 1) (λ i k. let next : a + 1 + i ≡ a + suc i = omega arith in ap q next ∙ h (suc i) (omega arith)))
 
 -- ---- one message
 module _ (names : List ℕ) where
@@ -51,8 +61,8 @@ module _ (names : List ℕ) where
             named_gone (part w (boxes_at + i * message_size) message_size) (omega (arith, ap name_of is)) ∙ sym (ap (names_gone names) is)
         go false e = absurd (omega (arith, ap name_of (get_or-eq_default (line_in w).messages (commit 0) {n = i} (ltb-false i (length (line_in w).messages) e))))
 
-    pub gone_commit : (k : ℕ) → k ≡ name_of message → k < records_most → (j : ℕ) → j ≡ k → not (stays names j) ≡ names_gone names message
-    gone_commit k e h j same = ap (λ (x : ℕ). not (stays names x)) (same ∙ e) ∙ go message (omega (arith, e))
+    pub gone_commit : (k : ℕ) → k ≡ name_of message → k < records_most → not (stays names k) ≡ names_gone names message
+    gone_commit k e h = ap (λ (x : ℕ). not (stays names x)) e ∙ go message (omega (arith, e))
       where
         go : (m : Message) → name_of m < records_most → not (stays names (name_of m)) ≡ names_gone names m
         go (commit x) b = refl
@@ -85,9 +95,9 @@ module _ (names : List ℕ) where
     pub box_none : records_most ≤ name → b ≡ box_renamed names b
     box_none h = sym (ap box (le-ltb name records_most h))
 
-    pub box_named : (k : ℕ) → k ≡ name → k < records_most → length b ≡ message_size → (i : ℕ) → i ≡ k → set b 0 (get_or names i 0) ≡ box_renamed names b
-    box_named k is h size i same =
-        ap (λ (x : ℕ). set b 0 (get_or names x 0)) (same ∙ is) ∙ set_first b (get_or names name 0) (omega arith) ∙ sym (ap box (lt-ltb name records_most (omega arith)))
+    pub box_named : (k : ℕ) → k ≡ name → k < records_most → length b ≡ message_size → set b 0 (get_or names k 0) ≡ box_renamed names b
+    box_named k is h size =
+        ap (λ (x : ℕ). set b 0 (get_or names x 0)) is ∙ set_first b (get_or names name 0) (omega arith) ∙ sym (ap box (lt-ltb name records_most (omega arith)))
 
     pub box_length : length b ≡ message_size → length (box_renamed names b) ≡ message_size
     box_length size = go (ltb name records_most)

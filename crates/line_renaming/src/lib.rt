@@ -17,26 +17,16 @@ use messages::{MESSAGE, NAME};
 pub fn names_gone(l: &[u32], names: &[u32; RECORDS_WIDE]) -> bool
     ensures { result ≡ any (names_gone names.now) (line_in l.now).messages }
 {
-    let held = lines::held(l);
-    let mut i = 0;
-    while i < held {
-        if message_gone(l, i, names) {
-            return true;
-        }
-        i += 1;
-    }
-    false
+    (0..lines::held(l)).any(|i| message_gone(l, i, names))
 }
 
-// Whether message i does.
+// Whether message i does; a dummy never does.
+#[tactic(auto, using(crate::proofs::RenamingLaws::gone_dummy, crate::proofs::RenamingLaws::gone_commit))]
 fn message_gone(l: &[u32], i: usize, names: &[u32; RECORDS_WIDE]) -> bool
     ensures { result ≡ names_gone names.now (get_or (line_in l.now).messages i (commit 0)) }
 {
     let k = lines::name(l, i);
-    if RECORDS <= k {
-        return false; // a dummy
-    }
-    !record_names::stays(names, words::wide(k))
+    k < RECORDS && !record_names::stays(names, k as usize)
 }
 
 // Every commit named by its new name.
@@ -47,11 +37,8 @@ pub fn rename(l: &mut [u32], names: &[u32; RECORDS_WIDE])
     if l.len() != WORDS {
         return;
     }
-    let held = lines::held(l);
-    let mut i = 0;
-    while i < held {
+    for i in 0..lines::held(l) {
         rename_message(l, i, names);
-        i += 1;
     }
 }
 
@@ -60,17 +47,17 @@ fn rename_message(l: &mut [u32], i: usize, names: &[u32; RECORDS_WIDE])
     ensures { l.new ≡ put l.old (boxes_at + i * message_size) message_size (box_renamed names.now (part l.old (boxes_at + i * message_size) message_size)) }
 {
     let a = BOXES + i * MESSAGE;
-    let e = a + MESSAGE;
-    rename_box(&mut l[a..e], names);
+    rename_box(&mut l[a..a + MESSAGE], names);
 }
 
 // The words of one message.
+#[tactic(auto, using(crate::proofs::RenamingLaws::box_named, crate::proofs::RenamingLaws::box_none))]
 fn rename_box(b: &mut [u32], names: &[u32; RECORDS_WIDE])
     requires { AtBox b.old }
     ensures { b.new ≡ box_renamed names.now b.old }
 {
     let k = b[NAME];
     if k < RECORDS {
-        b[NAME] = names[words::wide(k)];
+        b[NAME] = names[k as usize];
     }
 }

@@ -21,8 +21,7 @@ pub fn send(l: &mut [u32], m: Message)
     if MESSAGES <= n {
         return;
     }
-    let a = BOXES + words::wide(n) * MESSAGE;
-    let e = a + MESSAGE;
-    message_words::put_message(&mut l[a..e], m);
+    let a = BOXES + n as usize * MESSAGE;
+    message_words::put_message(&mut l[a..a + MESSAGE], m);
     words::store(l, HELD, n + 1);
 }

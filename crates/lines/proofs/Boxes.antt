@@ -2,12 +2,12 @@
 use mathlib.Core.Path.{◌≡◌, refl, sym, ap, ◌∙◌, ap₂}
 use mathlib.Core.Bool.{Bool, false, true}
 use mathlib.Core.List.{List, []}
-use Prim.Native.Nat.{ℕ, ◌+◌, ◌-◌, ◌*◌, ◌≤◌, ◌<◌, min}
+use Prim.Native.Nat.{ℕ, ◌+◌, ◌*◌, ◌≤◌, ◌<◌, min}
 use native.Mathlib.Omega.{arith}
 use lib.ListN.{length, get_or, length-map, length-take, get_or-map, get_or-eq_default}
 use lib.Seq.{get_or-take}
 use lib.Dec.{eqb, ltb, leb}
-use borrow.Author.Tests.{ltb-true, ltb-false, lt-ltb, le-ltb, le-leb, lt-leb, leb-true, eq-eqb, ne_eqb, eqb-true, eqb-false}
+use borrow.Author.Tests.{ltb-true, ltb-false, lt-ltb, le-ltb, le-leb, leb-true, eq-eqb, ne_eqb, eqb-true, eqb-false}
 use Rattle.lists.proofs.Every.{and_true}
 use Rattle.lists.specs.Lists.{every}
 use Rattle.words.specs.Words.{part, chunks}
@@ -18,7 +18,7 @@ use Rattle.messages.specs.Messages.{Message, commit, name_of, own_stamp}
 use Rattle.lines.specs.Lines.{Line, sent, delivered, taken, sent_or_same, delivered_or_same, taken_or_same}
 use Rattle.limits.specs.Limits.{held_most, records_most}
 use Rattle.messages.specs.InWords.{message_size, message_in, message_range}
-use Rattle.lines.specs.InWords.{boxes_at, boxes_size, line_size, boxes_in, line_in, line_counted, line_from, line_range}
+use Rattle.lines.specs.InWords.{boxes_at, boxes_size, line_size, boxes_in, line_in, line_from, line_range}
 use Rattle.messages.proofs.Messages.{name_in, own_in}
 
 -- ---- how many there are
@@ -31,26 +31,12 @@ messages_length w = length-map (boxes_in w) message_in ∙ boxes_length w
 
 -- what it says of itself
 module _ (w : List ℕ) (n : ℕ) (is : n ≡ get_or w 0 0) where
-  pub held_few : n < held_most → n ≡ min (get_or w 0 0) held_most
-  held_few h = omega arith
-
-  pub held_many : held_most ≤ n → held_most ≡ min (get_or w 0 0) held_most
-  held_many h = omega arith
-
   pub held_none : eqb n 0 ≡ eqb (length (line_in w).messages) 0
   held_none = go (eqb n 0) refl
     where
       go : (b : Bool) → eqb n 0 ≡ b → eqb n 0 ≡ eqb (length (line_in w).messages) 0
       go true e = e ∙ sym (eq-eqb (length (line_in w).messages) 0 (omega (arith, messages_length w, eqb-true n 0 e)))
       go false e = e ∙ sym (ne_eqb (length (line_in w).messages) 0 (λ z. eqb-false n 0 e (omega (arith, messages_length w))))
-
-  pub counted_many : held_most < n → false ≡ line_counted w
-  unfolding line_counted
-  counted_many h = sym (rw (← is, lt-leb n held_most h))
-
-  pub counted_by : n ≤ held_most → (a : ℕ) → a ≡ get_or w 1 0 → leb a n ≡ line_counted w
-  unfolding line_counted
-  counted_by h a at = sym (rw (← is, ← at, le-leb n held_most h))
 
 -- ---- the line that words stand for, by its count and its messages
 pub part_size : (w : List ℕ) (size : length w ≡ line_size) → length (part w boxes_at boxes_size) ≡ boxes_size

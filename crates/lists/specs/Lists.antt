@@ -1,5 +1,6 @@
 -- Tests over the elements of a list and their numbers, those that pass one, how often a number stands in it, a value changed by each; and places of which the first are used.
 use Rattle.std.specs.Prelude.{◌≡◌, Bool, true, false, cond, ◌&&◌, ◌||◌, List, [], ◌∷◌, ◌++◌, ℕ, zero, suc, ◌+◌, ◌-◌, ◌≤◌, length, get_or, drop, replicate, eqb}
+use Rattle.std.specs.List.{list_all, list_any}
 use Rattle.std.proofs.Math.Option.{Option, none, some}
 
 abbrev pub is_empty : {A : Type 0} → List A → Bool
@@ -8,8 +9,7 @@ is_empty (x ∷ xs) = false
 
 -- each element passes the test
 abbrev pub every : {A : Type 0} → (A → Bool) → List A → Bool
-every p [] = true
-every p (x ∷ xs) = p x && every p xs
+every p xs = list_all p xs
 
 -- each element passes the test of its number, counted from i on
 abbrev pub every_from : {A : Type 0} → (ℕ → A → Bool) → ℕ → List A → Bool
@@ -18,8 +18,7 @@ every_from p i (x ∷ xs) = p i x && every_from p (suc i) xs
 
 -- some element passes the test
 abbrev pub any : {A : Type 0} → (A → Bool) → List A → Bool
-any p [] = false
-any p (x ∷ xs) = p x || any p xs
+any p xs = list_any p xs
 
 -- some number below k passes the test
 abbrev pub some_below : (ℕ → Bool) → ℕ → Bool

@@ -15,16 +15,12 @@ pub fn put_message(w: &mut [u32], m: Message)
     ensures { (message_in w.new ≡ message_of m) × (message_range w.new ≡ true) }
 {
     w[NAME] = m.name;
-    let t = m.stamp;
-    timestamp_words::write_to(t, &mut w[STAMP..MESSAGE]);
+    timestamp_words::write_to(m.stamp, &mut w[STAMP..MESSAGE]);
 }
 
 // A name: 256 of every dummy.
 pub fn clipped(name: u32) -> u32
     ensures { result ≡ min name records_most }
 {
-    if name < RECORDS {
-        return name;
-    }
-    RECORDS // of every dummy
+    name.min(RECORDS)
 }

@@ -4,13 +4,13 @@ use mathlib.Core.Bool.{Bool, true, false, cond}
 use mathlib.Core.List.{List, []}
 use mathlib.Core.Option.{Option, none, some}
 use Prim.Native.Nat.{ℕ}
-use native.Mathlib.Omega.{arith}
 use lib.IntN.{ℤ}
-use lib.ListN.{length, take}
-use lib.Seq.{length-take-le}
 use lib.Dec.{eqb}
 use Rattle.timestamp.specs.declared.Timestamp.{Timestamp}
-use Rattle.timestamp.specs.Value.{stamp_of, Plain, PlainValue}
+use Rattle.timestamp_order.specs.Timestamp.{Stamp}
+use Rattle.std.specs.declared.result.Result.{Result}
+use Rattle.causes.specs.declared.Refusal.{Refusal}
+use Rattle.causes.specs.Refusals.{number_of}
 use Rattle.protocol.specs.Network.{Network, no_stamp, site_at}
 use Rattle.site_operations.specs.Operations.{values_read}
 use Rattle.protocol.specs.Steps.{set_up_number, set_up_network, ops_of, record_of, commit_number, commit_network, dummy_number, dummy_network, epoch_number, epoch_network, deliver_number, deliver_network, schedule_number, head_stamp, chosen, schedule_network}
@@ -19,10 +19,9 @@ use Rattle.protocol.specs.Round.{round_number, round_network}
 use Rattle.protocol.specs.Questions.{question_number}
 use Rattle.protocol.specs.Calls.{Call, set_up, commit, dummy, epoch, deliver, schedule, collect, round, ask, Outcome, refused, accepted, judged, perform}
 use Rattle.network_layout.specs.declared.Committed.{Committed}
-use Rattle.network_layout.specs.declared.Dummied.{Dummied}
 use Rattle.network_layout.specs.declared.Scheduled.{Scheduled}
 use Rattle.network_layout.specs.InWords.{meaning}
-use Rattle.network_layout.specs.Promises.{Performed, CommitAnswered, DummyAnswered, ScheduleAnswered}
+use Rattle.network_layout.specs.Promises.{Performed, CommitAnswered, DummyAnswered, ScheduleAnswered, committed_stamp, committed_values, answered_stamp, scheduled_stamp, scheduled_parent}
 
 judged_refused : (k : ℕ) (s : Option Network) (o : Outcome) → o.number ≡ 0 → ((judged k s o).number ≡ 0 → ⊥) → judged k s o ≡ refused (judged k s o).number s
 judged_refused k s o z h = go (eqb k 0) refl
@@ -55,20 +54,25 @@ performs_refusal (some n) collect h = judged_refused (collect_number n) (some n)
 performs_refusal (some n) round h = judged_refused (round_number n) (some n) (accepted 0 no_stamp [] (round_network n)) refl h
 performs_refusal (some n) (ask q) h = judged_refused (question_number n q) (some n) (accepted 0 no_stamp [] n) refl h
 
+-- the parts of an answer, by the values that they mean
 module _ (entry exit : List ℕ) where
-  refused_zero : (call : Call) (number parent : ℕ) (t : Timestamp) (values : List ℤ) → Performed call entry exit number parent (stamp_of t) values → Plain t → (number ≡ 0 → ⊥)
-      → PlainValue no_stamp t × (parent ≡ 0) × (values ≡ [])
-  refused_zero call number parent t values p plain h =
+  refused_zero : (call : Call) (number parent : ℕ) (t : Stamp) (values : List ℤ) → Performed call entry exit number parent t values → (number ≡ 0 → ⊥)
+      → (t ≡ no_stamp) × (parent ≡ 0) × (values ≡ [])
+  refused_zero call number parent t values p h =
       let o = performs_refusal (meaning entry) call (λ z. h (p.number_is ∙ z)) in
-      (record { means = p.stamp_is ∙ ap (λ (x : Outcome). x.stamp) o; plain = plain }, p.parent_is ∙ ap (λ (x : Outcome). x.parent) o, p.values_are ∙ ap (λ (x : Outcome). x.values) o)
+      (p.stamp_is ∙ ap (λ (x : Outcome). x.stamp) o, p.parent_is ∙ ap (λ (x : Outcome). x.parent) o, p.values_are ∙ ap (λ (x : Outcome). x.values) o)
 
-  pub commit_refused_zero : (call : Call) (r : Committed) → CommitAnswered call entry exit r → (r.number ≡ 0 → ⊥) → PlainValue no_stamp r.stamp × (r.count ≡ 0)
+  pub commit_refused_zero : (call : Call) (r : Result Committed Refusal) → CommitAnswered call entry exit r → (number_of r ≡ 0 → ⊥)
+      → (committed_stamp r ≡ no_stamp) × (committed_values r ≡ [])
   commit_refused_zero call r a h =
-      let zero = refused_zero call r.number 0 r.stamp (take r.count r.values) a.performed a.plain h in
-      (zero.0, omega (arith, ap length zero.2, length-take-le r.count r.values (omega (arith, a.filled.fits, a.filled.sized))))
+      let zero = refused_zero call (number_of r) 0 (committed_stamp r) (committed_values r) a.performed h in
+      (zero.0, zero.2)
 
-  pub dummy_refused_zero : (site : ℕ) (r : Dummied) → DummyAnswered site entry exit r → (r.number ≡ 0 → ⊥) → PlainValue no_stamp r.stamp
-  dummy_refused_zero site r a h = (refused_zero (dummy site) r.number 0 r.stamp [] a.performed a.plain h).0
+  pub dummy_refused_zero : (site : ℕ) (r : Result Timestamp Refusal) → DummyAnswered site entry exit r → (number_of r ≡ 0 → ⊥) → answered_stamp r ≡ no_stamp
+  dummy_refused_zero site r a h = (refused_zero (dummy site) (number_of r) 0 (answered_stamp r) [] a.performed h).0
 
-  pub schedule_refused_zero : (site : ℕ) (r : Scheduled) → ScheduleAnswered site entry exit r → (r.number ≡ 0 → ⊥) → PlainValue no_stamp r.stamp × (r.parent ≡ 0)
-  schedule_refused_zero site r a h = let zero = refused_zero (schedule site) r.number r.parent r.stamp [] a.performed a.plain h in (zero.0, zero.1)
+  pub schedule_refused_zero : (site : ℕ) (r : Result Scheduled Refusal) → ScheduleAnswered site entry exit r → (number_of r ≡ 0 → ⊥)
+      → (scheduled_stamp r ≡ no_stamp) × (scheduled_parent r ≡ 0)
+  schedule_refused_zero site r a h =
+      let zero = refused_zero (schedule site) (number_of r) (scheduled_parent r) (scheduled_stamp r) [] a.performed h in
+      (zero.0, zero.1)

@@ -1,6 +1,7 @@
 // A network of sites in one lent array of words: set-up, commit, dummy, epoch, deliver, schedule, collect, round, waiting report, readers, the order of the sites, the base, the origin of a read; and what else is read of a state.
 #![tactic(auto)]
 
+pub use causes::Refusal;
 pub use network_base::base;
 pub use network_collect::collect;
 pub use network_commit::commit;
@@ -8,8 +9,7 @@ pub use network_deliver::deliver;
 pub use network_dummy::dummy;
 pub use network_epoch::epoch;
 pub use network_layout::{
-    Based, Collected, Committed, Dummied, Entry, Lined, Operation, Ordered, Origin, Report,
-    Rounded, Scheduled, Stamped, Tabled, Totals, WORDS,
+    Based, Committed, Entry, Lined, Operation, Origin, Report, Scheduled, Tabled, Totals, WORDS,
 };
 pub use network_operations::commit_operations;
 pub use network_order::places;

@@ -5,12 +5,14 @@ use mathlib.Core.List.{List, []}
 use Prim.Native.Nat.{ℕ, ◌+◌, ◌-◌}
 use native.Mathlib.Omega.{arith}
 use lib.IntN.{ℤ, pos}
-use lib.ListN.{length, get_or, take, drop, replicate, length-map}
+use lib.ListN.{length, get_or, take, drop, length-map}
 use lib.Seq.{take-take, length-take-le}
 use lib.Dec.{eqb}
 use mir.Val.{to_z}
 use mir.Syntax.{w32}
+use Rattle.std.specs.Prelude.{Ok, Err}
 use Rattle.limits.specs.Limits.{items_most}
+use Rattle.causes.specs.declared.Refusal.TheVariants.{NoState}
 use Rattle.lists.specs.Lists.{padded}
 use Rattle.lists.proofs.Lists.{map_take}
 use Rattle.words.specs.Words.{part}
@@ -36,7 +38,7 @@ values_of n = n.base.values
 
 module _ (w : List ℕ) where
   -- there is no network: 6
-  pub base_refused : shaped w ≡ false → BaseAnswered w (record { number = 6; folded = false; count = 0; values = replicate items_most (pos 0) })
+  pub base_refused : shaped w ≡ false → BaseAnswered w (Err NoState)
   unfolding question_number
   base_refused none =
       let six : 6 ≡ number_in w (λ n. 0) = number_unshaped w (λ n. 0) none in
@@ -76,7 +78,7 @@ module _ (w : List ℕ) where
     flag_read_lem flag e = ap (λ (v : ℕ). not (eqb v 0)) (e ∙ sym (part_get_d w base_at base_size 0 (omega arith)))
 
     pub base_found : (flag : ℕ) → flag ≡ get_or w base_at 0 → (values : List ℤ) → values ≡ padded items_most (pos 0) (take count (table_in value_words))
-        → BaseAnswered w (record { number = 0; folded = not (eqb flag 0); count = count; values = values })
+        → BaseAnswered w (Ok (record { folded = not (eqb flag 0); count = count; values = values }))
     unfolding question_number
     base_found flag flag_is values e =
         let zero : number_in w (λ n. 0) ≡ 0 = number_shaped w (λ n. 0) net.formed in

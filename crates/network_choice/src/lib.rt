@@ -26,10 +26,8 @@ pub fn chosen(state: &[u32], j: u32) -> Head
     let mask = network_placement::parents(state, j);
     let places = network_placement::places(state);
     let mut best = limits::SITES;
-    let mut p = 0;
-    while p < limits::SITES {
+    for p in 0..limits::SITES {
         best = better(state, mask, p, j, best, places);
-        p += 1;
     }
     Head {
         parent: best,
@@ -64,7 +62,7 @@ fn head_words(state: &[u32], p: u32, j: u32) -> &[u32]
     let k = network_lines::line_number(p, j);
     let name = network_lines::line_first_name(state, k);
     if name < limits::RECORDS {
-        return network_records::stamp_at(state, words::wide(name));
+        return network_records::stamp_at(state, name as usize);
     }
     network_lines::line_first_stamp(state, k)
 }

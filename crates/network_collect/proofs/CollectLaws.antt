@@ -7,6 +7,8 @@ use native.Mathlib.Omega.{arith}
 use lib.ListN.{length, get_or}
 use lib.Dec.{eqb, ltb}
 use borrow.Author.Tests.{ltb-true}
+use Rattle.std.specs.Prelude.{Ok, Err}
+use Rattle.causes.specs.declared.Refusal.TheVariants.{NoState}
 use Rattle.limits.specs.Limits.{sites_most}
 use Rattle.lists.specs.Lists.{any, every, some_below, count_below, keep_from}
 use Rattle.lists.specs.Numbers.{number_if}
@@ -30,7 +32,6 @@ use Rattle.network_layout.specs.InWords.{network_in, shaped, meaning}
 use Rattle.network_layout.specs.At.{AtNetwork}
 use Rattle.network_layout.specs.Promises.{Performed}
 use Rattle.network_layout.proofs.OnNetwork.{well_on, refused_on, accepted_on, unshaped}
-use Rattle.network_layout.specs.declared.Collected.{Collected}
 use Rattle.network_renaming.specs.Renamed.{line_gone, some_gone}
 use Rattle.network_removal.specs.Removed.{goes_by}
 use Rattle.network_collect.specs.Collect.{CollectAnswered, CollectStep}
@@ -120,24 +121,25 @@ module _ (n : Network) (shape : Shape n) (names : List ℕ) (named : Names (is_p
     network_is = λ i. record { sites = n.sites; items = n.items; lines = lines_renamed i; history = kept i; base = record { values = (folded_base n).values; folded = n.base.folded || flag i } }
 
 -- ---- the call on words
-module _ (w : List ℕ) (r : Collected) where
-  answered : (v : List ℕ) (number removed : ℕ) → r.number ≡ number → r.removed ≡ removed → Performed collect w v number 0 no_stamp [] → removed ≡ removed_by (meaning w) → CollectAnswered w v r
-  answered v number removed e f done is = record { performed = subst (λ (k : ℕ). Performed collect w v k 0 no_stamp []) (sym e) done; removed_is = f ∙ is }
-
-  pub collect_unshaped : shaped w ≡ false → r.number ≡ 6 → r.removed ≡ 0 → CollectAnswered w w r
+module _ (w : List ℕ) where
+  pub collect_unshaped : shaped w ≡ false → CollectAnswered w w (Err NoState)
   unfolding perform meaning removed_by
-  collect_unshaped e number removed = answered w 6 0 number removed (unshaped collect refl w e) (rw e refl)
+  collect_unshaped e = record { performed = unshaped collect refl w e; removed_is = rw e refl }
 
   module _ (net : AtNetwork w) where
-    pub collect_refused : collect_number (network_in w) ≡ 6 → r.number ≡ 6 → r.removed ≡ 0 → CollectAnswered w w r
+    pub collect_refused : collect_number (network_in w) ≡ 6 → CollectAnswered w w (Err NoState)
     unfolding perform meaning removed_by
-    collect_refused e number removed =
-        let refused = refused_on collect refl collect_number (λ m. accepted 0 no_stamp [] (collect_network m)) (λ m. refl) w net 6 (sym e) (λ z. omega arith) in
-        answered w 6 0 number removed refused (rw (net.formed, e) refl)
+    collect_refused e =
+        record {
+          performed = refused_on collect refl collect_number (λ m. accepted 0 no_stamp [] (collect_network m)) (λ m. refl) w net 6 (sym e) (λ z. omega arith);
+          removed_is = rw (net.formed, e) refl;
+        }
 
-    pub collect_done : collect_number (network_in w) ≡ 0 → (v : List ℕ) → r.number ≡ 0 → CollectStep w v r.removed → CollectAnswered w v r
+    pub collect_done : collect_number (network_in w) ≡ 0 → (v : List ℕ) (removed : ℕ) → CollectStep w v removed → CollectAnswered w v (Ok removed)
     unfolding perform meaning removed_by
-    collect_done e v number step =
+    collect_done e v removed step =
         let n = network_in w in
-        let done = accepted_on collect refl collect_number (λ m. accepted 0 no_stamp [] (collect_network m)) (λ m. refl) w net v 0 no_stamp [] (collect_network n) e refl step.ranged step.meant (keeps_collect n (well_on w net) e) in
-        answered v 0 r.removed number refl done (step.count ∙ sym (rw (net.formed, e) refl))
+        record {
+          performed = accepted_on collect refl collect_number (λ m. accepted 0 no_stamp [] (collect_network m)) (λ m. refl) w net v 0 no_stamp [] (collect_network n) e refl step.ranged step.meant (keeps_collect n (well_on w net) e);
+          removed_is = step.count ∙ sym (rw (net.formed, e) refl);
+        }

@@ -6,49 +6,38 @@ ghost use Rattle.network_layout.specs.Layout.{state_size};
 ghost use Rattle.network_layout.specs.At.{AtNetwork};
 ghost use Rattle.network_collect.specs.Collect.{CollectAnswered, Collecting, CollectStep};
 
+use causes::Refusal;
 use limits::{RECORDS_WIDE, SITES_WIDE};
-use network_layout::{Collected, WORDS};
+use network_layout::WORDS;
 
-// A collect. It answers its number and how many records it removed.
-pub fn collect(state: &mut [u32; WORDS]) -> Collected
+// A collect. It answers how many records it removed.
+pub fn collect(state: &mut [u32; WORDS]) -> Result<u32, Refusal>
     ensures { CollectAnswered state.old state.new result }
 {
     collect_in(state)
 }
 
-fn collect_in(state: &mut [u32]) -> Collected
+fn collect_in(state: &mut [u32]) -> Result<u32, Refusal>
     requires { length state.old ≡ state_size }
     ensures { CollectAnswered state.old state.new result }
 {
     if !network_shape::shaped(state) {
-        return refused();
+        return Err(Refusal::NoState);
     }
     collect_on(state)
 }
 
 // The same on the words of a network: nothing is changed before it is sure that no message names a record that goes.
-fn collect_on(state: &mut [u32]) -> Collected
+fn collect_on(state: &mut [u32]) -> Result<u32, Refusal>
     requires { AtNetwork state.old }
     ensures { CollectAnswered state.old state.new result }
 {
     let places = network_placement::places(state);
     let names = network_point::names(state, places);
     if network_renaming::some_gone(state, &names) {
-        return refused();
+        return Err(Refusal::NoState);
     }
-    Collected {
-        number: 0,
-        removed: fold_away(state, &names, places),
-    }
-}
-
-fn refused() -> Collected
-    ensures { (result.number ≡ 6) × (result.removed ≡ 0) }
-{
-    Collected {
-        number: 6,
-        removed: 0,
-    }
+    Ok(fold_away(state, &names, places))
 }
 
 // The records that go folded first, while all still stand where they are named. It answers how many they are.

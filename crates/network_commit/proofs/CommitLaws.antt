@@ -7,6 +7,12 @@ use lib.IntN.{ℤ}
 use lib.ListN.{length, take}
 use lib.Dec.{leb, eqb}
 use borrow.Author.Tests.{lt-ltb, le-ltb, le-leb, lt-leb, eq-eqb, ne_eqb, eqb-true, eqb-false}
+use Rattle.std.specs.Prelude.{Ok, Err, IsErrAnd}
+use Rattle.std.specs.declared.result.Result.{Result}
+use Rattle.causes.specs.declared.Refusal.{Refusal}
+use Rattle.causes.specs.declared.Refusal.TheVariants.{NoState}
+use Rattle.causes.specs.Refusals.{refusal_number}
+use Rattle.causes.proofs.Refusals.{refusal_some}
 use Rattle.limits.specs.Limits.{ops_most, sites_most, records_most}
 use Rattle.timestamp_order.specs.Timestamp.{Stamp}
 use Rattle.timestamp.specs.declared.Timestamp.{Timestamp}
@@ -25,7 +31,7 @@ use Rattle.network_layout.specs.InWords.{network_in, shaped, SentStep}
 use Rattle.network_layout.specs.Promises.{Performed, CommitAnswered}
 use Rattle.network_layout.specs.At.{AtNetwork}
 use Rattle.network_work.specs.Work.{WorkDone}
-use Rattle.network_commit.specs.Done.{CommitReady, CommitDone, Refused, CommitTried}
+use Rattle.network_commit.specs.Done.{CommitReady, CommitDone, CommitTried}
 use Rattle.network_layout.proofs.OnNetwork.{well_on, refused_on, accepted_on, unshaped}
 use Rattle.protocol.proofs.Allowed.{commit_allowed}
 use Rattle.network_sending.proofs.SendLaws.{full_by_mask, sent_by_mask}
@@ -84,6 +90,11 @@ module _ (n : Network) (i : ℕ) (os : List Op) where
         unfolding last
         commit_free e = line_pass ∙ first_fails (count_at_most n i) 14 [] e
 
+  -- one of them holds
+  pub not_tried : (w : List ℕ) → network_in w ≡ n → (r : Result Committed Refusal) (x : Refusal) → IsErrAnd r (λ y. y ≡ x) → refusal_number x ≡ first_number (commit_causes n i os) → CommitTried w w i os r
+  not_tried w is (Ok a) x err number = absurd err
+  not_tried w is (Err e) x err number = record { number_is = ap refusal_number err ∙ number ∙ ap (λ (m : Network). first_number (commit_causes m i os)) (sym is); done = tt; kept = refl }
+
 -- ---- the lists
 module _ (k i v : ℕ) where
   pub lists_none : k < 1 → true ≡ wrong_lists k i v
@@ -140,47 +151,40 @@ module _ (w : List ℕ) (i : ℕ) (ks is : List ℕ) (vs : List ℤ) where
   commit_outcome : Network → Outcome
   commit_outcome m = accepted 0 (record_of m i (ops_of ks is vs)).stamp (values_read (record_of m i (ops_of ks is vs)).ops) (commit_network m i (ops_of ks is vs))
 
-  refused : (k : ℕ) (r : Committed) → Refused k r → Performed (commit i ks is vs) w w k 0 no_stamp [] → CommitAnswered (commit i ks is vs) w w r
-  refused k r f p = record { performed = rw (f.number_is, f.stamp_is.means, f.none_read) p; plain = f.stamp_is.plain; filled = f.filled }
-
-  pub commit_unshaped : (r : Committed) → Refused 6 r → shaped w ≡ false → CommitAnswered (commit i ks is vs) w w r
+  pub commit_unshaped : shaped w ≡ false → CommitAnswered (commit i ks is vs) w w (Err NoState)
   unfolding perform
-  commit_unshaped r f e = refused 6 r f (unshaped (commit i ks is vs) refl w e)
+  commit_unshaped e = record { performed = unshaped (commit i ks is vs) refl w e; plain = tt; filled = tt }
 
   module _ (net : AtNetwork w) where
-    pub commit_refused : (k : ℕ) (r : Committed) → Refused k r → k ≡ commit_number (network_in w) i ks is vs → (k ≡ 0 → ⊥) → CommitAnswered (commit i ks is vs) w w r
+    pub commit_refused : (x : Refusal) → refusal_number x ≡ commit_number (network_in w) i ks is vs → CommitAnswered (commit i ks is vs) w w (Err x)
     unfolding perform commit_outcome
-    commit_refused k r f e h = refused k r f (refused_on (commit i ks is vs) refl (λ m. commit_number m i ks is vs) commit_outcome (λ m. refl) w net k e h)
+    commit_refused x e =
+        record {
+          performed = refused_on (commit i ks is vs) refl (λ m. commit_number m i ks is vs) commit_outcome (λ m. refl) w net (refusal_number x) e (refusal_some x);
+          plain = tt;
+          filled = tt;
+        }
 
-    pub commit_performed : commit_number (network_in w) i ks is vs ≡ 0 → (v : List ℕ) (r : Committed) → CommitDone w v i (ops_of ks is vs) r → CommitAnswered (commit i ks is vs) w v r
+    pub commit_performed : commit_number (network_in w) i ks is vs ≡ 0 → (v : List ℕ) (r : Committed) → CommitDone w v i (ops_of ks is vs) r → CommitAnswered (commit i ks is vs) w v (Ok r)
     unfolding perform commit_outcome
     commit_performed z v r d =
         let n = network_in w in
         let os = ops_of ks is vs in
         let after = commit_network n i os in
-        let t = stamp_of r.stamp in
-        let xs = take r.count r.values in
         record {
-          performed = subst (λ (x : ℕ). Performed (commit i ks is vs) w v x 0 t xs) (sym d.number_is)
-              (accepted_on (commit i ks is vs) refl (λ m. commit_number m i ks is vs) commit_outcome (λ m. refl) w net v 0 t xs after z
+          performed =
+              accepted_on (commit i ks is vs) refl (λ m. commit_number m i ks is vs) commit_outcome (λ m. refl) w net v 0 (stamp_of r.stamp) (take r.count r.values) after z
               (ap₂ (λ (x : Stamp) (y : List ℤ). accepted 0 x y after) (sym d.stamp_is.means) (sym d.values_are))
               d.ranged
               d.network_is
-              (keeps_commit n i os (well_on w net) (commit_allowed n i ks is vs z).1));
+              (keeps_commit n i os (well_on w net) (commit_allowed n i ks is vs z).1);
           plain = d.stamp_is.plain;
           filled = d.filled;
         }
 
     -- whether or not a cause from 9 on refuses it
-    pub commit_tried : no_such_site (network_in w) i ≡ false → wrong_lists (length ks) (length is) (length vs) ≡ false → (v : List ℕ) (r : Committed)
+    pub commit_tried : no_such_site (network_in w) i ≡ false → wrong_lists (length ks) (length is) (length vs) ≡ false → (v : List ℕ) (r : Result Committed Refusal)
         → CommitTried w v i (ops_of ks is vs) r → CommitAnswered (commit i ks is vs) w v r
-    commit_tried a b v r tried = go (eqb r.number 0) refl
-      where
-        number : r.number ≡ commit_number (network_in w) i ks is vs
-        number = tried.number_is ∙ sym (commit_later (network_in w) i ks is vs a b)
-
-        go : (none : Bool) → eqb r.number 0 ≡ none → CommitAnswered (commit i ks is vs) w v r
-        go true e = let z = eqb-true r.number 0 e in commit_performed (sym number ∙ z) v r (tried.done z)
-        go false e =
-            let some = eqb-false r.number 0 e in
-            subst (λ (x : List ℕ). CommitAnswered (commit i ks is vs) w x r) (sym (tried.kept some)) (commit_refused r.number r (tried.refused some) number some)
+    commit_tried a b v (Ok x) tried = commit_performed (commit_later (network_in w) i ks is vs a b ∙ sym tried.number_is) v x tried.done
+    commit_tried a b v (Err x) tried =
+        subst (λ (u : List ℕ). CommitAnswered (commit i ks is vs) w u (Err x)) (sym tried.kept) (commit_refused x (tried.number_is ∙ sym (commit_later (network_in w) i ks is vs a b)))

@@ -1,12 +1,14 @@
 -- What the parts of a commit's code ask and say.
-use Rattle.std.specs.Prelude.{◌≡◌, true, List, ℕ, ◌≤◌, ◌<◌, pos, length, take}
+use Rattle.std.specs.Prelude.{◌≡◌, true, List, ℕ, ◌≤◌, ◌<◌, pos, length, take, IfOk, IfErr}
+use Rattle.std.specs.declared.result.Result.{Result}
+use Rattle.causes.specs.declared.Refusal.{Refusal}
+use Rattle.causes.specs.Refusals.{number_of}
 use Rattle.limits.specs.Limits.{sites_most, ops_most}
 use Rattle.lists.specs.Lists.{Filled}
 use Rattle.lists.specs.Numbers.{first_number}
 use Rattle.timestamp.specs.Value.{PlainValue}
 use Rattle.site_operations.specs.Operations.{Op, values_read}
 use Rattle.placement.specs.Masks.{mask_of}
-use Rattle.protocol.specs.Network.{no_stamp}
 use Rattle.protocol.specs.Steps.{due, commit_causes, record_of, commit_network}
 use Rattle.protocol.specs.Allowed.{CommitAllowed}
 use Rattle.network_layout.specs.declared.Committed.{Committed}
@@ -45,23 +47,14 @@ pub record CommitReady (w : List ℕ) (i n mask : ℕ) (os : List Op) : Type 0 w
 
 -- what a commit of the operations `os` at site i that no cause refuses answers and leaves
 pub record CommitDone (entry exit : List ℕ) (i : ℕ) (os : List Op) (r : Committed) : Type 0 where
-  pub number_is : r.number ≡ 0
   pub stamp_is : PlainValue (record_of (network_in entry) i os).stamp r.stamp
   pub values_are : take r.count r.values ≡ values_read (record_of (network_in entry) i os).ops
   pub filled : Filled (pos 0) ops_most r.count r.values
   pub network_is : network_in exit ≡ commit_network (network_in entry) i os
   pub ranged : in_range exit ≡ true
 
--- a refusal's number, no timestamp and no values
-pub record Refused (number : ℕ) (r : Committed) : Type 0 where
-  pub number_is : r.number ≡ number
-  pub stamp_is : PlainValue no_stamp r.stamp
-  pub none_read : r.count ≡ 0
-  pub filled : Filled (pos 0) ops_most r.count r.values
-
 -- a commit that a cause from 9 on may refuse
-pub record CommitTried (entry exit : List ℕ) (i : ℕ) (os : List Op) (r : Committed) : Type 0 where
-  pub number_is : r.number ≡ first_number (commit_causes (network_in entry) i os)
-  pub done : r.number ≡ 0 → CommitDone entry exit i os r
-  pub refused : (r.number ≡ 0 → ⊥) → Refused r.number r
-  pub kept : (r.number ≡ 0 → ⊥) → exit ≡ entry
+pub record CommitTried (entry exit : List ℕ) (i : ℕ) (os : List Op) (r : Result Committed Refusal) : Type 0 where
+  pub number_is : number_of r ≡ first_number (commit_causes (network_in entry) i os)
+  pub done : IfOk r (λ a. CommitDone entry exit i os a)
+  pub kept : IfErr r (λ e. exit ≡ entry)

@@ -5,6 +5,7 @@ mod operation_causes; // operation_causes.rt: whether each operation may be done
 mod operations; // operations.rt: a commit's operations in words, and the values read
 
 ghost use Rattle.std.specs.Prelude.{◌≡◌, length};
+ghost use Rattle.causes.specs.Refusals.{number_of};
 ghost use Rattle.site_operations.specs.InWords.{ops_in};
 ghost use Rattle.lists.specs.Numbers.{first_number};
 ghost use Rattle.network_layout.specs.Layout.{state_size};
@@ -13,31 +14,38 @@ ghost use Rattle.protocol.specs.Calls.{commit as commitCall};
 ghost use Rattle.network_layout.specs.InWords.{network_in};
 ghost use Rattle.network_layout.specs.At.{AtNetwork};
 ghost use Rattle.network_layout.specs.Promises.{CommitAnswered};
-ghost use Rattle.network_commit.specs.Done.{CommitAt, Masked, CommitReady, CommitDone, Refused, CommitTried};
+ghost use Rattle.network_commit.specs.Done.{CommitAt, Masked, CommitReady, CommitDone, CommitTried};
 
+use causes::Refusal;
 use messages::Message;
 use network_layout::{Committed, RECORD_COUNT, WORDS};
 pub use operations::op_words;
 
-// A commit at a site: operations as three lists of their fields. It answers its number, the timestamp and the values read.
+// A commit at a site: operations as three lists of their fields. It answers the timestamp and the values read.
 pub fn commit(
     state: &mut [u32; WORDS],
     site: u32,
     kinds: &[u8],
     items: &[u32],
     values: &[i32],
-) -> Committed
+) -> Result<Committed, Refusal>
     ensures { CommitAnswered (commitCall site kinds.now items.now values.now) state.old state.new result }
 {
     commit_in(state, site, kinds, items, values)
 }
 
-fn commit_in(state: &mut [u32], site: u32, kinds: &[u8], items: &[u32], values: &[i32]) -> Committed
+fn commit_in(
+    state: &mut [u32],
+    site: u32,
+    kinds: &[u8],
+    items: &[u32],
+    values: &[i32],
+) -> Result<Committed, Refusal>
     requires { length state.old ≡ state_size }
     ensures { CommitAnswered (commitCall site kinds.now items.now values.now) state.old state.new result }
 {
     if !network_shape::shaped(state) {
-        return refused(6);
+        return Err(Refusal::NoState);
     }
     commit_on(state, site, kinds, items, values)
 }
@@ -49,63 +57,46 @@ pub fn commit_on(
     kinds: &[u8],
     items: &[u32],
     values: &[i32],
-) -> Committed
+) -> Result<Committed, Refusal>
     requires { AtNetwork state.old }
     ensures { CommitAnswered (commitCall site kinds.now items.now values.now) state.old state.new result }
 {
     if !network_placement::is_site(state, site) {
-        return refused(7);
+        return Err(Refusal::NoSuchSite);
     }
     if wrong_lists(kinds.len(), items.len(), values.len()) {
-        return refused(8);
+        return Err(Refusal::WrongOperations);
     }
     let ops = operations::op_words(kinds, items, values);
     commit_words(state, site, &ops, kinds.len())
 }
 
-fn refused(number: u32) -> Committed
-    ensures { Refused number result }
-{
-    Committed {
-        number,
-        stamp: timestamp::zero(),
-        count: 0,
-        values: [0; limits::OPERATIONS_WIDE],
-    }
-}
-
 // A commit of n operations in words, at a site that is there.
-fn commit_words(state: &mut [u32], site: u32, ops: &[u32], n: usize) -> Committed
+fn commit_words(state: &mut [u32], site: u32, ops: &[u32], n: usize) -> Result<Committed, Refusal>
     requires { CommitAt state.old site n }
     ensures { CommitTried state.old state.new site (ops_in n ops.now) result }
 {
     let mask = network_placement::due_mask(state, ops, n);
-    let cause = commit_cause(state, site, ops, n, mask);
-    if cause != 0 {
-        return refused(cause);
-    }
-    commit_done(state, site, ops, n, mask)
+    commit_cause(state, site, ops, n, mask)?;
+    Ok(commit_done(state, site, ops, n, mask))
 }
 
-// The number of the first cause from 9 on that refuses a commit of n operations, or 0.
-fn commit_cause(state: &[u32], site: u32, ops: &[u32], n: usize, mask: u32) -> u32
+// The first cause from 9 on that refuses a commit of n operations.
+fn commit_cause(state: &[u32], site: u32, ops: &[u32], n: usize, mask: u32) -> Result<(), Refusal>
     requires { Masked state.now site n mask (ops_in n ops.now) }
-    ensures { result ≡ first_number (commit_causes (network_in state.now) site (ops_in n ops.now)) }
+    ensures { number_of result ≡ first_number (commit_causes (network_in state.now) site (ops_in n ops.now)) }
 {
-    let cause = operation_causes::ops_number(state, site, ops, n);
-    if cause != 0 {
-        return cause;
-    }
+    operation_causes::ops_number(state, site, ops, n)?;
     if limits::RECORDS <= state[RECORD_COUNT] {
-        return 12;
+        return Err(Refusal::HistoryFull);
     }
     if network_sending::some_line_full(state, site, mask) {
-        return 13;
+        return Err(Refusal::LineFull);
     }
     if network_sites::count_at_most(state, words::wide(site)) {
-        return 14;
+        return Err(Refusal::CountFull);
     }
-    0
+    Ok(())
 }
 
 // A commit that no cause refuses: the site and the record, then the messages.
@@ -122,7 +113,6 @@ fn commit_done(state: &mut [u32], site: u32, ops: &[u32], n: usize, mask: u32) -
     let given = operations::values_read(&done, n);
     let read = given.values;
     Committed {
-        number: 0,
         stamp: t,
         count: given.count,
         values: read,

@@ -1,48 +1,46 @@
 // What a commit's operations ask of the placement: whether each may be done.
 ghost use Rattle.std.specs.Prelude.{◌≡◌, map, length};
+ghost use Rattle.causes.specs.Refusals.{number_of};
 ghost use Rattle.site_operations.specs.InWords.{op_at, ops_in};
 ghost use Rattle.lists.specs.Numbers.{first_number};
 ghost use Rattle.protocol.specs.Steps.{op_number};
 ghost use Rattle.network_layout.specs.Layout.{state_size};
 ghost use Rattle.network_layout.specs.InWords.{network_in};
 
-// The number for which the first faulty of n operations is refused at a site, or 0.
-pub fn ops_number(state: &[u32], site: u32, ops: &[u32], n: usize) -> u32
+use causes::Refusal;
+
+// What the first faulty of n operations is refused for at a site.
+pub fn ops_number(state: &[u32], site: u32, ops: &[u32], n: usize) -> Result<(), Refusal>
     requires { length state.now ≡ state_size }
-    ensures { result ≡ first_number (map (op_number (network_in state.now).items site) (ops_in n ops.now)) }
+    ensures { number_of result ≡ first_number (map (op_number (network_in state.now).items site) (ops_in n ops.now)) }
 {
-    let mut k = 0;
-    while k < n {
-        let x = op_number(state, site, ops, k);
-        if x != 0 {
-            return x;
-        }
-        k += 1;
+    for k in 0..n {
+        op_number(state, site, ops, k)?;
     }
-    0
+    Ok(())
 }
 
-// The number for which operation k is refused at a site, or 0.
-fn op_number(state: &[u32], site: u32, ops: &[u32], k: usize) -> u32
+// What operation k is refused for at a site.
+fn op_number(state: &[u32], site: u32, ops: &[u32], k: usize) -> Result<(), Refusal>
     requires { length state.now ≡ state_size }
-    ensures { result ≡ op_number (network_in state.now).items site (op_at ops.now k) }
+    ensures { number_of result ≡ op_number (network_in state.now).items site (op_at ops.now k) }
 {
     let kind = site_operations::kind(ops, k);
     let item = site_operations::item(ops, k);
     if site_operations::WRITE < kind {
-        return 9;
+        return Err(Refusal::UnknownOperation);
     }
     if network_placement::item_count(state) <= item {
-        return 9;
+        return Err(Refusal::UnknownOperation);
     }
     if network_placement::is_owned(state, item, site) {
-        return 0;
+        return Ok(());
     }
     if kind == site_operations::WRITE {
-        return 11;
+        return Err(Refusal::NotPrimary);
     }
     if network_placement::is_copied(state, item, site) {
-        return 0;
+        return Ok(());
     }
-    10
+    Err(Refusal::NoCopy)
 }

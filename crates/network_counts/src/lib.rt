@@ -10,17 +10,5 @@ use limits::{ITEMS, RECORDS, SITES};
 pub fn counts_fit(sites: u32, items: u32, made: u32) -> bool
     ensures { result ≡ counts_fit sites items made }
 {
-    if sites == 0 {
-        return false;
-    }
-    if SITES < sites {
-        return false;
-    }
-    if items == 0 {
-        return false;
-    }
-    if ITEMS < items {
-        return false;
-    }
-    made <= RECORDS
+    (1..=SITES).contains(&sites) && (1..=ITEMS).contains(&items) && made <= RECORDS
 }

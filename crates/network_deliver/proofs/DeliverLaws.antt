@@ -1,11 +1,16 @@
 -- Deliver: its number, cause by cause, and the network after it.
-use mathlib.Core.Path.{◌≡◌, refl, ap, ◌∙◌}
+use mathlib.Core.Path.{◌≡◌, refl, sym, ap, ◌∙◌}
 use mathlib.Core.Bool.{Bool, true, false}
 use mathlib.Core.List.{List, []}
 use Prim.Native.Nat.{ℕ}
 use native.Mathlib.Omega.{arith}
 use lib.ListN.{length, get_or}
 use lib.Dec.{leb}
+use Rattle.std.specs.Prelude.{IsErrAnd}
+use Rattle.std.specs.declared.result.Result.{Result}
+use Rattle.causes.specs.declared.Refusal.{Refusal}
+use Rattle.causes.specs.Refusals.{refusal_number, number_of}
+use Rattle.causes.proofs.Refusals.{passed_on, refusal_some}
 use Rattle.placement.specs.Placement.{is_line}
 use Rattle.lines.specs.Lines.{no_line, delivered_or_same}
 use Rattle.lines.proofs.Boxes.{deliver_some}
@@ -49,9 +54,11 @@ module _ (n : Network) (p c : ℕ) where
 
 -- ---- the step on words
 module _ (w : List ℕ) (net : AtNetwork w) (p c : ℕ) where
-  pub deliver_refused : (r : ℕ) → r ≡ deliver_number (network_in w) p c → (r ≡ 0 → ⊥) → Performed (deliver p c) w w r 0 no_stamp []
+  pub deliver_refused : {A : Type 0} (r : Result A Refusal) (x : Refusal) → IsErrAnd r (λ y. y ≡ x) → refusal_number x ≡ deliver_number (network_in w) p c → Performed (deliver p c) w w (number_of r) 0 no_stamp []
   unfolding perform
-  deliver_refused r e h = refused_on (deliver p c) refl (λ m. deliver_number m p c) (λ m. accepted 0 no_stamp [] (deliver_network m p c)) (λ m. refl) w net r e h
+  deliver_refused r x h f =
+      let is = passed_on r x h in
+      refused_on (deliver p c) refl (λ m. deliver_number m p c) (λ m. accepted 0 no_stamp [] (deliver_network m p c)) (λ m. refl) w net (number_of r) (is ∙ f) (λ z. refusal_some x (sym is ∙ z))
 
   module _ (z : deliver_number (network_in w) p c ≡ 0) where
     pub deliver_pair : AtPair w p c

@@ -2,6 +2,7 @@
 #![tactic(auto)]
 
 ghost use Rattle.std.specs.Prelude.{◌≡◌, [], length, leb};
+ghost use Rattle.causes.specs.Refusals.{number_of};
 ghost use Rattle.network_layout.specs.Layout.{state_size};
 ghost use Rattle.protocol.specs.Network.{no_stamp, line_at};
 ghost use Rattle.protocol.specs.Steps.{deliver_number};
@@ -10,56 +11,54 @@ ghost use Rattle.network_layout.specs.InWords.{network_in};
 ghost use Rattle.network_layout.specs.At.{AtNetwork, AtPair};
 ghost use Rattle.network_layout.specs.Promises.{Performed};
 
+use causes::Refusal;
 use network_layout::WORDS;
 
-// Deliver from a parent to a child. It answers its number.
-pub fn deliver(state: &mut [u32; WORDS], parent: u32, child: u32) -> u32
-    ensures { Performed (deliverCall parent child) state.old state.new result 0 no_stamp [] }
+// Deliver from a parent to a child.
+pub fn deliver(state: &mut [u32; WORDS], parent: u32, child: u32) -> Result<(), Refusal>
+    ensures { Performed (deliverCall parent child) state.old state.new (number_of result) 0 no_stamp [] }
 {
     deliver_in(state, parent, child)
 }
 
-fn deliver_in(state: &mut [u32], parent: u32, child: u32) -> u32
+fn deliver_in(state: &mut [u32], parent: u32, child: u32) -> Result<(), Refusal>
     requires { length state.old ≡ state_size }
-    ensures { Performed (deliverCall parent child) state.old state.new result 0 no_stamp [] }
+    ensures { Performed (deliverCall parent child) state.old state.new (number_of result) 0 no_stamp [] }
 {
     if !network_shape::shaped(state) {
-        return 6;
+        return Err(Refusal::NoState);
     }
     deliver_on(state, parent, child)
 }
 
 // The same on the words of a network.
-pub fn deliver_on(state: &mut [u32], parent: u32, child: u32) -> u32
+pub fn deliver_on(state: &mut [u32], parent: u32, child: u32) -> Result<(), Refusal>
     requires { AtNetwork state.old }
-    ensures { Performed (deliverCall parent child) state.old state.new result 0 no_stamp [] }
+    ensures { Performed (deliverCall parent child) state.old state.new (number_of result) 0 no_stamp [] }
 {
-    let number = deliver_number(state, parent, child);
-    if number != 0 {
-        return number;
-    }
+    deliver_number(state, parent, child)?;
     network_lines::line_deliver(state, network_lines::line_number(parent, child));
-    0
+    Ok(())
 }
 
-// The number of the first cause that refuses the step, or 0.
-fn deliver_number(state: &[u32], parent: u32, child: u32) -> u32
+// The first cause that refuses the step.
+fn deliver_number(state: &[u32], parent: u32, child: u32) -> Result<(), Refusal>
     requires { AtNetwork state.now }
-    ensures { result ≡ deliver_number (network_in state.now) parent child }
+    ensures { number_of result ≡ deliver_number (network_in state.now) parent child }
 {
     if !network_placement::is_site(state, parent) {
-        return 7;
+        return Err(Refusal::NoSuchSite);
     }
     if !network_placement::is_site(state, child) {
-        return 7;
+        return Err(Refusal::NoSuchSite);
     }
     if !network_placement::is_line(state, parent, child) {
-        return 17;
+        return Err(Refusal::NoSuchLine);
     }
     if none_on_way(state, parent, child) {
-        return 18;
+        return Err(Refusal::NothingOnTheWay);
     }
-    0
+    Ok(())
 }
 
 // Whether all that the line holds has arrived.

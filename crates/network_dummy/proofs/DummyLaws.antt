@@ -4,6 +4,12 @@ use mathlib.Core.Bool.{true, false}
 use mathlib.Core.List.{List, []}
 use Prim.Native.Nat.{ℕ}
 use lib.Seq.{get_or-set_same}
+use Rattle.std.specs.Prelude.{Ok, Err, IsErrAnd}
+use Rattle.std.specs.declared.result.Result.{Result}
+use Rattle.causes.specs.declared.Refusal.{Refusal}
+use Rattle.causes.specs.declared.Refusal.TheVariants.{NoState}
+use Rattle.causes.specs.Refusals.{refusal_number}
+use Rattle.causes.proofs.Refusals.{refusal_some}
 use Rattle.timestamp_order.specs.Timestamp.{Stamp}
 use Rattle.timestamp.specs.declared.Timestamp.{Timestamp}
 use Rattle.timestamp.specs.Value.{stamp_of}
@@ -16,11 +22,10 @@ use Rattle.messages.specs.Messages.{dummy as dummyMessage}
 use Rattle.protocol.specs.Network.{Network, no_stamp, no_site, site_at, with_site, with_lines}
 use Rattle.protocol.specs.Steps.{no_such_site, count_at_most, some_line_full, sent_to, dummy_number, dummy_network}
 use Rattle.protocol.specs.Calls.{dummy, accepted, perform}
-use Rattle.network_layout.specs.declared.Dummied.{Dummied}
 use Rattle.network_layout.specs.InWords.{network_in, shaped, SentStep}
 use Rattle.network_layout.specs.Promises.{Performed, DummyAnswered}
 use Rattle.network_layout.specs.At.{AtNetwork}
-use Rattle.network_dummy.specs.Done.{Refused, DummyReady, Raised, DummyDone}
+use Rattle.network_dummy.specs.Done.{DummyReady, Raised, DummyDone}
 use Rattle.network_layout.proofs.OnNetwork.{well_on, refused_on, accepted_on, unshaped}
 use Rattle.protocol.proofs.Allowed.{dummy_allowed}
 use Rattle.protocol.proofs.Keeps.{keeps_dummy}
@@ -77,20 +82,24 @@ module _ (w : List ℕ) (i : ℕ) (ready : DummyReady w i) (mask : ℕ) (is : ma
 
 -- ---- what the contract promises
 module _ (w : List ℕ) (i : ℕ) where
-  refused : (k : ℕ) (r : Dummied) → Refused k r → Performed (dummy i) w w k 0 no_stamp [] → DummyAnswered i w w r
-  refused k r f p = record { performed = rw (f.number_is, f.stamp_is.means) p; plain = f.stamp_is.plain }
-
-  pub dummy_unshaped : (r : Dummied) → Refused 6 r → shaped w ≡ false → DummyAnswered i w w r
+  pub dummy_unshaped : shaped w ≡ false → DummyAnswered i w w (Err NoState)
   unfolding perform
-  dummy_unshaped r f e = refused 6 r f (unshaped (dummy i) refl w e)
+  dummy_unshaped e = record { performed = unshaped (dummy i) refl w e; plain = tt }
 
   module _ (net : AtNetwork w) where
-    pub dummy_refused : (k : ℕ) (r : Dummied) → Refused k r → k ≡ dummy_number (network_in w) i → (k ≡ 0 → ⊥) → DummyAnswered i w w r
+    pub dummy_refused : (r : Result Timestamp Refusal) (x : Refusal) → IsErrAnd r (λ y. y ≡ x) → refusal_number x ≡ dummy_number (network_in w) i → DummyAnswered i w w r
     unfolding perform
-    dummy_refused k r f e h =
-        refused k r f (refused_on (dummy i) refl (λ m. dummy_number m i) (λ m. accepted 0 (site_at (dummy_network m i) i).stamp [] (dummy_network m i)) (λ m. refl) w net k e h)
+    dummy_refused (Ok a) x err number = absurd err
+    dummy_refused (Err e) x err number =
+        record {
+          performed =
+              refused_on (dummy i) refl (λ m. dummy_number m i) (λ m. accepted 0 (site_at (dummy_network m i) i).stamp [] (dummy_network m i)) (λ m. refl) w net (refusal_number e)
+              (ap refusal_number err ∙ number)
+              (refusal_some e);
+          plain = tt;
+        }
 
-    pub dummy_performed : dummy_number (network_in w) i ≡ 0 → (v : List ℕ) (t : Timestamp) → DummyDone w v i t → DummyAnswered i w v (record { number = 0; stamp = t })
+    pub dummy_performed : dummy_number (network_in w) i ≡ 0 → (v : List ℕ) (t : Timestamp) → DummyDone w v i t → DummyAnswered i w v (Ok t)
     unfolding perform
     dummy_performed z v t d =
         let after = dummy_network (network_in w) i in

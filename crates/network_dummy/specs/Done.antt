@@ -3,17 +3,11 @@ use Rattle.std.specs.Prelude.{◌≡◌, true, List, ℕ}
 use Rattle.timestamp.specs.declared.Timestamp.{Timestamp}
 use Rattle.timestamp.specs.Value.{PlainValue}
 use Rattle.site.specs.Site.{dummied}
-use Rattle.protocol.specs.Network.{no_stamp, site_at}
+use Rattle.protocol.specs.Network.{site_at}
 use Rattle.protocol.specs.Steps.{dummy_network}
 use Rattle.protocol.specs.Allowed.{DummyAllowed}
-use Rattle.network_layout.specs.declared.Dummied.{Dummied}
 use Rattle.network_layout.specs.InWords.{network_in, in_range, SiteStep}
 use Rattle.network_layout.specs.At.{AtNetwork}
-
--- a refusal's number, and no timestamp
-pub record Refused (number : ℕ) (r : Dummied) : Type 0 where
-  pub number_is : r.number ≡ number
-  pub stamp_is : PlainValue no_stamp r.stamp
 
 -- the words of a network on which no cause refuses the dummy
 pub record DummyReady (w : List ℕ) (i : ℕ) : Type 0 where

@@ -2,75 +2,61 @@
 #![tactic(auto)]
 
 ghost use Rattle.std.specs.Prelude.{◌≡◌, length};
+ghost use Rattle.causes.specs.Refusals.{number_of};
 ghost use Rattle.network_layout.specs.Layout.{state_size};
 ghost use Rattle.protocol.specs.Steps.{dummy_number};
 ghost use Rattle.network_layout.specs.InWords.{network_in};
 ghost use Rattle.network_layout.specs.At.{AtNetwork, AtSite};
-ghost use Rattle.network_dummy.specs.Done.{Refused, DummyReady, Raised, DummyDone};
+ghost use Rattle.network_dummy.specs.Done.{DummyReady, Raised, DummyDone};
 ghost use Rattle.network_layout.specs.Promises.{DummyAnswered};
 
+use causes::Refusal;
 use messages::Message;
-use network_layout::{Dummied, WORDS};
+use network_layout::WORDS;
 use timestamp::Timestamp;
 
-// A dummy at a site. It answers its number and the timestamp.
-pub fn dummy(state: &mut [u32; WORDS], site: u32) -> Dummied
+// A dummy at a site. It answers the timestamp.
+pub fn dummy(state: &mut [u32; WORDS], site: u32) -> Result<Timestamp, Refusal>
     ensures { DummyAnswered site state.old state.new result }
 {
     dummy_in(state, site)
 }
 
-fn dummy_in(state: &mut [u32], site: u32) -> Dummied
+fn dummy_in(state: &mut [u32], site: u32) -> Result<Timestamp, Refusal>
     requires { length state.old ≡ state_size }
     ensures { DummyAnswered site state.old state.new result }
 {
     if !network_shape::shaped(state) {
-        return refused(6);
+        return Err(Refusal::NoState);
     }
     dummy_on(state, site)
 }
 
 // The same on the words of a network.
-pub fn dummy_on(state: &mut [u32], site: u32) -> Dummied
+pub fn dummy_on(state: &mut [u32], site: u32) -> Result<Timestamp, Refusal>
     requires { AtNetwork state.old }
     ensures { DummyAnswered site state.old state.new result }
 {
-    let number = dummy_number(state, site);
-    if number != 0 {
-        return refused(number);
-    }
-    let t = dummy_done(state, site);
-    Dummied {
-        number: 0,
-        stamp: t,
-    }
+    dummy_number(state, site)?;
+    Ok(dummy_done(state, site))
 }
 
-fn refused(number: u32) -> Dummied
-    ensures { Refused number result }
-{
-    Dummied {
-        number,
-        stamp: timestamp::zero(),
-    }
-}
-
-// The number of the first cause that refuses the step, or 0.
-fn dummy_number(state: &[u32], site: u32) -> u32
+// The first cause that refuses the step.
+fn dummy_number(state: &[u32], site: u32) -> Result<(), Refusal>
     requires { AtNetwork state.now }
-    ensures { result ≡ dummy_number (network_in state.now) site }
+    ensures { number_of result ≡ dummy_number (network_in state.now) site }
 {
     if !network_placement::is_site(state, site) {
-        return 7;
+        return Err(Refusal::NoSuchSite);
     }
     let mask = network_placement::children(state, site);
     if network_sending::some_line_full(state, site, mask) {
-        return 13;
+        return Err(Refusal::LineFull);
     }
     if network_sites::count_at_most(state, words::wide(site)) {
-        return 14;
+        return Err(Refusal::CountFull);
     }
-    0
+    Ok(())
 }
 
 // A dummy that no cause refuses: the site's count, then the messages. It answers the timestamp.

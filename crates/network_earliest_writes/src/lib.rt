@@ -16,15 +16,13 @@ pub fn earliest_writes(state: &[u32], site: u32, places: [u8; SITES_WIDE]) -> [u
     ensures { result ≡ earliest_writers (network_in state.now) site }
 {
     let mut writers = [RECORDS; ITEMS_WIDE];
-    let mut p = 0u32;
-    while p < SITES {
+    for p in 0..SITES {
         note_line(
             &mut writers,
             state,
             network_lines::line_number(p, site),
             places,
         );
-        p += 1;
     }
     writers
 }
@@ -35,10 +33,8 @@ fn note_line(writers: &mut [u32], state: &[u32], k: usize, places: [u8; SITES_WI
     ensures { writers.new ≡ note_messages (network_in state.now) writers.old (messages_on state.now k) }
 {
     let n = network_lines::line_held(state, k);
-    let mut i = 0;
-    while i < n {
+    for i in 0..n {
         note_message(writers, state, k, i, places);
-        i += 1;
     }
 }
 

@@ -1,9 +1,14 @@
 -- Epoch: its number, cause by cause, and the network after it.
-use mathlib.Core.Path.{◌≡◌, refl, ap, ◌∙◌}
+use mathlib.Core.Path.{◌≡◌, refl, sym, ap, ◌∙◌}
 use mathlib.Core.Bool.{true, false}
 use mathlib.Core.List.{List, []}
 use Prim.Native.Nat.{ℕ, ◌≤◌, ◌<◌}
 use borrow.Author.Tests.{le-leb, lt-leb}
+use Rattle.std.specs.Prelude.{IsErrAnd}
+use Rattle.std.specs.declared.result.Result.{Result}
+use Rattle.causes.specs.declared.Refusal.{Refusal}
+use Rattle.causes.specs.Refusals.{refusal_number, number_of}
+use Rattle.causes.proofs.Refusals.{passed_on, refusal_some}
 use Rattle.site.specs.Site.{at_epoch}
 use Rattle.placement.specs.Placement.{has_parents}
 use Rattle.protocol.specs.Network.{Network, no_stamp, site_at, with_site}
@@ -38,9 +43,11 @@ module _ (n : Network) (i e : ℕ) where
 
 -- ---- the step on words
 module _ (w : List ℕ) (net : AtNetwork w) (i e : ℕ) where
-  pub epoch_refused : (r : ℕ) → r ≡ epoch_number (network_in w) i e → (r ≡ 0 → ⊥) → Performed (epoch i e) w w r 0 no_stamp []
+  pub epoch_refused : {A : Type 0} (r : Result A Refusal) (x : Refusal) → IsErrAnd r (λ y. y ≡ x) → refusal_number x ≡ epoch_number (network_in w) i e → Performed (epoch i e) w w (number_of r) 0 no_stamp []
   unfolding perform
-  epoch_refused r f h = refused_on (epoch i e) refl (λ m. epoch_number m i e) (λ m. accepted 0 no_stamp [] (epoch_network m i e)) (λ m. refl) w net r f h
+  epoch_refused r x h f =
+      let is = passed_on r x h in
+      refused_on (epoch i e) refl (λ m. epoch_number m i e) (λ m. accepted 0 no_stamp [] (epoch_network m i e)) (λ m. refl) w net (number_of r) (is ∙ f) (λ z. refusal_some x (sym is ∙ z))
 
   pub epoch_done : epoch_number (network_in w) i e ≡ 0 → (v : List ℕ) (k : ℕ) → k ≡ i → SiteStep w v k (at_epoch e) → Performed (epoch i e) w v 0 0 no_stamp []
   unfolding perform epoch_network

@@ -2,6 +2,7 @@
 #![tactic(auto)]
 
 ghost use Rattle.std.specs.Prelude.{◌≡◌, [], length};
+ghost use Rattle.causes.specs.Refusals.{number_of};
 ghost use Rattle.network_layout.specs.Layout.{state_size};
 ghost use Rattle.protocol.specs.Network.{no_stamp};
 ghost use Rattle.protocol.specs.Steps.{epoch_number};
@@ -10,53 +11,51 @@ ghost use Rattle.network_layout.specs.InWords.{network_in};
 ghost use Rattle.network_layout.specs.At.{AtNetwork};
 ghost use Rattle.network_layout.specs.Promises.{Performed};
 
+use causes::Refusal;
 use network_layout::WORDS;
 
-// A new epoch at a site. It answers its number.
-pub fn epoch(state: &mut [u32; WORDS], site: u32, to: u32) -> u32
-    ensures { Performed (epochCall site to) state.old state.new result 0 no_stamp [] }
+// A new epoch at a site.
+pub fn epoch(state: &mut [u32; WORDS], site: u32, to: u32) -> Result<(), Refusal>
+    ensures { Performed (epochCall site to) state.old state.new (number_of result) 0 no_stamp [] }
 {
     epoch_in(state, site, to)
 }
 
-fn epoch_in(state: &mut [u32], site: u32, to: u32) -> u32
+fn epoch_in(state: &mut [u32], site: u32, to: u32) -> Result<(), Refusal>
     requires { length state.old ≡ state_size }
-    ensures { Performed (epochCall site to) state.old state.new result 0 no_stamp [] }
+    ensures { Performed (epochCall site to) state.old state.new (number_of result) 0 no_stamp [] }
 {
     if !network_shape::shaped(state) {
-        return 6;
+        return Err(Refusal::NoState);
     }
     epoch_on(state, site, to)
 }
 
 // The same on the words of a network.
-pub fn epoch_on(state: &mut [u32], site: u32, to: u32) -> u32
+pub fn epoch_on(state: &mut [u32], site: u32, to: u32) -> Result<(), Refusal>
     requires { AtNetwork state.old }
-    ensures { Performed (epochCall site to) state.old state.new result 0 no_stamp [] }
+    ensures { Performed (epochCall site to) state.old state.new (number_of result) 0 no_stamp [] }
 {
-    let number = epoch_number(state, site, to);
-    if number != 0 {
-        return number;
-    }
+    epoch_number(state, site, to)?;
     network_sites::site_epoch(state, words::wide(site), to);
-    0
+    Ok(())
 }
 
-// The number of the first cause that refuses the step, or 0.
-fn epoch_number(state: &[u32], site: u32, to: u32) -> u32
+// The first cause that refuses the step.
+fn epoch_number(state: &[u32], site: u32, to: u32) -> Result<(), Refusal>
     requires { AtNetwork state.now }
-    ensures { result ≡ epoch_number (network_in state.now) site to }
+    ensures { number_of result ≡ epoch_number (network_in state.now) site to }
 {
     if !network_placement::is_site(state, site) {
-        return 7;
+        return Err(Refusal::NoSuchSite);
     }
     if network_placement::has_parents(state, site) {
-        return 15;
+        return Err(Refusal::HasParents);
     }
     let t = network_sites::site_stamp(state, words::wide(site));
     let present = t.epoch;
     if to <= present.0 {
-        return 16;
+        return Err(Refusal::EpochNotAbove);
     }
-    0
+    Ok(())
 }

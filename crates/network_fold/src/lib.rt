@@ -22,10 +22,8 @@ pub fn fold(state: &mut [u32], names: &[u32; RECORDS_WIDE], places: [u8; SITES_W
 {
     let table = network_last_writes::last_writes(state, names, places);
     let items = network_placement::item_count(state);
-    let mut x = 0u32;
-    while x < items {
-        fold_item(state, x, table[words::wide(x)]);
-        x += 1;
+    for x in 0..items {
+        fold_item(state, x, table[x as usize]);
     }
 }
 
@@ -35,8 +33,8 @@ fn fold_item(state: &mut [u32], item: u32, last: u32)
     ensures { ItemStep state.old state.new item }
 {
     if last < RECORDS {
-        let value = last_write(network_records::record_at(state, words::wide(last)), item);
-        words::store(state, BASE + words::wide(item), value);
+        let value = last_write(network_records::record_at(state, last as usize), item);
+        words::store(state, BASE + item as usize, value);
     }
 }
 
@@ -46,10 +44,8 @@ fn last_write(w: &[u32], item: u32) -> u32
 {
     let n = records::count(w);
     let mut value = 0;
-    let mut i = 0;
-    while i < n {
+    for i in 0..n {
         value = later_write(w, item, i, value);
-        i += 1;
     }
     value
 }

@@ -8,6 +8,11 @@ use native.Mathlib.Omega.{arith}
 use lib.ListN.{length, replicate}
 use lib.Dec.{eqb}
 use borrow.Author.Tests.{eq-eqb, ne_eqb}
+use Rattle.std.specs.Prelude.{Ok, Err, is_err}
+use Rattle.std.specs.declared.result.Result.{Result}
+use Rattle.causes.specs.declared.Refusal.{Refusal}
+use Rattle.causes.specs.Refusals.{number_of}
+use Rattle.causes.proofs.Refusals.{refusal_some}
 use Rattle.limits.specs.Limits.{sites_most}
 use Rattle.lists.specs.Lists.{is_empty}
 use Rattle.placement.specs.Placement.{is_line}
@@ -57,24 +62,26 @@ module _ (n : Network) (j most : ℕ) (some : 0 < most) where
   unfolding schedule_calls
   schedule_calls_lem b e = let more : most ≡ suc (most - 1) = omega arith in ap (λ (m : ℕ). schedule_calls m n j) more ∙ rw e
 
-module _ (w : List ℕ) (j most : ℕ) (s : Scheduling w most j) (v : List ℕ) (r : Scheduled) (done : ScheduleAnswered j w v r) where
+module _ (w : List ℕ) (j most : ℕ) (s : Scheduling w most j) (v : List ℕ) where
   abbrev n : Network
   n = network_in w
 
-  number_is : r.number ≡ schedule_number n j
-  number_is = number_on s.walking.net done.performed ∙ schedule_number_lem n j
+  number_is : (r : Result Scheduled Refusal) → ScheduleAnswered j w v r → number_of r ≡ schedule_number n j
+  number_is r done = number_on s.walking.net done.performed ∙ schedule_number_lem n j
 
-  pub schedule_refused : (r.number ≡ 0 → ⊥) → ScheduledOnce w v most 0 j
+  pub schedule_refused : (r : Result Scheduled Refusal) → is_err r ≡ true → ScheduleAnswered j w v r → ScheduledOnce w v most 0 j
   unfolding schedule_calls
-  schedule_refused h =
-      let none : schedule_calls most n j ≡ [] = schedule_calls_lem n j most s.some false (ne_eqb (schedule_number n j) 0 (λ z. h (number_is ∙ z))) in
-      subst (λ (x : List ℕ). ScheduledOnce w x most 0 j) (sym (done.performed.kept h))
+  schedule_refused (Ok a) e done = absurd (true≢false (sym e))
+  schedule_refused (Err x) e done =
+      let none : schedule_calls most n j ≡ [] = schedule_calls_lem n j most s.some false (ne_eqb (schedule_number n j) 0 (λ z. refusal_some x (number_is (Err x) done ∙ z))) in
+      subst (λ (u : List ℕ). ScheduledOnce w u most 0 j) (sym (done.performed.kept (refusal_some x)))
       (record { rest = record { walking = record { net = s.walking.net; accepted = tt }; leads = sym (ap (walked n) none) }; fewer = s.some })
 
-  pub schedule_done : r.number ≡ 0 → length v ≡ state_size → ScheduledOnce w v most (most - 1) j
-  schedule_done z size =
+  pub schedule_done : (r : Result Scheduled Refusal) → is_err r ≡ false → ScheduleAnswered j w v r → length v ≡ state_size → ScheduledOnce w v most (most - 1) j
+  schedule_done (Err x) e done size = absurd (true≢false e)
+  schedule_done (Ok a) e done size =
       let then : Network → List Call = λ m. schedule_calls (most - 1) m j in
-      let are = schedule_calls_lem n j most s.some true (eq-eqb (schedule_number n j) 0 (sym number_is ∙ z)) in
+      let are = schedule_calls_lem n j most s.some true (eq-eqb (schedule_number n j) 0 (sym (number_is (Ok a) done))) in
       let end = walked n (schedule_calls most n j) in
       let left : Left end w (schedule j ∷ then (schedule_network n j)) = subst (Left end w) are (all_left s.walking) in
       let once = left_first (schedule j ∷ []) (then (schedule_network n j)) left in

@@ -14,7 +14,7 @@ pub fn hear(state: &mut [u32], j: u32)
 {
     deliver_all(state, j);
     schedule_all(state, j);
-    network_dummy::dummy_on(state, j);
+    let _ = network_dummy::dummy_on(state, j);
 }
 
 // ---- delivering
@@ -38,7 +38,7 @@ fn deliver_line(state: &mut [u32], p: u32, j: u32)
     let k = network_lines::line_number(p, j);
     let mut left = network_lines::line_held(state, k) - network_lines::line_arrived(state, k);
     while 0 < left {
-        network_deliver::deliver_on(state, p, j);
+        let _ = network_deliver::deliver_on(state, p, j);
         left -= 1;
     }
 }
@@ -60,8 +60,7 @@ fn schedule_once(state: &mut [u32], j: u32, most: usize) -> usize
     requires { Scheduling state.old most j }
     ensures { ScheduledOnce state.old state.new most result j }
 {
-    let done = network_schedule::schedule_on(state, j);
-    if done.number != 0 {
+    if network_schedule::schedule_on(state, j).is_err() {
         return 0;
     }
     most - 1

@@ -17,12 +17,10 @@ pub fn last_writes(
     requires { Folding state.now names.now places }
     ensures { LastWrites (network_in state.now) (length (network_in state.now).history) result }
 {
-    let made = words::wide(network_records::record_count(state));
+    let made = network_records::record_count(state) as usize;
     let mut table = [RECORDS; ITEMS_WIDE];
-    let mut j = 0;
-    while j < made {
+    for j in 0..made {
         note_next(&mut table, state, names, j, places);
-        j += 1;
     }
     table
 }

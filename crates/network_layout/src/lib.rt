@@ -1,4 +1,4 @@
-// The layout of a state in words, and what the calls answer. No code.
+// The layout of a state in words, and what the calls answer where they are not refused. No code.
 #![tactic(auto)]
 
 use limits::{ITEMS_WIDE, OPERATIONS_WIDE, RECORDS_WIDE, SITES_WIDE};
@@ -12,95 +12,53 @@ pub struct Operation {
     pub value: i32,
 }
 
-// What a commit answers: its number, the timestamp, and the first `count` values, those read in order; all zero where refused.
+// What a commit answers: the timestamp, and the first `count` values, those read in order.
 #[derive(Clone, Copy)]
 pub struct Committed {
-    pub number: u32,
     pub stamp: Timestamp,
     pub count: usize,
     pub values: [i32; OPERATIONS_WIDE],
 }
 
-// What a dummy answers: its number and the timestamp, which is zero where it is refused.
-#[derive(Clone, Copy)]
-pub struct Dummied {
-    pub number: u32,
-    pub stamp: Timestamp,
-}
-
-// What a schedule answers: its number, the parent and the message's timestamp; all zero where refused.
+// What a schedule answers: the parent, and the message's timestamp.
 #[derive(Clone, Copy)]
 pub struct Scheduled {
-    pub number: u32,
     pub parent: u32,
     pub stamp: Timestamp,
 }
 
-// What a waiting report answers: its number, and the first `count` items, those that are waiting; all zero where refused.
+// What a waiting report answers: the first `count` items, those that are waiting.
 #[derive(Clone, Copy)]
 pub struct Report {
-    pub number: u32,
     pub count: usize,
     pub items: [u32; ITEMS_WIDE],
 }
 
-// What a site's table answers: its number, and a value for each of `count` items; all zero where refused.
+// What a site's table answers: a value for each of `count` items, and 0 behind them.
 #[derive(Clone, Copy)]
 pub struct Tabled {
-    pub number: u32,
     pub count: usize,
     pub values: [i32; ITEMS_WIDE],
 }
 
-// What a site's timestamp answers: its number and the timestamp, which is zero where it is refused.
-#[derive(Clone, Copy)]
-pub struct Stamped {
-    pub number: u32,
-    pub stamp: Timestamp,
-}
-
-// What a line answers: its number, and how many messages it holds and how many of them have arrived; 0 where refused.
+// What a line answers: how many messages it holds, and how many of them have arrived.
 #[derive(Clone, Copy)]
 pub struct Lined {
-    pub number: u32,
     pub held: usize,
     pub arrived: usize,
 }
 
-// Where the value of a read came from: the write of a commit, named by its record number; the start value, or a base value where commits have been removed and the writer may be among them; or the number for which the call is refused.
-#[derive(Clone, Copy)]
+// Where the value of a read came from: the start value, or a base value where commits have been removed and the writer may be among them; or the write of a commit, named by its record number.
+#[derive(Clone, Copy, PartialEq, Eq)]
 pub enum Origin {
-    Refused(u32),
     Start,
     Folded,
     Commit(u32),
 }
 
-// What the order of a network's sites answers: its number, and the place of each site, of a number that is no site that number; all zero where refused.
-#[derive(Clone, Copy)]
-pub struct Ordered {
-    pub number: u32,
-    pub places: [u8; SITES_WIDE],
-}
-
-// What a collect answers: its number, and how many records it removed; 0 where refused.
-#[derive(Clone, Copy)]
-pub struct Collected {
-    pub number: u32,
-    pub removed: u32,
-}
-
-// What a round answers: its number, and the new epoch; 0 where refused.
-#[derive(Clone, Copy)]
-pub struct Rounded {
-    pub number: u32,
-    pub epoch: u32,
-}
-
-// What the base answers: its number, whether a collect has removed a record since set-up, and a value for each of `count` items; all zero where refused.
+// What the base answers: whether a collect has removed a record since set-up, and a value for each of `count` items.
 #[derive(Clone, Copy)]
 pub struct Based {
-    pub number: u32,
     pub folded: bool,
     pub count: usize,
     pub values: [i32; ITEMS_WIDE],

@@ -5,7 +5,8 @@ use mathlib.Core.List.{List, [], ◌∷◌, map}
 use Prim.Native.Nat.{ℕ, suc, ◌+◌, ◌*◌, ◌≤◌, ◌<◌}
 use native.Mathlib.Omega.{arith}
 use native.Mathlib.Numerals.{add-one}
-use lib.ListN.{drop, drop_of_length-le}
+use lib.ListN.{length, get_or, drop, drop_of_length-le}
+use Rattle.std.specs.List.{list_all, range_with_len}
 use lib.Seq.{drop-cons}
 use Rattle.words.specs.Words.{part, chunks}
 use Rattle.lists.specs.Lists.{every, every_from}
@@ -53,3 +54,12 @@ module _ (q : ℕ → List ℕ → Bool) (m n : ℕ) (w : List ℕ) (i : ℕ) (e
 
     pub walk_next : r ≡ true → Passed q m n w (i + 1)
     walk_next t = walk_step ∙ ap (λ (b : Bool). b && every_from q (i + 1) (drop (i + 1) (chunks m n w))) t
+
+-- a test asked at the places of a list, of each of them
+pub all_by_place : {A : Type 0} (d : A) (p : A → Bool) (q : ℕ → Bool) (xs : List A) (a : ℕ)
+    → ((i : ℕ) → i < length xs → q (a + i) ≡ p (get_or xs i d)) → list_all q (range_with_len a (length xs)) ≡ every p xs
+all_by_place d p q [] a h = refl
+all_by_place d p q (x ∷ xs) a h =
+    let first : a ≡ a + 0 = omega arith in
+    ap₂ (λ (s t : Bool). s && t) (ap q first ∙ h 0 (omega arith))
+    (all_by_place d p q xs (a + 1) (λ i k. let next : a + 1 + i ≡ a + suc i = omega arith in ap q next ∙ h (suc i) (omega arith)))

@@ -83,14 +83,7 @@ fn messages_shaped(
     requires { MessagesAsked w.now n kept.now made }
     ensures { result ≡ every (message_test (rank places) (history_in kept.now made) p) (chunks message_size n w.now) }
 {
-    let mut i = 0;
-    while i < n {
-        if !message_shaped(chunk(w, i, MESSAGE), p, places, kept, made) {
-            return false;
-        }
-        i += 1;
-    }
-    true
+    (0..n).all(|i| message_shaped(chunk(w, i, MESSAGE), p, places, kept, made))
 }
 
 // Whether a message is a dummy that site p made, or names a recorded commit of p.
@@ -113,7 +106,7 @@ fn made_at(kept: &[u32], made: u32, k: u32, p: u32) -> bool
     requires { MadeAsked kept.now made k }
     ensures { result ≡ commit_test (history_in kept.now made) p k }
 {
-    records::site(chunk(kept, words::wide(k), RECORD)) == p
+    records::site(chunk(kept, k as usize, RECORD)) == p
 }
 
 // Chunk i of the words, of m words each.
@@ -122,6 +115,5 @@ pub fn chunk(w: &[u32], i: usize, m: usize) -> &[u32]
     ensures { result.now ≡ part w.now (i * m) m }
 {
     let a = i * m;
-    let e = a + m;
-    &w[a..e]
+    &w[a..a + m]
 }

@@ -1,14 +1,15 @@
 // The lines of a state by their numbers.
 #![tactic(auto)]
 
-ghost use Rattle.std.specs.Prelude.{◌≡◌, ◌≤◌, length, get_or};
+ghost use Rattle.std.specs.Prelude.{◌≡◌, ◌+◌, ◌*◌, ◌<◌, ◌≤◌, length, get_or};
 ghost use Rattle.limits.specs.Limits.{held_most};
 ghost use Rattle.lines.specs.Lines.{no_line, sent_or_same, delivered_or_same, taken_or_same};
 ghost use Rattle.timestamp_words.specs.InWords.{stamp_in};
 ghost use Rattle.messages.specs.Messages.{name_of, own_stamp};
 ghost use Rattle.lines.specs.InWords.{line_in, line_size};
 ghost use Rattle.messages.specs.InWords.{message_of};
-ghost use Rattle.protocol.specs.Network.{line_number};
+ghost use Rattle.protocol.specs.Network.{line_number, lines_most};
+ghost use Rattle.network_layout.specs.Layout.{lines_at};
 ghost use Rattle.network_layout.specs.InWords.{network_in, LineStep};
 ghost use Rattle.network_layout.specs.At.{AtLine, HasLine};
 ghost use Rattle.network_layout.specs.Lent.{Lent};
@@ -17,6 +18,7 @@ ghost use Rattle.network_lines.specs.First.{first_on, HasDummy};
 use limits::SITES_WIDE;
 use messages::Message;
 use network_layout::{LINE, LINES};
+use std::ops::Range;
 
 // Where a line's words have the timestamp of its oldest message, and where that ends.
 const FIRST_STAMP: usize = lines::BOXES + messages::STAMP;
@@ -27,7 +29,16 @@ const FIRST_END: usize = lines::BOXES + messages::MESSAGE;
 pub fn line_number(p: u32, c: u32) -> usize
     ensures { result ≡ line_number p c }
 {
-    words::wide(p) * SITES_WIDE + words::wide(c)
+    p as usize * SITES_WIDE + c as usize
+}
+
+// Where the words of line k are.
+fn words_of(k: usize) -> Range<usize>
+    requires { k < lines_most }
+    ensures { result ≡ record { start = lines_at + k * line_size; end = lines_at + k * line_size + line_size } }
+{
+    let a = LINES + k * LINE;
+    a..a + LINE
 }
 
 // The words of line k.
@@ -35,9 +46,7 @@ pub fn line_at(state: &[u32], k: usize) -> &[u32]
     requires { HasLine state.now k }
     ensures { Lent line_size line_in (get_or (network_in state.now).lines k no_line) result.now }
 {
-    let a = LINES + k * LINE;
-    let e = a + LINE;
-    &state[a..e]
+    &state[words_of(k)]
 }
 
 pub fn line_held(state: &[u32], k: usize) -> usize
@@ -75,25 +84,19 @@ pub fn line_send(state: &mut [u32], k: usize, m: Message)
     requires { AtLine state.old k }
     ensures { LineStep state.old state.new k (sent_or_same (message_of m)) }
 {
-    let a = LINES + k * LINE;
-    let e = a + LINE;
-    line_sending::send(&mut state[a..e], m);
+    line_sending::send(&mut state[words_of(k)], m);
 }
 
 pub fn line_deliver(state: &mut [u32], k: usize)
     requires { AtLine state.old k }
     ensures { LineStep state.old state.new k delivered_or_same }
 {
-    let a = LINES + k * LINE;
-    let e = a + LINE;
-    line_receiving::deliver(&mut state[a..e]);
+    line_receiving::deliver(&mut state[words_of(k)]);
 }
 
 pub fn line_take(state: &mut [u32], k: usize)
     requires { AtLine state.old k }
     ensures { LineStep state.old state.new k taken_or_same }
 {
-    let a = LINES + k * LINE;
-    let e = a + LINE;
-    line_receiving::take(&mut state[a..e]);
+    line_receiving::take(&mut state[words_of(k)]);
 }

@@ -18,12 +18,11 @@ const TABLE: usize = timestamp_words::WORDS;
 // The values of the items at site i.
 pub fn table_at(state: &[u32], i: usize) -> Tabled
     requires { AtSite state.now i }
-    ensures { TableAt (table_of i (network_in state.now)) result.number result.count result.values }
+    ensures { TableAt (table_of i (network_in state.now)) result }
 {
-    let count = words::wide(network_placement::item_count(state));
+    let count = network_placement::item_count(state) as usize;
     let w = network_sites::site_at(state, i);
     Tabled {
-        number: 0,
         count,
         values: values(&w[TABLE..], count),
     }
@@ -46,13 +45,10 @@ pub fn values(w: &[u32], n: usize) -> [i32; ITEMS_WIDE]
 // Line k.
 pub fn line_at(state: &[u32], k: usize) -> Lined
     requires { HasLine state.now k }
-    ensures { LineAt (network_in state.now) k result.number result.held result.arrived }
+    ensures { LineAt (network_in state.now) k result }
 {
-    let held = network_lines::line_held(state, k);
-    let arrived = network_lines::line_arrived(state, k);
     Lined {
-        number: 0,
-        held: held,
-        arrived: arrived,
+        held: network_lines::line_held(state, k),
+        arrived: network_lines::line_arrived(state, k),
     }
 }

@@ -39,8 +39,7 @@ fn start_at(state: &mut [u32], at: usize, n: u32)
     requires { StartingAt state.old at n }
     ensures { Replaced at sites_size (λ w. Started w n) state.old state.new }
 {
-    let e = at + SITES_WORDS;
-    start_sites(&mut state[at..e], n);
+    start_sites(&mut state[at..at + SITES_WORDS], n);
 }
 
 // The first n sites at their start.
@@ -48,10 +47,8 @@ fn start_sites(w: &mut [u32], n: u32)
     requires { Starting w.old n }
     ensures { Started w.new n }
 {
-    let mut i: u32 = 0;
-    while i < n {
+    for i in 0..n {
         start_one(w, i);
-        i += 1;
     }
 }
 
@@ -63,5 +60,5 @@ fn start_one(w: &mut [u32], i: u32)
     let mut words = [0u32; SITE];
     words[1] = 1;
     words[2] = i;
-    words::lay(w, words::wide(i) * SITE, &words);
+    words::lay(w, i as usize * SITE, &words);
 }

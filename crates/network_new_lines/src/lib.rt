@@ -16,8 +16,7 @@ pub fn clear_at(state: &mut [u32], at: usize)
     requires { at + lines_size ≤ length state.old }
     ensures { Replaced at lines_size (λ w. Cleared w lines_most) state.old state.new }
 {
-    let e = at + LINES_WORDS;
-    clear_lines(&mut state[at..e]);
+    clear_lines(&mut state[at..at + LINES_WORDS]);
 }
 
 // Every line empty.
@@ -25,10 +24,8 @@ fn clear_lines(w: &mut [u32])
     requires { length w.old ≡ lines_size }
     ensures { Cleared w.new lines_most }
 {
-    let mut k = 0;
-    while k < LINES_MOST {
+    for k in 0..LINES_MOST {
         clear_one(w, k);
-        k += 1;
     }
 }
 

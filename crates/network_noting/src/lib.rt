@@ -25,14 +25,13 @@ pub fn note_record(table: &mut [u32], state: &[u32], r: u32, latest: bool, place
     requires { Noting state.now places r }
     ensures { table.new ≡ note_ops latest (network_in state.now) r table.old (nth_record (network_in state.now) r).ops }
 {
-    let w = network_records::record_at(state, words::wide(r));
+    let w = network_records::record_at(state, r as usize);
     let n = records::count(w);
     let mut met = Met {
         other: r,
         replaces: latest, // itself
     };
-    let mut a = 0;
-    while a < n {
+    for a in 0..n {
         met = note_write(
             table,
             state,
@@ -42,7 +41,6 @@ pub fn note_record(table: &mut [u32], state: &[u32], r: u32, latest: bool, place
             met,
             places,
         );
-        a += 1;
     }
 }
 
@@ -59,7 +57,7 @@ fn note_write(
     requires { Writing state.now places r latest met.other met.replaces }
     ensures { (table.new ≡ note_item latest (network_in state.now) r table.old item) × IsMet state.now r latest result.other result.replaces }
 {
-    let x = words::wide(item);
+    let x = item as usize;
     if table.len() <= x {
         return met;
     }
@@ -83,7 +81,7 @@ fn meet(state: &[u32], r: u32, noted: u32, latest: bool, met: Met, places: [u8; 
     if met.other == noted {
         return met;
     }
-    let found = network_records::compare_records(state, words::wide(r), words::wide(noted), places);
+    let found = network_records::compare_records(state, r as usize, noted as usize, places);
     Met {
         other: noted,
         replaces: found.is_earlier() != latest,

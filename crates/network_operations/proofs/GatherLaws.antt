@@ -11,7 +11,9 @@ use lib.Dec.{ltb}
 use lib.ListN.{length, take, set, length-append, length-map, length-take}
 use lib.Seq.{take_all, take-suc-set, take-append-le}
 use borrow.Author.Tests.{ltb-true, ltb-false, ne_eqb}
-use Rattle.timestamp.specs.Value.{stamp_of}
+use Rattle.std.specs.declared.result.Result.{Result}
+use Rattle.causes.specs.declared.Refusal.{Refusal}
+use Rattle.causes.specs.Refusals.{number_of}
 use Rattle.network_layout.specs.declared.Committed.{Committed}
 use Rattle.network_layout.specs.declared.Operation.{Operation}
 use Rattle.network_operations.specs.declared.Gathered.{Gathered}
@@ -21,7 +23,7 @@ use Rattle.protocol.specs.Steps.{no_such_site, wrong_lists, commit_causes, commi
 use Rattle.protocol.specs.Calls.{Call, Outcome, commit, refused, perform}
 use Rattle.network_layout.specs.InWords.{meaning}
 use Rattle.network_operations.specs.Gathered.{operations_call, gathered_most, Gathers}
-use Rattle.network_layout.specs.Promises.{Performed, CommitAnswered}
+use Rattle.network_layout.specs.Promises.{Performed, CommitAnswered, committed_stamp, committed_values}
 use Rattle.lists.proofs.Numbers.{first_holds}
 use Rattle.network_commit.proofs.CommitLaws.{lists_many, commit_lists}
 
@@ -102,13 +104,13 @@ module _ {A : Type 0} (kind item : A → ℕ) (value : A → ℤ) where
 
 module _ (site : ℕ) (os : List Operation) (g : Gathered) (e : Gathers (take gathered_most os) g) where
   -- the commit of what is gathered is that of all operations
-  pub performs_all : (w v : List ℕ) (r : Committed) → CommitAnswered (commit site (take g.count g.kinds) (take g.count g.items) (take g.count g.values)) w v r → CommitAnswered (operations_call site os) w v r
+  pub performs_all : (w v : List ℕ) (r : Result Committed Refusal) → CommitAnswered (commit site (take g.count g.kinds) (take g.count g.items) (take g.count g.values)) w v r → CommitAnswered (operations_call site os) w v r
   performs_all w v r a = record { performed = performed; plain = a.plain; filled = a.filled }
     where
       same : perform (meaning w) (commit site (take g.count g.kinds) (take g.count g.items) (take g.count g.values)) ≡ perform (meaning w) (operations_call site os)
       same = (λ i. perform (meaning w) (commit site (e.kinds_are i) (e.items_are i) (e.values_are i))) ∙ nine_for_all (λ (o : Operation). o.kind) (λ (o : Operation). o.item) (λ (o : Operation). o.value) (meaning w) site os
 
-      performed : Performed (operations_call site os) w v r.number 0 (stamp_of r.stamp) (take r.count r.values)
+      performed : Performed (operations_call site os) w v (number_of r) 0 (committed_stamp r) (committed_values r)
       performed =
           let p = a.performed in
           record {

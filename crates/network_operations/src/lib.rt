@@ -6,6 +6,7 @@ ghost use Rattle.network_layout.specs.declared.Operation.{Operation as Op};
 ghost use Rattle.network_operations.specs.Gathered.{gathered_most, Gathers, operations_call};
 ghost use Rattle.network_layout.specs.Promises.{CommitAnswered};
 
+use causes::Refusal;
 use network_layout::{Committed, Operation, WORDS};
 
 // The fields of the first `count` operations. Nine stand for more, which are refused whatever they say.
@@ -18,7 +19,11 @@ pub struct Gathered {
 }
 
 // A commit at a site, as `commit`, with its operations as records.
-pub fn commit_operations(state: &mut [u32; WORDS], site: u32, operations: &[Operation]) -> Committed
+pub fn commit_operations(
+    state: &mut [u32; WORDS],
+    site: u32,
+    operations: &[Operation],
+) -> Result<Committed, Refusal>
     ensures { CommitAnswered (operations_call site operations.now) state.old state.new result }
 {
     let gathered = gather(operations);
@@ -74,7 +79,11 @@ pub fn added(gathered: Gathered, operation: Operation) -> Gathered
 }
 
 // A commit of the operations, however many, of which these were gathered.
-pub fn commit_gathered(state: &mut [u32; WORDS], site: u32, gathered: Gathered) -> Committed
+pub fn commit_gathered(
+    state: &mut [u32; WORDS],
+    site: u32,
+    gathered: Gathered,
+) -> Result<Committed, Refusal>
     requires { gathered.count ≤ gathered_most }
     ensures { (os : List Op) → Gathers (take gathered_most os) gathered → CommitAnswered (operations_call site os) state.old state.new result }
 {

@@ -3,37 +3,25 @@
 
 ghost use Rattle.std.specs.Prelude.{◌≡◌, length};
 ghost use Rattle.network_layout.specs.Layout.{state_size};
-ghost use Rattle.network_layout.specs.At.{AtNetwork};
 ghost use Rattle.network_order.specs.Order.{PlacesRead};
 
+use causes::Refusal;
 use limits::SITES_WIDE;
-use network_layout::{Ordered, WORDS};
+use network_layout::WORDS;
 
-// The place of each site, by which timestamps are compared. It answers its number and eight places.
-pub fn places(state: &[u32; WORDS]) -> Ordered
-    ensures { PlacesRead state.now result.number result.places }
+// The place of each site, by which timestamps are compared; of a number that is no site that number.
+pub fn places(state: &[u32; WORDS]) -> Result<[u8; SITES_WIDE], Refusal>
+    ensures { PlacesRead state.now result }
 {
     places_in(state)
 }
 
-fn places_in(state: &[u32]) -> Ordered
+fn places_in(state: &[u32]) -> Result<[u8; SITES_WIDE], Refusal>
     requires { length state.now ≡ state_size }
-    ensures { PlacesRead state.now result.number result.places }
+    ensures { PlacesRead state.now result }
 {
     if !network_shape::shaped(state) {
-        return Ordered {
-            number: 6,
-            places: [0; SITES_WIDE],
-        };
+        return Err(Refusal::NoState);
     }
-    places_on(state)
-}
-
-// The same on the words of a network.
-fn places_on(state: &[u32]) -> Ordered
-    requires { AtNetwork state.now }
-    ensures { PlacesRead state.now result.number result.places }
-{
-    let places = network_placement::places(state);
-    Ordered { number: 0, places }
+    Ok(network_placement::places(state))
 }

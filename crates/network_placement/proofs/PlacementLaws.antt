@@ -1,5 +1,5 @@
 -- The placement's words as its functions are asked, and whether an operation is wanted.
-use mathlib.Core.Path.{◌≡◌, sym, ap, ap₂, ◌∙◌}
+use mathlib.Core.Path.{◌≡◌, sym, ap, ◌∙◌}
 use mathlib.Core.Bool.{Bool, false, ◌&&◌}
 use mathlib.Core.List.{List}
 use Prim.Native.Nat.{ℕ, ◌<◌, min}
@@ -17,11 +17,11 @@ use Rattle.network_layout.specs.At.{AtState}
 use Rattle.network_layout.proofs.Performs.{items_asked, item_read}
 
 -- ---- the placement's words and the number of items, as its functions are asked
-pub items_lent : (w : List ℕ) → AtState w → (xs : List ℕ) → xs ≡ part w items_at items_size → (m n : ℕ) → m ≡ item_count w → n ≡ m → items_in (min n items_most) xs ≡ (network_in w).items
-items_lent w at xs e m n is same = ap (items_in (min n items_most)) e ∙ items_asked w at.ranged n (same ∙ is)
+pub items_lent : (w : List ℕ) → AtState w → (xs : List ℕ) → xs ≡ part w items_at items_size → (n : ℕ) → n ≡ item_count w → items_in (min n items_most) xs ≡ (network_in w).items
+items_lent w at xs e n is = ap (items_in (min n items_most)) e ∙ items_asked w at.ranged n is
 
-pub item_lent : (w xs : List ℕ) → xs ≡ part w items_at items_size → (n k : ℕ) → n ≡ k → k < item_count w → item_at xs n ≡ get_or (network_in w).items k no_item
-item_lent w xs e n k is h = ap₂ item_at e is ∙ item_read w k h
+pub item_lent : (w xs : List ℕ) → xs ≡ part w items_at items_size → (k : ℕ) → k < item_count w → item_at xs k ≡ get_or (network_in w).items k no_item
+item_lent w xs e k h = ap (λ (ys : List ℕ). item_at ys k) e ∙ item_read w k h
 
 -- ---- whether an operation is wanted: its kind, and then the copy
 module _ (xs : List Item) (j : ℕ) (o : Op) (kind : ℕ) (ke : kind ≡ o.kind) where

@@ -31,6 +31,7 @@ pub fn item_count(state: &[u32]) -> u32
 }
 
 // Whether there is a site of that number.
+#[tactic(auto, using(network_layout::proofs::Performs::site_there))]
 pub fn is_site(state: &[u32], i: u32) -> bool
     requires { length state.now ≡ state_size }
     ensures { result ≡ not (no_such_site (network_in state.now) i) }
@@ -47,51 +48,57 @@ pub fn placed(state: &[u32]) -> &[u32]
     &state[ITEMS..SITES]
 }
 
+#[tactic(auto, using(crate::proofs::PlacementLaws::items_lent))]
 pub fn is_line(state: &[u32], p: u32, c: u32) -> bool
     requires { AtState state.now }
     ensures { result ≡ is_line (network_in state.now).items p c }
 {
-    placement_lines::is_line(placed(state), words::wide(item_count(state)), p, c)
+    placement_lines::is_line(placed(state), item_count(state) as usize, p, c)
 }
 
+#[tactic(auto, using(crate::proofs::PlacementLaws::items_lent))]
 pub fn has_parents(state: &[u32], c: u32) -> bool
     requires { AtState state.now }
     ensures { result ≡ has_parents (network_in state.now).items c }
 {
-    placement_lines::has_parents(placed(state), words::wide(item_count(state)), c)
+    placement_lines::has_parents(placed(state), item_count(state) as usize, c)
 }
 
+#[tactic(auto, using(crate::proofs::PlacementLaws::items_lent))]
 pub fn children(state: &[u32], p: u32) -> u32
     requires { AtState state.now }
     ensures { result ≡ mask_of (is_line (network_in state.now).items p) sites_most }
 {
-    placement_lines::children(placed(state), words::wide(item_count(state)), p)
+    placement_lines::children(placed(state), item_count(state) as usize, p)
 }
 
 pub fn parents(state: &[u32], c: u32) -> u32
     requires { AtState state.now }
     ensures { result ≡ mask_of (λ p. is_line (network_in state.now).items p c) sites_most }
 {
-    placement_lines::parents(placed(state), words::wide(item_count(state)), c)
+    placement_lines::parents(placed(state), item_count(state) as usize, c)
 }
 
 // The place of each site in the order that the items give.
+#[tactic(auto, using(crate::proofs::PlacementLaws::items_lent))]
 pub fn places(state: &[u32]) -> [u8; limits::SITES_WIDE]
     requires { AtState state.now }
     ensures { result ≡ places_of (network_in state.now).items }
 {
-    placement_order::places(placed(state), words::wide(item_count(state)))
+    placement_order::places(placed(state), item_count(state) as usize)
 }
 
 // Whether an item has its primary at site i.
+#[tactic(auto, using(crate::proofs::PlacementLaws::item_lent))]
 pub fn is_owned(state: &[u32], item: u32, i: u32) -> bool
     requires { HasItem state.now item }
     ensures { result ≡ owns (network_in state.now).items i item }
 {
-    placement::primary(placed(state), words::wide(item)) == i
+    placement::primary(placed(state), item as usize) == i
 }
 
 // The copy mask of an item; one that is not there has no copies.
+#[tactic(auto, using(network_layout::proofs::Performs::item_none))]
 pub fn copy_mask(state: &[u32], item: u32) -> u32
     requires { length state.now ≡ state_size }
     ensures { result ≡ (get_or (network_in state.now).items item no_item).mask }
@@ -99,7 +106,7 @@ pub fn copy_mask(state: &[u32], item: u32) -> u32
     if item_count(state) <= item {
         return 0;
     }
-    placement::mask(placed(state), words::wide(item))
+    placement::mask(placed(state), item as usize)
 }
 
 // Whether an item has a copy at site i.
@@ -111,14 +118,13 @@ pub fn is_copied(state: &[u32], item: u32, i: u32) -> bool
 }
 
 // Whether operation i writes an item that has a copy at site j.
+#[tactic(auto, using(crate::proofs::PlacementLaws::other_kind, crate::proofs::PlacementLaws::write_kind))]
 pub fn is_wanted(state: &[u32], ops: &[u32], i: usize, j: u32) -> bool
     requires { length state.now ≡ state_size }
     ensures { result ≡ wanted_at (network_in state.now).items j (op_at ops.now i) }
 {
-    if site_operations::kind(ops, i) != site_operations::WRITE {
-        return false;
-    }
-    is_copied(state, site_operations::item(ops, i), j)
+    site_operations::kind(ops, i) == site_operations::WRITE
+        && is_copied(state, site_operations::item(ops, i), j)
 }
 
 // The mask of the sites that have a copy of an item that one of the n operations writes.
@@ -127,15 +133,14 @@ pub fn due_mask(state: &[u32], ops: &[u32], n: usize) -> u32
     ensures { result ≡ mask_of (dueOf (network_in state.now).items (ops_in n ops.now)) sites_most }
 {
     let mut m = 0;
-    let mut k = 0;
-    while k < n {
-        m = m | due_by(state, ops, k);
-        k += 1;
+    for k in 0..n {
+        m |= due_by(state, ops, k);
     }
     placement::below(m, limits::SITES)
 }
 
 // The sites that operation k makes due: those of the copies of the item that it writes.
+#[tactic(auto, using(placement_item::proofs::Bits::bit_none, crate::proofs::PlacementLaws::other_kind, crate::proofs::PlacementLaws::write_kind))]
 fn due_by(state: &[u32], ops: &[u32], k: usize) -> u32
     requires { length state.now ≡ state_size }
     ensures { Names sites_most result (λ c. wanted_at (network_in state.now).items c (op_at ops.now k)) }

@@ -19,15 +19,13 @@ pub fn names(state: &[u32], places: [u8; SITES_WIDE]) -> [u32; RECORDS_WIDE]
     requires { Asked state.now places }
     ensures { Names (is_past (network_in state.now)) (length (network_in state.now).history) result }
 {
-    let made = words::wide(network_records::record_count(state));
+    let made = network_records::record_count(state) as usize;
     let point = earliest(state, places);
     let mut names = [0u32; RECORDS_WIDE];
     let mut kept = 0;
-    let mut k = 0;
-    while k < made {
+    for k in 0..made {
         let goes = is_past(state, k, point, places);
         kept = name(&mut names, k, kept, goes);
-        k += 1;
     }
     names
 }
@@ -63,12 +61,10 @@ fn earliest(state: &[u32], places: [u8; SITES_WIDE]) -> usize
     requires { Asked state.now places }
     ensures { IsPoint state.now result }
 {
-    let sites = words::wide(state[SITE_COUNT]);
+    let sites = state[SITE_COUNT] as usize;
     let mut best = 0;
-    let mut i = 1;
-    while i < sites {
+    for i in 1..sites {
         best = earlier_of(state, i, best, places);
-        i += 1;
     }
     best
 }

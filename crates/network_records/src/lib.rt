@@ -46,8 +46,7 @@ pub fn record_at(state: &[u32], k: usize) -> &[u32]
     ensures { Lent record_size record_in (nth_record (network_in state.now) k) result.now }
 {
     let a = HISTORY + k * RECORD;
-    let e = a + RECORD;
-    &state[a..e]
+    &state[a..a + RECORD]
 }
 
 pub fn record_site(state: &[u32], k: usize) -> u32
@@ -87,9 +86,8 @@ pub fn add_record(state: &mut [u32], site: u32, n: u32, t: Timestamp, ops: &[u32
     ensures { RecordStep state.old state.new (record { site = site; stamp = stamp_of t; ops = ops_in (min n ops_most) ops.now }) }
 {
     let made = record_count(state);
-    let a = HISTORY + words::wide(made) * RECORD;
-    let e = a + RECORD;
-    records::write(&mut state[a..e], site, n, t, ops);
+    let a = HISTORY + made as usize * RECORD;
+    records::write(&mut state[a..a + RECORD], site, n, t, ops);
     words::store(state, RECORD_COUNT, made + 1);
 }
 

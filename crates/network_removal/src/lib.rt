@@ -13,7 +13,7 @@ pub fn remove(state: &mut [u32], names: &[u32; RECORDS_WIDE]) -> u32
     ensures { RemovalStep names.now state.old state.new result }
 {
     let made = network_records::record_count(state);
-    let kept = record_removal::remove(&mut state[HISTORY..FOLDED], words::wide(made), names);
+    let kept = record_removal::remove(&mut state[HISTORY..FOLDED], made as usize, names);
     words::store(state, RECORD_COUNT, kept);
     fold_flag(state, kept < made);
     made - kept

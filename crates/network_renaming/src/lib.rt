@@ -16,12 +16,10 @@ pub fn some_gone(state: &[u32], names: &[u32; RECORDS_WIDE]) -> bool
     requires { AtState state.now }
     ensures { result ≡ some_gone names.now (network_in state.now) }
 {
-    let mut k = 0;
-    while k < LINES_MOST {
+    for k in 0..LINES_MOST {
         if line_gone(state, k, names) {
             return true;
         }
-        k += 1;
     }
     false
 }
@@ -38,10 +36,8 @@ pub fn rename(state: &mut [u32], names: &[u32; RECORDS_WIDE])
     requires { Renaming state.old names.now }
     ensures { RenamedStep names.now state.old state.new }
 {
-    let mut k = 0;
-    while k < LINES_MOST {
+    for k in 0..LINES_MOST {
         rename_line(state, k, names);
-        k += 1;
     }
 }
 

@@ -10,6 +10,12 @@ use lib.ListN.{length, get_or, drop, drop_of_length-le}
 use lib.Seq.{drop-cons}
 use lib.Dec.{eqb}
 use borrow.Author.Tests.{ne_eqb}
+use Rattle.std.specs.Prelude.{Ok, Err, IsErrAnd}
+use Rattle.std.specs.declared.result.Result.{Result}
+use Rattle.causes.specs.declared.Refusal.{Refusal}
+use Rattle.causes.specs.declared.Refusal.TheVariants.{NoState}
+use Rattle.causes.specs.Refusals.{refusal_number}
+use Rattle.causes.proofs.Refusals.{refusal_some}
 use Rattle.limits.specs.Limits.{sites_most}
 use Rattle.timestamp_order.specs.Order.{rank}
 use Rattle.placement.specs.Placement.{items_number, has_parents}
@@ -28,7 +34,6 @@ use Rattle.network_layout.specs.Layout.{state_size}
 use Rattle.network_layout.specs.InWords.{network_in, shaped, meaning}
 use Rattle.network_layout.specs.At.{AtNetwork, PlacesAre}
 use Rattle.network_layout.specs.Promises.{Performed}
-use Rattle.network_layout.specs.declared.Rounded.{Rounded}
 use Rattle.network_layout.proofs.OnNetwork.{ranged_on, well_on, few_on, refused_on, accepted_on, unshaped}
 use Rattle.network_hearing.specs.Walked.{Walking, Walked, Left}
 use Rattle.network_hearing.proofs.WalkLaws.{number_on, step_walked, all_left, left_first, left_then}
@@ -103,26 +108,29 @@ module _ (w : List ℕ) (ready : RoundReady w) where
   hears_left e is v raised = left_then raises hear_calls whole v (subst (λ (k : ℕ). Walked w v (raise_calls k start)) is raised)
 
 -- ---- the call on words
-module _ (w : List ℕ) (r : Rounded) where
-  answered : (v : List ℕ) (number to : ℕ) → r.number ≡ number → r.epoch ≡ to → Performed round w v number 0 no_stamp [] → to ≡ epoch_by (meaning w) → RoundAnswered w v r
-  answered v number to e f done is = record { performed = subst (λ (k : ℕ). Performed round w v k 0 no_stamp []) (sym e) done; epoch_is = f ∙ is }
-
-  pub round_unshaped : shaped w ≡ false → r.number ≡ 6 → r.epoch ≡ 0 → RoundAnswered w w r
+module _ (w : List ℕ) where
+  pub round_unshaped : shaped w ≡ false → RoundAnswered w w (Err NoState)
   unfolding perform meaning epoch_by
-  round_unshaped e number nothing = answered w 6 0 number nothing (unshaped round refl w e) (rw e refl)
+  round_unshaped e = record { performed = unshaped round refl w e; epoch_is = rw e refl }
 
   module _ (net : AtNetwork w) where
-    pub round_refused : (k : ℕ) → k ≡ round_number (network_in w) → (k ≡ 0 → ⊥) → r.number ≡ k → r.epoch ≡ 0 → RoundAnswered w w r
+    pub round_refused : (r : Result ℕ Refusal) (x : Refusal) → IsErrAnd r (λ y. y ≡ x) → refusal_number x ≡ round_number (network_in w) → RoundAnswered w w r
     unfolding perform meaning epoch_by
-    round_refused k is refuses number nothing =
-        let refused = refused_on round refl round_number (λ m. accepted 0 no_stamp [] (round_network m)) (λ m. refl) w net k is refuses in
-        answered w k 0 number nothing refused (rw (net.formed, ne_eqb (round_number (network_in w)) 0 (λ z. refuses (is ∙ z))) refl)
+    round_refused (Ok a) x err number = absurd err
+    round_refused (Err e) x err number =
+        let is = ap refusal_number err ∙ number in
+        record {
+          performed = refused_on round refl round_number (λ m. accepted 0 no_stamp [] (round_network m)) (λ m. refl) w net (refusal_number e) is (refusal_some e);
+          epoch_is = rw (net.formed, ne_eqb (round_number (network_in w)) 0 (λ z. refusal_some e (is ∙ z))) refl;
+        }
 
-    pub round_answered : round_number (network_in w) ≡ 0 → (v : List ℕ) → r.number ≡ 0 → RoundDone w v r.epoch → RoundAnswered w v r
+    pub round_answered : round_number (network_in w) ≡ 0 → (v : List ℕ) (to : ℕ) → RoundDone w v to → RoundAnswered w v (Ok to)
     unfolding perform meaning epoch_by round_network
-    round_answered z v number step =
+    round_answered z v to step =
         let n = network_in w in
         let after = step.walked in
         let well : well_shaped (walked n (round_calls n)) ≡ true = ap well_shaped (sym after.meant) ∙ well_on v after.net in
-        let done = accepted_on round refl round_number (λ m. accepted 0 no_stamp [] (round_network m)) (λ m. refl) w net v 0 no_stamp [] (round_network n) z refl (ranged_on v after.net) after.meant well in
-        answered v 0 r.epoch number refl done (step.epoch_is ∙ sym (rw (net.formed, z) refl))
+        record {
+          performed = accepted_on round refl round_number (λ m. accepted 0 no_stamp [] (round_network m)) (λ m. refl) w net v 0 no_stamp [] (round_network n) z refl (ranged_on v after.net) after.meant well;
+          epoch_is = step.epoch_is ∙ sym (rw (net.formed, z) refl);
+        }

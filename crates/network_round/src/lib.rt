@@ -12,45 +12,34 @@ ghost use Rattle.network_layout.specs.At.{AtNetwork};
 ghost use Rattle.network_hearing.specs.Walked.{Walking, Walked};
 ghost use Rattle.network_round.specs.Round.{RoundAnswered, RoundReady, RoundDone, HearingAll};
 
+use causes::Refusal;
 use limits::{SITES, SITES_WIDE};
-use network_layout::{Rounded, WORDS};
+use network_layout::WORDS;
 
-// A round. It answers its number and the new epoch.
-pub fn round(state: &mut [u32; WORDS]) -> Rounded
+// A round. It answers the new epoch.
+pub fn round(state: &mut [u32; WORDS]) -> Result<u32, Refusal>
     ensures { RoundAnswered state.old state.new result }
 {
     round_in(state)
 }
 
-fn round_in(state: &mut [u32]) -> Rounded
+fn round_in(state: &mut [u32]) -> Result<u32, Refusal>
     requires { length state.old ≡ state_size }
     ensures { RoundAnswered state.old state.new result }
 {
     if !network_shape::shaped(state) {
-        return refused(6);
+        return Err(Refusal::NoState);
     }
     round_on(state)
 }
 
 // The same on the words of a network: nothing is changed before it is sure that none of its steps is refused.
-fn round_on(state: &mut [u32]) -> Rounded
+fn round_on(state: &mut [u32]) -> Result<u32, Refusal>
     requires { AtNetwork state.old }
     ensures { RoundAnswered state.old state.new result }
 {
-    let number = network_round_causes::round_number(state);
-    if number != 0 {
-        return refused(number);
-    }
-    Rounded {
-        number: 0,
-        epoch: round_done(state),
-    }
-}
-
-fn refused(number: u32) -> Rounded
-    ensures { (result.number ≡ number) × (result.epoch ≡ 0) }
-{
-    Rounded { number, epoch: 0 }
+    network_round_causes::round_number(state)?;
+    Ok(round_done(state))
 }
 
 // A round that no cause refuses. It answers the new epoch.
@@ -73,7 +62,7 @@ fn raise_all(state: &mut [u32], to: u32)
     let sites = network_placement::site_count(state);
     let mut i = 0;
     while i < sites {
-        network_epoch::epoch_on(state, i, to);
+        let _ = network_epoch::epoch_on(state, i, to);
         i += 1;
     }
 }
@@ -92,15 +81,11 @@ fn hear_all(state: &mut [u32], places: [u8; SITES_WIDE])
 }
 
 // The site that has a place; 8 where none has it.
+#[tactic(auto, using(crate::proofs::First::first_or))]
 fn site_at(places: [u8; SITES_WIDE], place: u32) -> u32
     ensures { result ≡ first_from (λ i. eqb (rank places i) place) 0 sites_most }
 {
-    let mut site = 0;
-    while site < SITES {
-        if place_table::place(places, site) == place {
-            return site;
-        }
-        site += 1;
-    }
-    SITES
+    (0..SITES)
+        .find(|site| place_table::place(places, *site) == place)
+        .unwrap_or(SITES)
 }

@@ -1,7 +1,8 @@
-// The number for which a round is refused: a line that has no room, a site whose own count is the largest, or an epoch that is.
+// What a round is refused for: a line that has no room, a site whose own count is the largest, or an epoch that is.
 #![tactic(auto)]
 
 ghost use Rattle.std.specs.Prelude.{◌≡◌, max, length, get_or, leb};
+ghost use Rattle.causes.specs.Refusals.{number_of};
 ghost use Rattle.limits.specs.Limits.{held_most};
 ghost use Rattle.lists.specs.Lists.{any, some_below};
 ghost use Rattle.lines.specs.Lines.{Line, no_line};
@@ -11,24 +12,25 @@ ghost use Rattle.protocol.specs.Round.{greatest_epoch, round_number};
 ghost use Rattle.network_layout.specs.InWords.{network_in};
 ghost use Rattle.network_layout.specs.At.{AtNetwork, AtSite, HasLine};
 
+use causes::Refusal;
 use network_layout::LINES_MOST;
 use timestamp::GREATEST;
 
-// The number of the first cause that refuses the round, or 0.
-pub fn round_number(state: &[u32]) -> u32
+// The first cause that refuses the round.
+pub fn round_number(state: &[u32]) -> Result<(), Refusal>
     requires { AtNetwork state.now }
-    ensures { result ≡ round_number (network_in state.now) }
+    ensures { number_of result ≡ round_number (network_in state.now) }
 {
     if some_line_full(state) {
-        return 13;
+        return Err(Refusal::LineFull);
     }
     if some_count_at_most(state) {
-        return 14;
+        return Err(Refusal::CountFull);
     }
     if GREATEST <= greatest_epoch(state) {
-        return 16;
+        return Err(Refusal::EpochNotAbove);
     }
-    0
+    Ok(())
 }
 
 // Whether some line has no room.

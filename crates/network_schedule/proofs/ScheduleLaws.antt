@@ -5,6 +5,12 @@ use mathlib.Core.List.{List, [], ◌∷◌, ◌++◌, append-nil}
 use Prim.Native.Nat.{ℕ, ◌+◌, ◌≤◌, min}
 use native.Mathlib.Omega.{arith}
 use lib.ListN.{length, get_or}
+use Rattle.std.specs.Prelude.{Ok, Err, IsErrAnd}
+use Rattle.std.specs.declared.result.Result.{Result}
+use Rattle.causes.specs.declared.Refusal.{Refusal}
+use Rattle.causes.specs.declared.Refusal.TheVariants.{NoState}
+use Rattle.causes.specs.Refusals.{refusal_number}
+use Rattle.causes.proofs.Refusals.{refusal_some}
 use Rattle.words.specs.Words.{chunks}
 use Rattle.lists.specs.Lists.{keep}
 use Rattle.lists.proofs.Chains.{keep_more}
@@ -29,7 +35,6 @@ use Rattle.network_layout.proofs.OnNetwork.{well_on, few_on, refused_on, accepte
 use Rattle.network_choice.specs.Choice.{Best, Choosing}
 use Rattle.network_choice.proofs.ChoiceLaws.{well, parent_few, best_line}
 use Rattle.network_layout.specs.declared.Scheduled.{Scheduled}
-use Rattle.network_schedule.specs.Answers.{Refused}
 use Rattle.network_schedule.specs.Wanted.{Laid}
 use Rattle.protocol.proofs.Chosen.{chosen_held, keeps_schedule}
 
@@ -69,25 +74,28 @@ receives w v i j same count out os l t s =
     record { meant = s.meant ∙ ap₂ (λ (k : ℕ) (xs : List Op). with_site n k (received xs t (site_at n k))) same are; ranged = s.ranged }
 
 -- ---- the step on words
-pub schedule_unshaped : (w : List ℕ) (j : ℕ) → shaped w ≡ false → Performed (schedule j) w w 6 0 no_stamp []
+pub schedule_unshaped : (w : List ℕ) (j : ℕ) → shaped w ≡ false → ScheduleAnswered j w w (Err NoState)
 unfolding perform
-schedule_unshaped w j = unshaped (schedule j) refl w
+schedule_unshaped w j e = record { performed = unshaped (schedule j) refl w e; plain = tt }
 
-pub schedule_refused : (w : List ℕ) (net : AtNetwork w) (j r : ℕ) → r ≡ schedule_number (network_in w) j → (r ≡ 0 → ⊥) → Performed (schedule j) w w r 0 no_stamp []
+pub schedule_refused : (w : List ℕ) (net : AtNetwork w) (j : ℕ) (r : Result Scheduled Refusal) (x : Refusal) → IsErrAnd r (λ y. y ≡ x) → refusal_number x ≡ schedule_number (network_in w) j → ScheduleAnswered j w w r
 unfolding perform
-schedule_refused w net j =
-    refused_on (schedule j) refl (λ m. schedule_number m j) (λ m. accepted (chosen m j) (head_stamp m (chosen m j) j) [] (schedule_network m j)) (λ m. refl) w net
-
--- as the code answers it
-pub answered : (w : List ℕ) (j number : ℕ) (r : Scheduled) → Refused number r → Performed (schedule j) w w number 0 no_stamp [] → ScheduleAnswered j w w r
-answered w j number r f p = record { performed = rw (f.number_is, f.parent_is, f.stamp_is.means) p; plain = f.stamp_is.plain }
+schedule_refused w net j (Ok a) x err number = absurd err
+schedule_refused w net j (Err e) x err number =
+    record {
+      performed =
+          refused_on (schedule j) refl (λ m. schedule_number m j) (λ m. accepted (chosen m j) (head_stamp m (chosen m j) j) [] (schedule_network m j)) (λ m. refl) w net (refusal_number e)
+          (ap refusal_number err ∙ number)
+          (refusal_some e);
+      plain = tt;
+    }
 
 module _ (w : List ℕ) (j : ℕ) (free : Choosing w j) where
   abbrev net : Network
   net = network_in w
 
   pub schedule_done : (v u : List ℕ) (p : ℕ) (t : Timestamp) (k : ℕ) → k ≡ line_number p j → Best net j sites_most p t
-      → SiteStep w v j (received (writes_for net j (head net p j)) (stamp_of t)) → LineStep v u k taken_or_same → ScheduleAnswered j w u (record { number = 0; parent = p; stamp = t })
+      → SiteStep w v j (received (writes_for net j (head net p j)) (stamp_of t)) → LineStep v u k taken_or_same → ScheduleAnswered j w u (Ok (record { parent = p; stamp = t }))
   unfolding perform schedule_network
   schedule_done v u p t k ke b s l =
       let few = few_on w free.net in

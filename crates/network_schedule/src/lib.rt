@@ -1,7 +1,7 @@
 // Schedule: the chosen message is done at the site and taken off its line.
 #![tactic(auto)]
 
-ghost use Rattle.std.specs.Prelude.{◌≡◌, [], ◌∷◌, ◌++◌, ◌+◌, ◌<◌, length};
+ghost use Rattle.std.specs.Prelude.{◌≡◌, [], ◌∷◌, ◌++◌, ◌+◌, ◌<◌, length, Ok};
 ghost use Rattle.lists.specs.Lists.{keep};
 ghost use Rattle.limits.specs.Limits.{ops_most};
 ghost use Rattle.timestamp.specs.Value.{stamp_of};
@@ -14,9 +14,9 @@ ghost use Rattle.network_layout.specs.InWords.{network_in, SiteStep};
 ghost use Rattle.network_layout.specs.At.{AtNetwork};
 ghost use Rattle.network_layout.specs.Promises.{ScheduleAnswered};
 ghost use Rattle.network_choice.specs.Choice.{Choosing, ChoosingFrom};
-ghost use Rattle.network_schedule.specs.Answers.{Refused};
 ghost use Rattle.network_schedule.specs.Wanted.{Laid, Recorded, Wanting, Gathering};
 
+use causes::Refusal;
 use network_layout::{Scheduled, WORDS};
 use timestamp::Timestamp;
 
@@ -27,61 +27,44 @@ struct Writes {
     ops: [u32; site_operations::OPERATIONS],
 }
 
-// Schedule at a site. It answers its number, and the parent and the timestamp of the message done.
-pub fn schedule(state: &mut [u32; WORDS], site: u32) -> Scheduled
+// Schedule at a site. It answers the parent and the timestamp of the message done.
+pub fn schedule(state: &mut [u32; WORDS], site: u32) -> Result<Scheduled, Refusal>
     ensures { ScheduleAnswered site state.old state.new result }
 {
     schedule_in(state, site)
 }
 
-fn schedule_in(state: &mut [u32], site: u32) -> Scheduled
+fn schedule_in(state: &mut [u32], site: u32) -> Result<Scheduled, Refusal>
     requires { length state.old ≡ state_size }
     ensures { ScheduleAnswered site state.old state.new result }
 {
     if !network_shape::shaped(state) {
-        return refused(6);
+        return Err(Refusal::NoState);
     }
     schedule_on(state, site)
 }
 
 // The same on the words of a network.
-pub fn schedule_on(state: &mut [u32], site: u32) -> Scheduled
+pub fn schedule_on(state: &mut [u32], site: u32) -> Result<Scheduled, Refusal>
     requires { AtNetwork state.old }
     ensures { ScheduleAnswered site state.old state.new result }
 {
-    let number = network_schedule_causes::schedule_number(state, site);
-    if number != 0 {
-        return refused(number);
-    }
-    take_chosen(state, site)
-}
-
-fn refused(number: u32) -> Scheduled
-    ensures { Refused number result }
-{
-    Scheduled {
-        number,
-        parent: 0,
-        stamp: timestamp::zero(),
-    }
+    network_schedule_causes::schedule_number(state, site)?;
+    Ok(take_chosen(state, site))
 }
 
 // ---- a schedule that is not refused
 // The chosen message done at site j and taken off its line.
 fn take_chosen(state: &mut [u32], j: u32) -> Scheduled
     requires { Choosing state.old j }
-    ensures { ScheduleAnswered j state.old state.new result }
+    ensures { ScheduleAnswered j state.old state.new (Ok result) }
 {
     let best = network_choice::chosen(state, j);
     let parent = best.parent;
     let stamp = best.stamp;
     receive(state, parent, j, stamp);
     network_lines::line_take(state, network_lines::line_number(parent, j));
-    Scheduled {
-        number: 0,
-        parent,
-        stamp,
-    }
+    Scheduled { parent, stamp }
 }
 
 // The oldest message from a parent done at the site, with its timestamp t.

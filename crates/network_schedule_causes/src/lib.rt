@@ -1,29 +1,32 @@
-// The number for which a schedule is refused: no such site, no parents, or a parent from which nothing has arrived.
+// What a schedule is refused for: no such site, no parents, or a parent from which nothing has arrived.
 #![tactic(auto)]
 
 ghost use Rattle.std.specs.Prelude.{◌≡◌};
 ghost use Rattle.limits.specs.Limits.{sites_most};
+ghost use Rattle.causes.specs.Refusals.{number_of};
 ghost use Rattle.lists.specs.Lists.{some_below};
 ghost use Rattle.protocol.specs.Steps.{schedule_number, lacks_arrived};
 ghost use Rattle.network_layout.specs.InWords.{network_in};
 ghost use Rattle.network_layout.specs.At.{AtNetwork};
 ghost use Rattle.network_schedule_causes.specs.Parents.{AtChild, AtParent};
 
-// The number of the first cause that refuses the step, or 0.
-pub fn schedule_number(state: &[u32], j: u32) -> u32
+use causes::Refusal;
+
+// The first cause that refuses the step.
+pub fn schedule_number(state: &[u32], j: u32) -> Result<(), Refusal>
     requires { AtNetwork state.now }
-    ensures { result ≡ schedule_number (network_in state.now) j }
+    ensures { number_of result ≡ schedule_number (network_in state.now) j }
 {
     if !network_placement::is_site(state, j) {
-        return 7;
+        return Err(Refusal::NoSuchSite);
     }
     if !network_placement::has_parents(state, j) {
-        return 19;
+        return Err(Refusal::NoParents);
     }
     if lacks_arrived(state, j) {
-        return 20;
+        return Err(Refusal::ParentSilent);
     }
-    0
+    Ok(())
 }
 
 // Whether the line from some parent has no message that has arrived.

@@ -19,12 +19,10 @@ pub fn some_line_full(state: &[u32], i: u32, mask: u32) -> bool
     requires { Sender state.now i }
     ensures { result ≡ some_line_full (network_in state.now) i (bit mask) }
 {
-    let mut c = 0;
-    while c < limits::SITES {
+    for c in 0..limits::SITES {
         if line_full(state, i, mask, c) {
             return true;
         }
-        c += 1;
     }
     false
 }
@@ -34,10 +32,8 @@ pub fn send_all(state: &mut [u32], i: u32, mask: u32, m: Message)
     requires { Sends state.old i mask }
     ensures { SentStep state.old state.new (bit mask) i (message_of m) sites_most }
 {
-    let mut c = 0;
-    while c < limits::SITES {
+    for c in 0..limits::SITES {
         send_one(state, i, mask, c, m);
-        c += 1;
     }
 }
 
@@ -46,10 +42,9 @@ fn line_full(state: &[u32], i: u32, mask: u32, c: u32) -> bool
     requires { AtPair state.now i c }
     ensures { result ≡ (bit mask c && leb held_most (length (line_at (network_in state.now) i c).messages)) }
 {
-    if !placement::bit(mask, c) {
-        return false;
-    }
-    limits::MESSAGES_WIDE <= network_lines::line_held(state, network_lines::line_number(i, c))
+    placement::bit(mask, c)
+        && limits::MESSAGES_WIDE
+            <= network_lines::line_held(state, network_lines::line_number(i, c))
 }
 
 // The message to site c, where the mask names it.
@@ -59,7 +54,6 @@ fn send_one(state: &mut [u32], i: u32, mask: u32, c: u32, m: Message)
     ensures state_after_2 { in_range state.new ≡ true }
 {
     if placement::bit(mask, c) {
-        let k = network_lines::line_number(i, c);
-        network_lines::line_send(state, k, m);
+        network_lines::line_send(state, network_lines::line_number(i, c), m);
     }
 }

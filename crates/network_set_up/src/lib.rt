@@ -2,6 +2,7 @@
 #![tactic(auto)]
 
 ghost use Rattle.std.specs.Prelude.{◌≡◌, [], ◌∷◌, ◌++◌, ◌+◌, ◌<◌, length};
+ghost use Rattle.causes.specs.Refusals.{number_of};
 ghost use Rattle.limits.specs.Limits.{items_most};
 ghost use Rattle.placement.specs.InWords.{items_in};
 ghost use Rattle.protocol.specs.Network.{no_stamp};
@@ -11,37 +12,38 @@ ghost use Rattle.network_layout.specs.Layout.{state_size};
 ghost use Rattle.network_layout.specs.Promises.{Performed};
 ghost use Rattle.network_set_up.specs.SetUp.{Paired};
 
+use causes::Refusal;
 use network_layout::WORDS;
 
-// Set-up: a new network, whatever the state was before. It answers its number.
+// Set-up: a new network, whatever the state was before.
 pub fn set_up(
     state: &mut [u32; WORDS],
     sites: u32,
     items: u32,
     primaries: &[u32],
     masks: &[u8],
-) -> u32
-    ensures { Performed (setUpCall sites items primaries.now masks.now) state.old state.new result 0 no_stamp [] }
+) -> Result<(), Refusal>
+    ensures { Performed (setUpCall sites items primaries.now masks.now) state.old state.new (number_of result) 0 no_stamp [] }
 {
     set_up_in(state, sites, items, primaries, masks)
 }
 
 // It tests the causes in the order of their numbers: the sites, the lists, then item by item, then the lines for a cycle.
-fn set_up_in(state: &mut [u32], sites: u32, items: u32, primaries: &[u32], masks: &[u8]) -> u32
+fn set_up_in(
+    state: &mut [u32],
+    sites: u32,
+    items: u32,
+    primaries: &[u32],
+    masks: &[u8],
+) -> Result<(), Refusal>
     requires { length state.old ≡ state_size }
-    ensures { Performed (setUpCall sites items primaries.now masks.now) state.old state.new result 0 no_stamp [] }
+    ensures { Performed (setUpCall sites items primaries.now masks.now) state.old state.new (number_of result) 0 no_stamp [] }
 {
-    let cause = network_set_up_counts::counts_number(sites, items, primaries.len(), masks.len());
-    if cause != 0 {
-        return cause;
-    }
+    network_set_up_counts::counts_number(sites, items, primaries.len(), masks.len())?;
     let placed = item_words(primaries, masks);
-    let number = placement_order::number(sites, &placed, primaries.len());
-    if number != 0 {
-        return number;
-    }
+    placement_order::number(sites, &placed, primaries.len())?;
     network_new::lay_out(state, sites, items, &placed);
-    number
+    Ok(())
 }
 
 // ---- the items

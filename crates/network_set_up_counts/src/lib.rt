@@ -1,20 +1,20 @@
-// What a set-up's counts give: the number of the first cause that they are refused for.
+// Whether a set-up's counts are refused.
 #![tactic(auto)]
 
 ghost use Rattle.std.specs.Prelude.{◌≡◌};
+ghost use Rattle.causes.specs.Refusals.{number_of};
 ghost use Rattle.lists.specs.Numbers.{outside as outsideOf};
 ghost use Rattle.protocol.specs.Steps.{wrong_items};
 ghost use Rattle.network_set_up_counts.specs.Counts.{counts_number};
 
-use causes::{first, number_if};
+use causes::{Refusal, refuse_if};
 
-// The number for which the counts are refused, or 0: the sites', then the items'.
-pub fn counts_number(sites: u32, items: u32, primaries: usize, masks: usize) -> u32
-    ensures { result ≡ counts_number sites items primaries masks }
+// Whether the counts are refused, and for what: the sites', then the items'.
+pub fn counts_number(sites: u32, items: u32, primaries: usize, masks: usize) -> Result<(), Refusal>
+    ensures { number_of result ≡ counts_number sites items primaries masks }
 {
-    let few = number_if(outside(1, limits::SITES, sites), 1);
-    let each = number_if(items_wrong(items, primaries, masks), 2);
-    first(few, each)
+    refuse_if(outside(1, limits::SITES, sites), Refusal::WrongSites)?;
+    refuse_if(items_wrong(items, primaries, masks), Refusal::WrongItems)
 }
 
 fn outside(low: u32, high: u32, k: u32) -> bool
@@ -30,6 +30,6 @@ fn items_wrong(items: u32, primaries: usize, masks: usize) -> bool
     if outside(1, limits::ITEMS, items) {
         return true;
     }
-    let n = words::wide(items);
+    let n = items as usize;
     primaries != n || masks != n
 }

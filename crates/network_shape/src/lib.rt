@@ -5,6 +5,7 @@ ghost use Rattle.std.specs.Prelude.{◌≡◌, ◌+◌, ◌≤◌, length};
 ghost use Rattle.words.specs.Words.{part, chunks};
 ghost use Rattle.lists.specs.Lists.{every, every_from};
 ghost use Rattle.lists.specs.Numbers.{number_if};
+ghost use Rattle.causes.specs.Refusals.{number_of};
 ghost use Rattle.limits.specs.Limits.{sites_most, records_most};
 ghost use Rattle.timestamp_order.specs.Order.{rank};
 ghost use Rattle.timestamp_words.specs.InWords.{stamp_shaped};
@@ -18,6 +19,7 @@ ghost use Rattle.network_layout.specs.InWords.{shaped as shapedWords, number_in}
 ghost use Rattle.network_line_shape.specs.LineTests.{history_in, Places};
 ghost use Rattle.network_shape.specs.Tested.{record_test, is_zero_word, group_shaped, sites_shaped, history_shaped, lines_shaped, base_shaped, ranked_shaped, Counted, Ranked, LinesAsked, LinesTested, idle, Skipped};
 
+use causes::Refusal;
 use limits::{RECORDS_WIDE, SITES_WIDE};
 use network_layout::{
     BASE, FOLDED, HISTORY, ITEM_COUNT, LINE, LINES, LINES_MOST, RECORD, RECORD_COUNT, SITE,
@@ -30,18 +32,18 @@ const LINES_WORDS: usize = LINES_MOST * LINE;
 
 const HISTORY_WORDS: usize = RECORDS_WIDE * RECORD;
 
-// 6 where the words are not those of a network, 7 where it has no such site, else 0.
-pub fn site_number(state: &[u32], site: u32) -> u32
+// Refused where the words are not those of a network, or where it has no such site.
+pub fn site_number(state: &[u32], site: u32) -> Result<(), Refusal>
     requires { length state.now ≡ state_size }
-    ensures { result ≡ number_in state.now (λ n. number_if (no_such_site n site) 7) }
+    ensures { number_of result ≡ number_in state.now (λ n. number_if (no_such_site n site) 7) }
 {
     if !shaped(state) {
-        return 6;
+        return Err(Refusal::NoState);
     }
     if network_placement::is_site(state, site) {
-        return 0;
+        return Ok(());
     }
-    7
+    Err(Refusal::NoSuchSite)
 }
 
 // The counts and the items first; then what the lines, and the places of the sites that these give, are asked for.
@@ -88,7 +90,7 @@ fn group_fits(state: &[u32]) -> bool
     if !network_counts::counts_fit(sites, items, state[RECORD_COUNT]) {
         return false;
     }
-    placement::number(sites, network_placement::placed(state), words::wide(items)) == 0
+    placement::number(sites, network_placement::placed(state), items as usize).is_ok()
 }
 
 // ---- the sites

@@ -34,14 +34,7 @@ pub fn holdings(state: &[u32; WORDS]) -> Totals
 pub fn record(state: &[u32; WORDS], k: usize) -> Entry
     ensures { Entered (nth_record (network_in state.now) k) result }
 {
-    record_in(state, k)
-}
-
-fn record_in(state: &[u32], k: usize) -> Entry
-    requires { length state.now ≡ state_size }
-    ensures { Entered (nth_record (network_in state.now) k) result }
-{
-    if words::wide(network_records::record_count(state)) <= k {
+    if network_records::record_count(state) as usize <= k {
         return no_entry();
     }
     if RECORDS_WIDE <= k {

@@ -9,7 +9,13 @@ use lib.ListN.{length, get_or, take, drop}
 use lib.Seq.{length-take-le, take-suc, take_at, drop_at}
 use lib.Dec.{eqb, ltb}
 use borrow.Author.Tests.{lt-ltb, le-ltb, ltb-true, ltb-false, eqb-true, eqb-false}
+use Rattle.std.specs.Prelude.{Ok, Err, IsErrAnd}
+use Rattle.std.specs.declared.result.Result.{Result}
 use Rattle.limits.specs.Limits.{items_most}
+use Rattle.causes.specs.declared.Refusal.{Refusal}
+use Rattle.causes.specs.Refusals.{refusal_number}
+use Rattle.causes.proofs.Refusals.{refusal_some}
+use Rattle.lists.specs.Lists.{padded}
 use Rattle.lists.specs.Lists.{keep, up_to}
 use Rattle.lists.specs.Sorting.{insert, place_in, sorted}
 use Rattle.lists.proofs.Chains.{Each, Chain, each_at, each_implied, each_keep, each_up_to, chain_at, chain_keep}
@@ -20,16 +26,20 @@ use Rattle.word_insertion.proofs.InsertionLaws.{free_place}
 use Rattle.placement.specs.Placement.{copies}
 use Rattle.protocol.specs.Network.{Network, place_of}
 use Rattle.protocol.specs.Earliest.{no_later}
+use Rattle.protocol.specs.Questions.{waiting, asked_site, question_number}
 use Rattle.protocol.specs.Waiting.{is_waiting, earliest_write, waiting_items}
 use Rattle.protocol.proofs.Earliest.{no_later_along, no_later_either}
 use Rattle.network_layout.specs.Layout.{item_count}
-use Rattle.network_layout.specs.InWords.{network_in, in_range}
+use Rattle.network_layout.specs.declared.Report.{Report}
+use Rattle.network_layout.specs.InWords.{network_in, in_range, number_in}
+use Rattle.network_layout.proofs.Questions.{asked, unanswered}
 use Rattle.network_layout.specs.At.{AtState}
 use Rattle.network_layout.proofs.Assembled.{parts_of, range_parts}
 use Rattle.network_layout.proofs.Performs.{records_count}
 use Rattle.network_layout.proofs.OnNetwork.{has_record}
 use Rattle.network_noting.specs.Noting.{stamp_at}
 use Rattle.network_earliest_writes.specs.Noted.{EarliestAre}
+use Rattle.network_waiting.specs.Report.{Reported}
 use Rattle.network_waiting.specs.Places.{earliest_of, earliest_before, Written, Seeking, Between, Narrowed, PutIn}
 
 -- ---- whether an item is waiting, by its earliest write
@@ -208,3 +218,12 @@ module _ (w writers : List ℕ) (i : ℕ) (at : AtState w) (f : EarliestAre (net
 pub few_placed : (w : List ℕ) → in_range w ≡ true → item_count w ≤ items_most
 unfolding parts_of
 few_placed w e = (range_parts w e).few_items
+
+-- refused with its number
+pub report_refused : (w : List ℕ) (i : ℕ) (r : Result Report Refusal) (e : Refusal) → IsErrAnd r (λ x. x ≡ e) → refusal_number e ≡ number_in w (λ n. asked_site n i) → Reported i w r
+unfolding question_number
+report_refused w i (Ok a) e is of = absurd is
+report_refused w i (Err x) e is of =
+    let named = ap refusal_number is ∙ of in
+    let none = unanswered (waiting i) w [] (λ n. waiting_items n i) (λ z. refusal_some x (named ∙ z)) in
+    record { performed = asked (waiting i) w (refusal_number x) named; count_is = ap length none; items_are = ap (padded items_most 0) none; few = omega arith }

@@ -6,6 +6,7 @@ use Rattle.lists.specs.Sorting.{insert}
 use Rattle.protocol.specs.Network.{Network, place_of}
 use Rattle.protocol.specs.Earliest.{no_later}
 use Rattle.protocol.specs.Waiting.{is_waiting, waiting_items}
+use Rattle.network_layout.specs.declared.Report.{Report}
 use Rattle.network_layout.specs.InWords.{network_in}
 use Rattle.network_layout.specs.At.{AtSite, HasRecord, PlacesAre}
 use Rattle.network_noting.specs.Noting.{stamp_at}
@@ -76,8 +77,7 @@ pub record PutIn (w writers : List ℕ) (site k count count' : ℕ) (entry exit 
   pub rest_is : drop count' exit ≡ drop count' entry
 
 -- ---- all are put in
-pub record AllPut (n : Network) (site number count : ℕ) (items : List ℕ) : Type 0 where
-  pub accepted : number ≡ 0
-  pub count_is : count ≡ length (waiting_items n site)
-  pub items_are : items ≡ padded items_most 0 (waiting_items n site)
-  pub few : count ≤ items_most
+pub record AllPut (n : Network) (site : ℕ) (r : Report) : Type 0 where
+  pub count_is : r.count ≡ length (waiting_items n site)
+  pub items_are : r.items ≡ padded items_most 0 (waiting_items n site)
+  pub few : r.count ≤ items_most

@@ -4,42 +4,28 @@
 ghost use Rattle.std.specs.Prelude.{◌≡◌, ◌-◌, ◌<◌, length};
 ghost use Rattle.lists.specs.Sorting.{place_in};
 ghost use Rattle.protocol.specs.Waiting.{is_waiting};
-ghost use Rattle.network_layout.specs.Layout.{state_size};
 ghost use Rattle.network_layout.specs.InWords.{network_in};
 ghost use Rattle.network_layout.specs.At.{AtSite};
 ghost use Rattle.network_waiting.specs.Report.{Reported};
 ghost use Rattle.network_waiting.specs.Places.{earliest_of, earliest_before, BothWritten, Placing, Narrowing, Narrowed, Asking, Putting, PutIn, AllPut};
 
+use causes::Refusal;
 use limits::{ITEMS_WIDE, SITES_WIDE};
 use network_layout::{Report, WORDS};
 
-// The waiting report of a site. It answers its number and the items, by the timestamp of the earliest waiting write, then by number.
-pub fn waiting(state: &[u32; WORDS], site: u32) -> Report
-    ensures { Reported site state.now result.number result.count result.items }
+// The waiting report of a site: the items, by the timestamp of the earliest waiting write, then by number.
+pub fn waiting(state: &[u32; WORDS], site: u32) -> Result<Report, Refusal>
+    ensures { Reported site state.now result }
 {
-    waiting_in(state, site)
-}
-
-fn waiting_in(state: &[u32], site: u32) -> Report
-    requires { length state.now ≡ state_size }
-    ensures { Reported site state.now result.number result.count result.items }
-{
-    let number = network_shape::site_number(state, site);
-    if number != 0 {
-        return Report {
-            number,
-            count: 0,
-            items: [0; ITEMS_WIDE],
-        };
-    }
-    report(state, site)
+    network_shape::site_number(state, site)?;
+    Ok(report(state, site))
 }
 
 // The items from the last down, so that of those with one timestamp each comes before the ones above it. The places of the sites, by which timestamps
 // are compared, are worked out once.
 fn report(state: &[u32], site: u32) -> Report
     requires { AtSite state.now site }
-    ensures { AllPut (network_in state.now) site result.number result.count result.items }
+    ensures { AllPut (network_in state.now) site result }
 {
     let places = network_placement::places(state);
     let writers = network_earliest_writes::earliest_writes(state, site, places);
@@ -50,11 +36,7 @@ fn report(state: &[u32], site: u32) -> Report
         k -= 1;
         count = put_item(&mut items, count, &writers, state, site, k, places);
     }
-    Report {
-        number: 0,
-        count,
-        items,
-    }
+    Report { count, items }
 }
 
 // Item k put among the `count` items above it, where it is waiting; answers how many there are then.

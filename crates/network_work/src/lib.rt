@@ -21,7 +21,7 @@ pub fn work(state: &mut [u32], site: u32, ops: &[u32], n: usize) -> Worked
     requires { WorkReady state.old site n (ops_in n ops.now) }
     ensures { WorkDone state.old state.new site (ops_in n ops.now) result.stamp (ops_in n result.ops) }
 {
-    let i = words::wide(site);
+    let i = site as usize;
     let done = network_sites::site_commit(state, i, ops, n);
     let t = network_sites::site_stamp(state, i);
     network_records::add_record(state, site, short(n), t, &done);

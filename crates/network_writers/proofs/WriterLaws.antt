@@ -9,27 +9,29 @@ use native.Mathlib.Numerals.{add-one}
 use lib.ListN.{length, get_or}
 use lib.Dec.{leb}
 use borrow.Author.Tests.{lt-ltb, le-ltb, le-leb, lt-leb, leb-true, leb-false}
+use Rattle.std.specs.Prelude.{not, Ok, Err}
+use Rattle.causes.specs.declared.Refusal.TheVariants.{NoSuchRead}
 use Rattle.limits.specs.Limits.{records_most}
 use Rattle.site_operations.specs.Operations.{Op, no_op, reads}
 use Rattle.site_operations.specs.InWords.{op_at as op_in, OpsLaid}
 use Rattle.site_operations.proofs.Laws.{ops_at}
 use Rattle.protocol.specs.Network.{Network, nth_record, place_of}
-use Rattle.protocol.specs.Questions.{nth_op, asked_read}
+use Rattle.protocol.specs.Questions.{nth_op, no_such_read}
 use Rattle.origins.specs.Statements.{LastBelow, FoundBelow}
 use Rattle.origins.proofs.Found.{none_yet, found_first, found_later, found_kept, found_skip}
 use Rattle.network_layout.specs.At.{HasRecord}
-use Rattle.network_writers.specs.Writers.{SoughtIs, comes_before, writer_of, later_of, LastSoFar}
+use Rattle.network_writers.specs.Writers.{sought, comes_before, writer_of, later_of, LastSoFar}
 
 -- ---- the read that is looked for
 module _ (n : Network) (k a : ℕ) where
-  pub no_commit : length n.history ≤ k → asked_read n k a ≡ 26
+  pub no_commit : length n.history ≤ k → no_such_read n k a ≡ true
   no_commit h = rw (le-leb (length n.history) k h)
 
   module _ (there : k < length n.history) where
-    pub no_operation : length (nth_record n k).ops ≤ a → asked_read n k a ≡ 26
+    pub no_operation : length (nth_record n k).ops ≤ a → no_such_read n k a ≡ true
     no_operation h = rw (lt-leb (length n.history) k there, le-leb (length (nth_record n k).ops) a h)
 
-    pub by_kind : (b : Bool) → a < length (nth_record n k).ops → reads (nth_op n k a) ≡ b → asked_read n k a ≡ cond b 0 26
+    pub by_kind : (b : Bool) → a < length (nth_record n k).ops → reads (nth_op n k a) ≡ b → no_such_read n k a ≡ not b
     by_kind true h e = rw (lt-leb (length n.history) k there, lt-leb (length (nth_record n k).ops) a h, e)
     by_kind false h e = rw (lt-leb (length n.history) k there, lt-leb (length (nth_record n k).ops) a h, e)
 
@@ -37,8 +39,11 @@ module _ (n : Network) (k a : ℕ) where
   pub operation_is : (w : List ℕ) → a < length (nth_record n k).ops → OpsLaid (length (nth_record n k).ops) (nth_record n k).ops w → op_in w a ≡ nth_op n k a
   operation_is w h l = sym (ops_at (length (nth_record n k).ops) w a h) ∙ ap (λ (os : List Op). get_or os a no_op) l.ops_are
 
-  pub not_found : (number item : ℕ) → number ≡ 26 → item ≡ 0 → asked_read n k a ≡ 26 → SoughtIs n k a number item
-  not_found number item e z f = record { number_is = e ∙ sym f; item_is = rw (e, z) refl }
+  pub not_found : no_such_read n k a ≡ true → Err NoSuchRead ≡ sought n k a
+  not_found e = ap (λ (b : Bool). cond b (Err NoSuchRead) (Ok (nth_op n k a).item)) (sym e)
+
+  pub found_read : (x : ℕ) → x ≡ (nth_op n k a).item → no_such_read n k a ≡ false → Ok x ≡ sought n k a
+  found_read x same e = ap Ok same ∙ ap (λ (b : Bool). cond b (Err NoSuchRead) (Ok (nth_op n k a).item)) (sym e)
 
 -- ---- a record's number, or one that no record has
 pub writer_named : (b : ℕ) → b < records_most → writer_of b ≡ some b

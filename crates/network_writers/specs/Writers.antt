@@ -1,18 +1,20 @@
 -- What the inner functions ask and answer about the read that is looked for and the writers of its item.
-use Rattle.std.specs.Prelude.{◌≡◌, Bool, cond, ◌||◌, List, ℕ, ◌≤◌, ◌<◌, length, eqb, ltb, leb}
+use Rattle.std.specs.Prelude.{Bool, cond, ◌||◌, List, ℕ, ◌≤◌, ◌<◌, length, ltb, leb, Ok, Err}
+use Rattle.std.specs.declared.result.Result.{Result}
 use Rattle.std.proofs.Math.Option.{Option, none, some}
+use Rattle.causes.specs.declared.Refusal.{Refusal}
+use Rattle.causes.specs.declared.Refusal.TheVariants.{NoSuchRead}
 use Rattle.limits.specs.Limits.{records_most}
 use Rattle.protocol.specs.Network.{Network, place_of}
-use Rattle.protocol.specs.Questions.{nth_op, asked_read}
+use Rattle.protocol.specs.Questions.{nth_op, no_such_read}
 use Rattle.origins.specs.Statements.{turn_at, precedes, FoundBelow, writes_before}
 use Rattle.network_layout.specs.InWords.{network_in}
 use Rattle.network_layout.specs.At.{AtNetwork, HasRecord, PlacesAre}
 use Rattle.network_records.specs.Asked.{HasRecords}
 
--- a read that was looked for: 0 and its item, or the number for which it is refused and 0
-pub record SoughtIs (n : Network) (k a number item : ℕ) : Type 0 where
-  pub number_is : number ≡ asked_read n k a
-  pub item_is : item ≡ cond (eqb number 0) (nth_op n k a).item 0
+-- a read that is looked for: its item, or that there is none
+abbrev pub sought : Network → ℕ → ℕ → Result ℕ Refusal
+sought n k a = cond (no_such_read n k a) (Err NoSuchRead) (Ok (nth_op n k a).item)
 
 -- the words of a network, and record k of it
 pub record OnRecord (w : List ℕ) (k : ℕ) : Type 0 where

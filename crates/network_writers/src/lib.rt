@@ -6,53 +6,35 @@ ghost use Rattle.site_operations.specs.Operations.{touches};
 ghost use Rattle.origins.specs.Origin.{ops_before};
 ghost use Rattle.network_layout.specs.InWords.{network_in};
 ghost use Rattle.network_layout.specs.At.{AtNetwork, HasRecord};
-ghost use Rattle.network_writers.specs.Writers.{SoughtIs, OnRecord, comes_before, later_of, LastSoFar, is_writer, Ordering, Choosing, LookingAt};
+ghost use Rattle.network_writers.specs.Writers.{sought, OnRecord, comes_before, later_of, LastSoFar, is_writer, Ordering, Choosing, LookingAt};
 
+use causes::Refusal;
 use limits::{RECORDS_WIDE, SITES_WIDE};
 use site_operations::READ;
 
-// A read that was looked for: 0 and its item, or the number for which it is refused and 0.
-#[derive(Clone, Copy)]
-pub struct Sought {
-    pub number: u32,
-    pub item: u32,
-}
-
-// An operation of a record: refused with 26 where there is none, or where it is no read.
-pub fn find_read(state: &[u32], k: u32, a: u32) -> Sought
+// The item of an operation of a record that is a read; refused where there is no such operation, or where it is no read.
+pub fn find_read(state: &[u32], k: u32, a: u32) -> Result<u32, Refusal>
     requires { AtNetwork state.now }
-    ensures { SoughtIs (network_in state.now) k a result.number result.item }
+    ensures { result ≡ sought (network_in state.now) k a }
 {
     if network_records::record_count(state) <= k {
-        return no_read();
+        return Err(Refusal::NoSuchRead);
     }
-    find_operation(state, words::wide(k), words::wide(a))
+    find_operation(state, k as usize, a as usize)
 }
 
-fn find_operation(state: &[u32], k: usize, a: usize) -> Sought
+fn find_operation(state: &[u32], k: usize, a: usize) -> Result<u32, Refusal>
     requires { HasRecord state.now k }
-    ensures { SoughtIs (network_in state.now) k a result.number result.item }
+    ensures { result ≡ sought (network_in state.now) k a }
 {
     if network_records::operation_count(state, k) <= a {
-        return no_read();
+        return Err(Refusal::NoSuchRead);
     }
     let ops = network_records::record_ops(state, k);
     if site_operations::kind(&ops, a) != READ {
-        return no_read();
+        return Err(Refusal::NoSuchRead);
     }
-    Sought {
-        number: 0,
-        item: site_operations::item(&ops, a),
-    }
-}
-
-fn no_read() -> Sought
-    ensures { (result.number ≡ 26) × (result.item ≡ 0) }
-{
-    Sought {
-        number: 26,
-        item: 0,
-    }
+    Ok(site_operations::item(&ops, a))
 }
 
 // Whether an operation of record k before operation `a` writes the item.

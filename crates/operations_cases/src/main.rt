@@ -6,6 +6,7 @@ ghost use Rattle.std.specs.Prelude.{◌≤◌, take};
 ghost use Rattle.network_layout.specs.Promises.{CommitAnswered};
 ghost use Rattle.network_operations.specs.Gathered.{operations_call};
 
+use causes::Refusal;
 use network_layout::{Committed, Operation, WORDS};
 use script_notation::ANSWER;
 use std::io;
@@ -15,7 +16,7 @@ use std::io;
 fn main(rt: HostRuntime) -> io::Result<()> {
     let mut state = [0u32; WORDS];
     tried(&rt, &mut state, 0, all(write(0, 5)), 1)?;
-    network_set_up::set_up(&mut state, 2, 3, &[0, 0, 1], &[2, 0, 0]);
+    let _ = network_set_up::set_up(&mut state, 2, 3, &[0, 0, 1], &[2, 0, 0]);
     accepted(&rt, &mut state)?;
     refused(&rt, &mut state)?;
     afterwards(&rt, &mut state)
@@ -121,14 +122,19 @@ fn tried(
 }
 
 // The first n records lent as a slice.
-fn commit_first(state: &mut [u32; WORDS], site: u32, records: [Operation; 9], n: usize) -> Committed
+fn commit_first(
+    state: &mut [u32; WORDS],
+    site: u32,
+    records: [Operation; 9],
+    n: usize,
+) -> Result<Committed, Refusal>
     requires { n ≤ 9 }
     ensures { CommitAnswered (operations_call site (take n records)) state.old state.new result }
 {
     network_operations::commit_operations(state, site, &records[..n])
 }
 
-fn show(rt: &impl Print, answer: Committed) -> io::Result<()> {
+fn show(rt: &impl Print, answer: Result<Committed, Refusal>) -> io::Result<()> {
     let mut out = [0u8; ANSWER];
     let n = script_printing::committed(&mut out, 0, answer);
     rt.write_all(&out[..n])?;

@@ -6,16 +6,15 @@ ghost use Rattle.limits.specs.Limits.{sites_most};
 ghost use Rattle.lists.specs.Lists.{up_to};
 ghost use Rattle.timestamp_order.specs.Order.{rank};
 
-use limits::{SITES, SITES_WIDE};
+use limits::SITES_WIDE;
 
 // The place of a site, which past the table is its number.
 pub fn place(places: [u8; SITES_WIDE], site: u32) -> u32
     ensures { result ≡ rank places site }
 {
-    if SITES <= site {
-        return site;
-    }
-    byte(places[word_access::wide(site)])
+    places
+        .get(site as usize)
+        .map_or(site, |place| u32::from(*place))
 }
 
 // The table in which the place of each site is its number.
@@ -23,11 +22,4 @@ pub fn numbers() -> [u8; SITES_WIDE]
     ensures { result ≡ up_to 0 sites_most }
 {
     [0, 1, 2, 3, 4, 5, 6, 7]
-}
-
-// A byte as a word.
-fn byte(x: u8) -> u32
-    ensures { result ≡ x }
-{
-    x as u32
 }

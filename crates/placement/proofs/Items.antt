@@ -1,4 +1,4 @@
--- Items in words: each one's two words, the number of one item, and loops over the items.
+-- Items in words: the tests of an item, the first n items, and loops over them.
 use mathlib.Core.Path.{◌≡◌, sym, ap, ◌∙◌}
 use mathlib.Core.Bool.{Bool, true, false, cond, ◌&&◌, ◌||◌}
 use mathlib.Core.List.{List, []}
@@ -16,14 +16,6 @@ use Rattle.placement.specs.InWords.{item_size, item_in, item_words, item_at, ite
 use Rattle.lists.proofs.Some.{some_true, some_next, some_done}
 use Rattle.lists.proofs.Numbers.{first_here, first_next, first_done}
 
--- ---- the words of item k
-module _ (w : List ℕ) (k j : ℕ) (h : j < item_size) where
-  pub item_word : get_or w (k * item_size + j) 0 ≡ get_or (item_words w k) j 0
-  item_word = sym (part_get_d w (k * item_size) item_size j h)
-
-  pub item_past : length w ≤ k → 0 ≡ get_or (item_words w k) j 0
-  item_past past = sym (get_or-eq_default w 0 {n = k * item_size + j} (omega arith)) ∙ item_word
-
 -- ---- the tests of an item: it has a copy at c, and its primary at p
 abbrev pub copied : ℕ → Item → Bool
 copied c x = bit x.mask c
@@ -34,32 +26,6 @@ module _ (x : Item) (p c : ℕ) where
 
   pub joined_by : x.primary ≡ p → copied c x ≡ gives_line p c x
   joined_by h = sym (ap (λ (b : Bool). b && copied c x) (eq-eqb x.primary p h))
-
--- ---- the number of one item, test by test
-module _ (sites : ℕ) (x : Item) where
-  pub primary_missing : sites ≤ x.primary → 3 ≡ item_number sites x
-  unfolding item_number
-  primary_missing h = simp (le-leb sites x.primary h)
-
-  -- its primary is a site
-  module _ (site : x.primary < sites) where
-    of_mask : item_number sites x ≡ cond (names_missing sites x.mask || bit x.mask x.primary) 4 0
-    unfolding item_number
-    of_mask = simp (lt-leb sites x.primary site)
-
-    pub copy_missing : (x.mask / 2 ^ sites ≡ 0 → ⊥) → 4 ≡ item_number sites x
-    copy_missing h = sym (of_mask ∙ simp (lt-ltb 0 (x.mask / 2 ^ sites) (omega arith)))
-
-    -- so are its copies
-    module _ (none : x.mask / 2 ^ sites ≡ 0) where
-      of_bit : item_number sites x ≡ cond (bit x.mask x.primary) 4 0
-      of_bit = of_mask ∙ simp (le-ltb 0 (x.mask / 2 ^ sites) (omega arith))
-
-      pub copy_own : bit x.mask x.primary ≡ true → 4 ≡ item_number sites x
-      copy_own h = sym (of_bit ∙ simp h)
-
-      pub none_faulty : bit x.mask x.primary ≡ false → 0 ≡ item_number sites x
-      none_faulty h = sym (of_bit ∙ simp h)
 
 -- ---- the first n items
 module _ (n : ℕ) (w : List ℕ) where

@@ -4,10 +4,12 @@
 mod masks; // masks.rt: masks of sites, tested and built by shifts
 
 ghost use Rattle.std.specs.Prelude.{◌≡◌, min, ◌<◌, get_or};
+ghost use Rattle.causes.specs.Refusals.{number_of};
 ghost use Rattle.placement.specs.Placement.{item_number, items_number};
 ghost use Rattle.placement.specs.InWords.{item_size, item_words, item_at, items_in};
 ghost use Rattle.limits.specs.Limits.{items_most};
 
+use causes::{Refusal, refuse_if};
 use limits::ITEMS_WIDE;
 pub use masks::{below, bit};
 
@@ -18,36 +20,26 @@ const MASK: usize = PRIMARY + 1;
 
 pub const ITEM: usize = MASK + 1;
 
-// The number for which set-up refuses the first faulty of the items, 3 or 4, or 0. More than 64 items count as 64.
-pub fn number(sites: u32, w: &[u32], items: usize) -> u32
-    ensures { result ≡ items_number sites (items_in (min items items_most) w.now) }
+// Whether set-up refuses an item, and the first of them for what. More than 64 items count as 64.
+pub fn number(sites: u32, w: &[u32], items: usize) -> Result<(), Refusal>
+    ensures { number_of result ≡ items_number sites (items_in (min items items_most) w.now) }
 {
-    let n = few(items);
-    let mut k = 0;
-    while k < n {
-        let x = item_number(sites, primary(w, k), mask(w, k));
-        if x != 0 {
-            return x;
-        }
-        k += 1;
+    for k in 0..items.min(ITEMS_WIDE) {
+        item_number(sites, primary(w, k), mask(w, k))?;
     }
-    0
+    Ok(())
 }
 
-// The number for which set-up refuses an item, or 0.
-fn item_number(sites: u32, primary: u32, mask: u32) -> u32
-    ensures { result ≡ item_number sites (record { primary = primary; mask = mask }) }
+// Whether set-up refuses an item, and for what.
+#[tactic(auto, unfolding(crate::specs::Placement::item_number))]
+fn item_number(sites: u32, primary: u32, mask: u32) -> Result<(), Refusal>
+    ensures { number_of result ≡ item_number sites (record { primary = primary; mask = mask }) }
 {
-    if sites <= primary {
-        return 3;
-    }
-    if masks::above(mask, sites) != 0 {
-        return 4;
-    }
-    if bit(mask, primary) {
-        return 4;
-    }
-    0
+    refuse_if(sites <= primary, Refusal::NoSuchPrimary)?;
+    refuse_if(
+        masks::above(mask, sites) != 0 || bit(mask, primary),
+        Refusal::WrongMask,
+    )
 }
 
 // The primary site of item k.
@@ -73,14 +65,4 @@ fn field(w: &[u32], k: usize, j: usize) -> u32
         return words::word(w, k * ITEM + j);
     }
     0
-}
-
-// A number of items: 64 at most.
-pub fn few(items: usize) -> usize
-    ensures { result ≡ min items items_most }
-{
-    if items < ITEMS_WIDE {
-        return items;
-    }
-    ITEMS_WIDE
 }

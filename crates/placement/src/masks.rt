@@ -10,21 +10,17 @@ pub fn bit(mask: u32, k: u32) -> bool
 }
 
 // The bits of weight 2 to the power k and more, as a number of that weight.
+#[tactic(auto, using(crate::proofs::Shifts::none_above))]
 pub fn above(mask: u32, k: u32) -> u32
     ensures { result ≡ mask / 2 ^ k }
 {
-    if 31 < k {
-        return 0;
-    }
-    mask >> k
+    mask.checked_shr(k).unwrap_or(0)
 }
 
 // The bits of less weight than 2 to the power k.
+#[tactic(auto, using(crate::proofs::Shifts::all_below, crate::proofs::Shifts::one_bit))]
 pub fn below(mask: u32, k: u32) -> u32
     ensures { result ≡ mask % 2 ^ k }
 {
-    if 31 < k {
-        return mask;
-    }
-    mask % (1u32 << k)
+    1u32.checked_shl(k).map_or(mask, |weight| mask % weight)
 }

@@ -14,10 +14,7 @@ use placement::{below, bit, mask, primary};
 pub fn joins(w: &[u32], k: usize, p: u32, c: u32) -> bool
     ensures { result ≡ gives_line p c (item_at w.now k) }
 {
-    if primary(w, k) != p {
-        return false;
-    }
-    bit(mask(w, k), c)
+    primary(w, k) == p && bit(mask(w, k), c)
 }
 
 // The lines that an item gives: from its primary to the sites of its copies.
@@ -25,16 +22,9 @@ pub fn lines_by(primary: u32, mask: u32) -> u64
     ensures { Names (sites_most * sites_most) result (λ k. gives_line (k / sites_most) (k % sites_most) (record { primary = primary; mask = mask })) }
 {
     if primary < SITES {
-        return wide(below(mask, SITES)) << (SITES * primary);
+        return u64::from(below(mask, SITES)) << (SITES * primary);
     }
     0
-}
-
-// A mask of the sites that there can be, as one of lines.
-fn wide(x: u32) -> u64
-    ensures { result ≡ x }
-{
-    x as u64
 }
 
 // The children that item k gives site p: the sites of its copies, where p is its primary.
@@ -58,11 +48,9 @@ pub fn parents_by(w: &[u32], k: usize, c: u32) -> u32
 }
 
 // The mask that of the sites that there can be names site k alone.
+#[tactic(auto, using(placement::proofs::Shifts::one_bit, crate::proofs::Bits::bit_none, crate::proofs::Bits::bit_one))]
 fn one(k: u32) -> u32
     ensures { Names sites_most result (λ j. eqb k j) }
 {
-    if 31 < k {
-        return 0;
-    }
-    1u32 << k
+    1u32.checked_shl(k).unwrap_or(0)
 }

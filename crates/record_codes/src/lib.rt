@@ -30,6 +30,7 @@ pub fn code_of(ops: &[u32], i: usize) -> u32
 }
 
 // The code of operation i of a record.
+#[tactic(auto, using(lanes::proofs::Laws::byte_at))]
 pub fn code(w: &[u32], i: usize) -> u32
     requires { AtPlace i }
     ensures { result ≡ get_or (codes_in w.now) i 0 }
@@ -41,5 +42,5 @@ pub fn code(w: &[u32], i: usize) -> u32
 pub fn codes(w: &[u32]) -> usize
     ensures { result ≡ code_number w.now }
 {
-    words::wide(words::word(w, CODES)) + words::wide(words::word(w, CODES + 1)) * HIGHER
+    words::word(w, CODES) as usize + words::word(w, CODES + 1) as usize * HIGHER
 }

@@ -2,7 +2,7 @@
 use mathlib.Core.Path.{◌≡◌, refl, sym, ap, ap₂, ◌∙◌}
 use mathlib.Core.Bool.{Bool, true, false, ◌&&◌}
 use mathlib.Core.List.{List, [], ◌∷◌}
-use Prim.Native.Nat.{ℕ, ◌+◌, ◌*◌, ◌-◌, ◌^◌, ◌≤◌, ◌<◌}
+use Prim.Native.Nat.{ℕ, ◌+◌, ◌*◌, ◌-◌, ◌≤◌, ◌<◌}
 use native.Mathlib.Omega.{arith}
 use lib.ListN.{take}
 use lib.Bits.{bit_and}
@@ -11,7 +11,7 @@ use borrow.Author.Tests.{lt-ltb, le-ltb, ltb-true, ltb-false, eq-eqb, ne_eqb}
 use Rattle.lists.specs.Lists.{every}
 use Rattle.lists.proofs.Every.{and_true}
 use Rattle.lanes.specs.Lanes.{bytes, each}
-use Rattle.lanes.proofs.Laws.{bytes_take, below_128, below_least, raised_fits, each_times}
+use Rattle.lanes.proofs.Laws.{bytes_take, below_128, below_least, each_times}
 use Rattle.limits.specs.Limits.{ops_most}
 use Rattle.record_codes.specs.Codes.{codes_most, code_number, codes_in}
 
@@ -43,15 +43,14 @@ module _ (w : List ℕ) (items n : ℕ) (few : n ≤ ops_most) where
     tested : eqb (bit_and x tops) 0 ≡ in_range
     tested = ap₂ (λ (a b : ℕ). eqb (bit_and a b) 0) xs ts ∙ below_128 n (code_number w) ∙ ap (every (λ c. ltb c codes_most)) (sym codes_first)
 
-    pub fit_none : (bit_and x tops ≡ 0 → ⊥) → false ≡ fitting
-    fit_none z = sym (ap (λ (b : Bool). b && every (λ c. ltb c (2 * items)) (take n (codes_in w))) (sym tested ∙ ne_eqb (bit_and x tops) 0 z))
+    pub fit_none : (bit_and x tops ≡ 0 → ⊥) → eqb (bit_and x tops) 0 ≡ fitting
+    fit_none z =
+        let none = ne_eqb (bit_and x tops) 0 z in
+        none ∙ sym (ap (λ (b : Bool). b && every (λ c. ltb c (2 * items)) (take n (codes_in w))) (sym tested ∙ none))
 
     module _ (z : bit_and x tops ≡ 0) (k : ℕ) (ks : k ≡ codes_most - 2 * items) where
       all_below : in_range ≡ true
       all_below = sym tested ∙ eq-eqb (bit_and x tops) 0 z
-
-      pub fit_sum : bit_and x (each 127 8) + k * 72340172838076673 < 2 ^ 64
-      fit_sum = omega (arith, raised_fits x k (omega arith), each_times k)
 
       pub fit_all : eqb (bit_and (bit_and x (each 127 8) + k * 72340172838076673) tops) 0 ≡ fitting
       fit_all =

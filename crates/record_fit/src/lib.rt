@@ -5,7 +5,7 @@ ghost use Rattle.std.specs.Prelude.{◌≡◌, ◌&&◌, ◌*◌, ◌-◌, take,
 ghost use Rattle.lists.specs.Lists.{every};
 ghost use Rattle.record_codes.specs.Codes.{codes_in, codes_most, SomeOps};
 
-use limits::{ITEMS, ITEMS_WIDE};
+use limits::ITEMS_WIDE;
 use record_codes::codes;
 
 // Eight bytes that are 1, their bits but the top one, and their top bits.
@@ -23,18 +23,12 @@ pub fn fit(w: &[u32], n: usize, items: u32) -> bool
 {
     let x = codes(w);
     let tops = TOPS >> (64 - 8 * n);
-    if x & tops != 0 {
-        return false;
-    }
-    ((x & LOWS) + spare(items) * ONES) & tops == 0
+    x & tops == 0 && ((x & LOWS) + spare(items) * ONES) & tops == 0
 }
 
 // How many codes below 128 are of no item.
 fn spare(items: u32) -> usize
     ensures { result ≡ codes_most - 2 * items }
 {
-    if ITEMS <= items {
-        return 0;
-    }
-    2 * (ITEMS_WIDE - words::wide(items))
+    2 * ITEMS_WIDE.saturating_sub(items as usize)
 }

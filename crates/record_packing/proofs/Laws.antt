@@ -1,22 +1,22 @@
 -- Laws of codes and values: the operations read from them, and the words that packing leaves.
 use mathlib.Core.Path.{◌≡◌, refl, sym, ap, ap₂, ◌∙◌}
-use mathlib.Core.Bool.{Bool, true, false, cond, ◌&&◌}
+use mathlib.Core.Bool.{Bool, true, false}
 use mathlib.Core.List.{List, [], ◌∷◌}
-use Prim.Native.Nat.{ℕ, zero, suc, ◌+◌, ◌*◌, ◌/◌, ◌%◌, ◌<◌}
+use Prim.Native.Nat.{ℕ, zero, suc, ◌+◌, ◌*◌, ◌<◌}
 use native.Mathlib.Omega.{arith}
 use lib.ListN.{length, get_or, set, drop, length-set}
 use lib.Seq.{get_or-set_same, get_or-set_other, get_or-drop}
 use lib.Dec.{eqb}
 use mir.Val.{to_z}
 use mir.Syntax.{w32}
-use borrow.Author.Tests.{eq-eqb, ne_eqb, eqb-true, eqb-false}
+use borrow.Author.Tests.{eqb-true, eqb-false}
 use Rattle.lanes.specs.Lanes.{bytes}
 use Rattle.lanes.proofs.Laws.{bytes_length, bytes_of_two}
 use Rattle.words.specs.Words.{part}
 use Rattle.words.proofs.Parts.{part_get_d}
-use Rattle.site_operations.specs.Operations.{no_op, writes_item, written_item}
+use Rattle.site_operations.specs.Operations.{no_op}
 use Rattle.site_operations.specs.InWords.{op_at}
-use Rattle.limits.specs.Limits.{items_most, ops_most}
+use Rattle.limits.specs.Limits.{ops_most}
 use Rattle.record_codes.specs.Codes.{values_at, packed_size, op_of_code, ops_of, joined, code_number, codes_in, places_in, code_of, Packed}
 
 -- ---- read
@@ -40,28 +40,6 @@ module _ (w : List ℕ) where
   place_at_lem i h =
       ops_of_at (codes_in w) (part w values_at ops_most) i (omega (arith, bytes_length ops_most (code_number w)))
       ∙ ap (op_of_code (get_or (codes_in w) i 0)) (part_get_d w values_at ops_most i h)
-
-  module _ (i : ℕ) (h : i < ops_most) (c : ℕ) (is : c ≡ get_or (codes_in w) i 0) where
-    pub unpacked : (v : ℕ) → v ≡ get_or w (values_at + i) 0 → op_of_code c v ≡ get_or (places_in w) i no_op
-    unpacked v e = ap₂ op_of_code is e ∙ sym (place_at_lem i h)
-
-    coded_item : written_item (get_or (places_in w) i no_op) ≡ cond (eqb (c % 2) 1) (c / 2) items_most
-    coded_item = ap written_item (sym (unpacked (get_or w (values_at + i) 0) refl))
-
-    pub item_none : (c % 2 ≡ 1 → ⊥) → items_most ≡ written_item (get_or (places_in w) i no_op)
-    item_none z = sym (coded_item ∙ ap (λ (b : Bool). cond b (c / 2) items_most) (ne_eqb (c % 2) 1 z))
-
-    pub item_written : c % 2 ≡ 1 → c / 2 ≡ written_item (get_or (places_in w) i no_op)
-    item_written e = sym (coded_item ∙ ap (λ (b : Bool). cond b (c / 2) items_most) (eq-eqb (c % 2) 1 e))
-
-    coded_write : (item : ℕ) → writes_item item (get_or (places_in w) i no_op) ≡ (eqb (c % 2) 1 && eqb (c / 2) item)
-    coded_write item = ap (writes_item item) (sym (unpacked (get_or w (values_at + i) 0) refl))
-
-    pub writes_not : (item : ℕ) → (c % 2 ≡ 1 → ⊥) → false ≡ writes_item item (get_or (places_in w) i no_op)
-    writes_not item z = sym (coded_write item ∙ ap (λ (b : Bool). b && eqb (c / 2) item) (ne_eqb (c % 2) 1 z))
-
-    pub writes_if : (item : ℕ) → c % 2 ≡ 1 → eqb (c / 2) item ≡ writes_item item (get_or (places_in w) i no_op)
-    writes_if item e = sym (coded_write item ∙ ap (λ (b : Bool). b && eqb (c / 2) item) (eq-eqb (c % 2) 1 e))
 
 -- ---- packed
 -- the values of the first i operations

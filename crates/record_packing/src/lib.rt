@@ -18,10 +18,8 @@ pub fn pack(w: &mut [u32], ops: &[u32])
     requires { PackedWords w.old }
     ensures { Packed ops.now w.new }
 {
-    let mut i = 0;
-    while i < OPERATIONS_WIDE {
+    for i in 0..OPERATIONS_WIDE {
         w[CODE_WORDS + i] = site_operations::value(ops, i);
-        i += 1;
     }
     w[0] = four(ops, 0);
     w[1] = four(ops, FOUR);
@@ -37,6 +35,7 @@ fn four(ops: &[u32], i: usize) -> u32
 }
 
 // Operation i, laid after the i before it.
+#[tactic(auto, using(crate::proofs::Laws::place_at_lem))]
 pub fn unpack(out: &mut [u32; site_operations::OPERATIONS], w: &[u32], i: usize)
     requires { AtPlace i }
     ensures { Put out.old out.new i (get_or (places_in w.now) i no_op) }
@@ -45,26 +44,22 @@ pub fn unpack(out: &mut [u32; site_operations::OPERATIONS], w: &[u32], i: usize)
     site_operations::put(out, i, c % 2, c / 2, words::word(w, VALUES + i));
 }
 
-// The item that operation i writes; ITEMS where it writes none.
+// The item that operation i writes; ITEMS where it writes none, since the clauses of its callers take no item for a number that none has.
+#[tactic(auto, using(crate::proofs::Laws::place_at_lem))]
 pub fn written_item(w: &[u32], i: usize) -> u32
     requires { AtPlace i }
     ensures { result ≡ written_item (get_or (places_in w.now) i no_op) }
 {
     let c = code(w, i);
-    if c % 2 == WRITE {
-        return c / 2;
-    }
-    ITEMS // of a read
+    if c % 2 == WRITE { c / 2 } else { ITEMS }
 }
 
 // Whether operation i writes the item.
+#[tactic(auto, using(crate::proofs::Laws::place_at_lem))]
 pub fn is_write_of(w: &[u32], i: usize, item: u32) -> bool
     requires { AtPlace i }
     ensures { result ≡ writes_item item (get_or (places_in w.now) i no_op) }
 {
     let c = code(w, i);
-    if c % 2 != WRITE {
-        return false;
-    }
-    c / 2 == item
+    c % 2 == WRITE && c / 2 == item
 }

@@ -1,22 +1,24 @@
 -- One record moved among the words of a history, and the records that stay one after another.
 use mathlib.Core.Path.{◌≡◌, refl, sym, ap, ◌∙◌}
 use mathlib.Core.Bool.{Bool, true, false, cond}
-use mathlib.Core.List.{List, []}
+use mathlib.Core.List.{List, [], ◌++◌}
 use Prim.Native.Nat.{ℕ, ◌+◌, ◌-◌, ◌*◌, ◌≤◌, ◌<◌}
 use native.Mathlib.Omega.{arith}
-use lib.ListN.{length, get_or, set, replicate, length-replicate}
+use lib.ListN.{length, get_or, set, take, drop}
+use lib.Seq.{paste, drop-drop}
+use Rattle.std.proofs.Common.{append_assoc}
+use Rattle.std.specs.List.{copy_within}
 use Rattle.limits.specs.Limits.{records_most}
-use Rattle.words.specs.Words.{part, put, chunks, overlaid}
-use Rattle.words.proofs.Parts.{part_length, put_length, lent_part, lent_put}
+use Rattle.words.specs.Words.{part, chunks}
+use Rattle.words.proofs.Parts.{part_length, put_length}
 use Rattle.words.proofs.Chunks.{chunks_length, chunks_at, chunks_put, chunks_take}
-use Rattle.words.proofs.Walks.{overlaid_same}
 use Rattle.lists.specs.Lists.{count_below}
 use Rattle.lists.proofs.Renumber.{count_most, KeptBelow, kept_all, kept_over, kept_moved}
 use Rattle.records.specs.InWords.{record_size}
 use Rattle.record_names.specs.Names.{stays}
 use Rattle.record_removal.specs.Removal.{AtRecord, Kept, Removal, moved}
 
--- ---- one record, copied out and laid over another
+-- ---- one record, moved over another
 module _ (w : List ℕ) (k j : ℕ) (at : AtRecord w k j) where
   abbrev from : ℕ
   from = k * record_size
@@ -33,14 +35,13 @@ module _ (w : List ℕ) (k j : ℕ) (at : AtRecord w k j) where
   pub moved_length : length (moved k j w) ≡ length w
   moved_length = put_length w to record_size (part w from record_size) to_fits (part_length w from record_size from_fits)
 
-  pub moved_by : (copied ys : List ℕ) → copied ≡ overlaid (replicate record_size 0) (part w from (from + record_size - from)) → ys ≡ overlaid (part w to (to + record_size - to)) copied
-      → put w to (to + record_size - to) ys ≡ moved k j w
-  moved_by copied ys a b =
-      let out : copied ≡ part w from record_size
-      = a ∙ overlaid_same (replicate record_size 0) (part w from (from + record_size - from)) (ap length (lent_part w from record_size) ∙ part_length w from record_size from_fits ∙ sym (length-replicate {A = ℕ} record_size 0)) ∙ lent_part w from record_size in
-      let room : length (part w to (to + record_size - to)) ≡ record_size = ap length (lent_part w to record_size) ∙ part_length w to record_size to_fits in
-      let size : length copied ≡ record_size = ap length out ∙ part_length w from record_size from_fits in
-      lent_put w to record_size ys ∙ ap (put w to record_size) (b ∙ overlaid_same (part w to (to + record_size - to)) copied (size ∙ sym room) ∙ out)
+  -- what `copy_within` leaves
+  pub moved_by : copy_within w from (from + record_size) to ≡ moved k j w
+  moved_by =
+      let same : from + record_size - from ≡ record_size = omega arith in
+      ap (λ (n : ℕ). paste w to (drop from w) n) same
+      ∙ append_assoc (take to w) (part w from record_size) (drop (to + record_size) w)
+      ∙ ap (λ (ys : List ℕ). take to w ++ (part w from record_size ++ ys)) (sym (drop-drop record_size to w))
 
 -- ---- one record, by the table of names
 module _ (names w : List ℕ) (k before : ℕ) where

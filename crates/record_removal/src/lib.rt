@@ -13,15 +13,14 @@ pub fn remove(history: &mut [u32], made: usize, names: &[u32; RECORDS_WIDE]) -> 
     ensures { Removal names.now made history.old history.new result }
 {
     let mut kept = 0;
-    let mut k = 0;
-    while k < made {
+    for k in 0..made {
         kept = keep(history, k, kept, names);
-        k += 1;
     }
     kept as u32
 }
 
 // Record k, behind the `before` that stay of those before it, where it stays. It answers how many stay with it.
+#[tactic(auto, using(crate::proofs::RemovalLaws::gone, crate::proofs::RemovalLaws::kept))]
 fn keep(history: &mut [u32], k: usize, before: usize, names: &[u32; RECORDS_WIDE]) -> usize
     requires { AtRecord history.old k before }
     ensures { Kept names.now k before history.old history.new result }
@@ -34,15 +33,11 @@ fn keep(history: &mut [u32], k: usize, before: usize, names: &[u32; RECORDS_WIDE
 }
 
 // The words of record k over those of record j.
+#[tactic(auto, using(crate::proofs::RemovalLaws::moved_by))]
 fn move_record(history: &mut [u32], k: usize, j: usize)
     requires { AtRecord history.old k j }
     ensures { history.new ≡ moved k j history.old }
 {
     let from = k * WORDS;
-    let from_end = from + WORDS;
-    let to = j * WORDS;
-    let to_end = to + WORDS;
-    let mut copied = [0u32; WORDS];
-    words::copy(&mut copied, &history[from..from_end]);
-    words::copy(&mut history[to..to_end], &copied);
+    history.copy_within(from..from + WORDS, j * WORDS);
 }

@@ -1,6 +1,6 @@
 -- Laws of a record in words: what is read from them, what is written, and the test for shape.
 use mathlib.Core.Path.{◌≡◌, refl, sym, ap, ap₂, subst, ◌∙◌}
-use mathlib.Core.Bool.{Bool, true, false, ◌&&◌}
+use mathlib.Core.Bool.{Bool, true, false, ◌&&◌, ◌||◌}
 use mathlib.Core.List.{List, [], ◌∷◌, ◌++◌, map}
 use Prim.Native.Nat.{ℕ, zero, suc, ◌+◌, ◌*◌, ◌-◌, ◌/◌, ◌%◌, ◌≤◌, ◌<◌, min}
 use native.Mathlib.Omega.{arith}
@@ -11,7 +11,8 @@ use lib.Dec.{ltb, leb, eqb}
 use mir.Val.{to_z}
 use mir.Syntax.{w32}
 use borrow.Author.Tests.{lt-ltb, le-ltb, ltb-true, ltb-false, le-leb, lt-leb, leb-true, eq-eqb, ne_eqb}
-use Rattle.lists.specs.Lists.{every}
+use Rattle.std.specs.List.{list_any, range_with_len}
+use Rattle.lists.specs.Lists.{any, every}
 use Rattle.lists.proofs.Every.{and_true, every_all}
 use Rattle.lanes.specs.Lanes.{bytes}
 use Rattle.lanes.proofs.Laws.{bytes_length}
@@ -72,6 +73,15 @@ module _ (w : List ℕ) where
   laid_all i out is laid =
       let os = (record_in w).ops in
       subst (λ (xs : List Op). OpsLaid (length os) xs out) (take-length os) (subst (λ (k : ℕ). OpsLaid k (take k os) out) is laid)
+
+-- a test asked at the places of a list of operations, of each of them
+pub any_by_place : (p : Op → Bool) (q : ℕ → Bool) (os : List Op) (a : ℕ)
+    → ((i : ℕ) → i < length os → q (a + i) ≡ p (get_or os i no_op)) → list_any q (range_with_len a (length os)) ≡ any p os
+any_by_place p q [] a h = refl
+any_by_place p q (o ∷ os) a h =
+    let first : a ≡ a + 0 = omega arith in
+    ap₂ (λ (s t : Bool). s || t) (ap q first ∙ h 0 (omega arith))
+    (any_by_place p q os (a + 1) (λ i k. let next : a + 1 + i ≡ a + suc i = omega arith in ap q next ∙ h (suc i) (omega arith)))
 
 -- ---- written: the site and the number of operations, then the timestamp, then the operations
 module _ (w : List ℕ) (size : length w ≡ record_size) (site n : ℕ) where
@@ -254,8 +264,8 @@ module _ (place : ℕ → ℕ) (w : List ℕ) (sites items : ℕ) where
         shape_elsewhere h = sym (shape_is ∙ rw (le-ltb site sites h))
 
         module _ (here : site < sites) (made : Bool) (m : made ≡ stamp_shaped place site (part w stamp_at stamp_size)) where
-          pub shape_unmade : made ≡ false → false ≡ shape
-          shape_unmade f = sym (shape_is ∙ rw (lt-ltb site sites here, sym m ∙ f))
+          pub shape_unmade : made ≡ false → made ≡ shape
+          shape_unmade f = f ∙ sym (shape_is ∙ rw (lt-ltb site sites here, sym m ∙ f))
 
           pub shape_by_ops : made ≡ true → (k : ℕ) → k ≡ n → (fit : Bool) → fit ≡ (every (λ c. ltb c codes_most) (take k (codes_in w)) && every (λ c. ltb c (2 * items)) (take k (codes_in w))) → fit ≡ shape
           shape_by_ops t k same fit e =

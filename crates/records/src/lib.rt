@@ -25,10 +25,7 @@ pub const WORDS: usize = VALUES + OPERATIONS_WIDE;
 pub fn write(w: &mut [u32], site: u32, n: u32, t: Timestamp, ops: &[u32])
     ensures { Written w.old w.new site n (stamp_of t) ops.now }
 {
-    if w.len() != WORDS {
-        return;
-    }
-    if ops.len() != site_operations::OPERATIONS {
+    if w.len() != WORDS || ops.len() != site_operations::OPERATIONS {
         return;
     }
     w[SITE] = site;
@@ -38,6 +35,7 @@ pub fn write(w: &mut [u32], site: u32, n: u32, t: Timestamp, ops: &[u32])
 }
 
 // The site of a record.
+#[tactic(auto, unfolding(crate::specs::InWords::record_in))]
 pub fn site(w: &[u32]) -> u32
     ensures { result ≡ (record_in w.now).site }
 {
@@ -55,14 +53,11 @@ pub fn stamp(w: &[u32]) -> Timestamp
 }
 
 // How many operations a record has: eight at most.
+#[tactic(auto, using(crate::proofs::Laws::count_law))]
 pub fn count(w: &[u32]) -> usize
     ensures { (result ≡ length (record_in w.now).ops) × (result ≤ ops_most) }
 {
-    let n = words::wide(words::word(w, COUNT));
-    if OPERATIONS_WIDE < n {
-        return OPERATIONS_WIDE;
-    }
-    n
+    (words::word(w, COUNT) as usize).min(OPERATIONS_WIDE)
 }
 
 // The operations of a record, three words each, 0 past the last.
@@ -70,11 +65,8 @@ pub fn operations(w: &[u32]) -> [u32; site_operations::OPERATIONS]
     ensures { OpsLaid (length (record_in w.now).ops) (record_in w.now).ops result }
 {
     let mut out = [0u32; site_operations::OPERATIONS];
-    let n = count(w);
-    let mut i = 0;
-    while i < n {
+    for i in 0..count(w) {
         record_packing::unpack(&mut out, w, i);
-        i += 1;
     }
     out
 }
@@ -90,48 +82,25 @@ pub fn writes(w: &[u32], item: u32) -> bool
 pub fn writes_before(w: &[u32], item: u32, a: usize) -> bool
     ensures { result ≡ touches item (take a (record_in w.now).ops) }
 {
-    let n = count_before(w, a);
-    let mut i = 0;
-    while i < n {
-        if record_packing::is_write_of(w, i, item) {
-            return true;
-        }
-        i += 1;
-    }
-    false
+    (0..count_before(w, a)).any(|i| record_packing::is_write_of(w, i, item))
 }
 
 // How many operations a record has before operation `a`.
 fn count_before(w: &[u32], a: usize) -> usize
     ensures { (result ≡ length (take a (record_in w.now).ops)) × (result ≤ ops_most) }
 {
-    let n = count(w);
-    if a < n {
-        return a;
-    }
-    n
+    count(w).min(a)
 }
 
 // Whether the words are those of a record of a group of that many sites and items, the sites at these places.
 pub fn shaped(w: &[u32], sites: u32, items: u32, places: [u8; SITES_WIDE]) -> bool
     ensures { result ≡ (eqb (length w.now) record_size && (record_range w.now && record_fits (rank places) sites items (record_in w.now))) }
 {
-    if w.len() != WORDS {
-        return false;
-    }
-    let n = words::word(w, COUNT);
-    if n == 0 {
-        return false;
-    }
-    if limits::OPERATIONS < n {
-        return false;
-    }
     let site = words::word(w, SITE);
-    if sites <= site {
+    let n = words::word(w, COUNT);
+    if w.len() != WORDS || n == 0 || limits::OPERATIONS < n || sites <= site {
         return false;
     }
-    if !timestamp_words::made_by(&w[STAMP..CODES], site, places) {
-        return false;
-    }
-    record_fit::fit(w, words::wide(n), items)
+    timestamp_words::made_by(&w[STAMP..CODES], site, places)
+        && record_fit::fit(w, n as usize, items)
 }

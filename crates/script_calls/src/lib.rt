@@ -2,18 +2,21 @@
 // network is known before a call, and answered for the words after it.
 #![tactic(auto)]
 
-ghost use Rattle.std.specs.Prelude.{◌≡◌, true, []};
+ghost use Rattle.std.specs.Prelude.{◌≡◌, true, cond, [], ◌+◌, ◌≤◌, eqb, length};
 ghost use Rattle.std.proofs.Math.Option.{some};
-ghost use Rattle.decimal.specs.Decimal.{natural};
+ghost use Rattle.decimal.specs.Decimal.{natural, digits};
+ghost use Rattle.causes.specs.Refusals.{number_of};
 ghost use Rattle.protocol.specs.Network.{no_stamp};
 ghost use Rattle.network_layout.specs.InWords.{shaped};
 ghost use Rattle.network_layout.specs.Promises.{Performed};
 ghost use Rattle.script_notation.specs.Fields.{fields_from};
 ghost use Rattle.script_notation.specs.Parse.{all, on, one, two, set_up_of, commit_of, commit_with, operation};
-ghost use Rattle.script_notation.specs.Answers.{RepliedAt, Calling, Answered};
+ghost use Rattle.script_notation.specs.Print.{answer_most};
+ghost use Rattle.script_notation.specs.Answers.{RepliedAt, Calling, Answered, Said};
 ghost use Rattle.script_calls.specs.Chosen.{site_call, pair_call};
 ghost use Rattle.script_calls.specs.Asked.{SettingUp, OnNetwork};
 
+use causes::Refusal;
 use network_layout::WORDS;
 use script_lists::KEPT;
 use script_notation::Reply;
@@ -30,11 +33,9 @@ pub fn set_up(
     ensures { Answered (on (all natural (fields_from text.now 2)) set_up_of) state.old state.new out.old out.new at result }
 {
     let mut list = [0u32; 256];
-    let n = script_parsing::numbers(text, 2, &mut list);
-    if !n.ok {
+    let Some(count) = script_parsing::numbers(text, 2, &mut list) else {
         return script_replies::question(formed, out, at);
-    }
-    let count = n.count;
+    };
     if count < 2 {
         return script_replies::question(formed, out, at);
     }
@@ -54,21 +55,27 @@ fn set_up_numbers(
 {
     let mut primaries = [0u32; 128];
     let mut masks = [0u8; 128];
-    let n = script_lists::items(&list[2..], &mut primaries, &mut masks);
-    if !n.ok {
+    let Some(count) = script_lists::items(&list[2..], &mut primaries, &mut masks) else {
         return script_replies::question(formed, out, at);
-    }
-    let count = n.count;
-    let number = network_set_up::set_up(
+    };
+    let answer = network_set_up::set_up(
         state,
         list[0],
         list[1],
         &primaries[..count],
         &masks[..count],
     );
+    set_up_reply(answer, formed, out, at)
+}
+
+// The number of a set-up, and what it says of the words.
+fn set_up_reply(answer: Result<(), Refusal>, formed: bool, out: &mut [u8], at: usize) -> Reply
+    requires { at + answer_most ≤ length out.old }
+    ensures { Said (digits (number_of answer)) (cond (eqb (number_of answer) 0) true formed) out.old out.new at result }
+{
     Reply {
-        end: script_numbers::number(out, at, number),
-        formed: script_replies::formed_then(number, formed),
+        end: script_numbers::number(out, at, causes::number_of(answer)),
+        formed: script_replies::formed_then(answer, formed),
     }
 }
 
@@ -86,12 +93,11 @@ pub fn commit(
     if text.len() < 2 {
         return script_replies::question(formed, out, at);
     }
-    let end = script_fields::find(text, 2, 32);
-    let site = decimal::natural(&text[2..end]);
-    if !site.ok {
+    let end = script_fields::find(text, 2, b' ');
+    let Some(site) = decimal::natural(&text[2..end]) else {
         return script_replies::question(formed, out, at);
-    }
-    commit_at(site.value, text, end + 1, state, formed, out, at)
+    };
+    commit_at(site, text, end + 1, state, formed, out, at)
 }
 
 // A commit at a site, its operations from a place on.
@@ -110,14 +116,13 @@ fn commit_at(
     let mut kinds = [0u8; KEPT];
     let mut items = [0u32; KEPT];
     let mut values = [0i32; KEPT];
-    let n = script_parsing::operations(text, from, &mut kinds, &mut items, &mut values);
-    if !n.ok {
+    let Some(count) = script_parsing::operations(text, from, &mut kinds, &mut items, &mut values)
+    else {
         return script_replies::question(formed, out, at);
-    }
+    };
     if !formed {
         return script_replies::no_network(formed, out, at);
     }
-    let count = n.count;
     let answer = network_commit::commit_on(
         state,
         site,
@@ -144,15 +149,14 @@ pub fn at_site(
     requires { Calling text.now state.old formed out.old at }
     ensures { Answered (on (all natural (fields_from text.now 2)) (one (site_call schedules))) state.old state.new out.old out.new at result }
 {
-    let site = script_parsing::one_number(text);
-    if !site.ok {
+    let Some(site) = script_parsing::one_number(text) else {
         return script_replies::question(formed, out, at);
-    }
+    };
     if !formed {
         return script_replies::no_network(formed, out, at);
     }
     Reply {
-        end: at_site_on(schedules, site.value, state, out, at),
+        end: at_site_on(schedules, site, state, out, at),
         formed,
     }
 }
@@ -189,14 +193,13 @@ pub fn of_two(
     requires { Calling text.now state.old formed out.old at }
     ensures { Answered (on (all natural (fields_from text.now 2)) (two (pair_call delivers))) state.old state.new out.old out.new at result }
 {
-    let pair = script_parsing::two_numbers(text);
-    if !pair.ok {
+    let Some((first, second)) = script_parsing::two_numbers(text) else {
         return script_replies::question(formed, out, at);
-    }
+    };
     if !formed {
         return script_replies::no_network(formed, out, at);
     }
-    let number = of_two_on(delivers, pair.first, pair.second, state);
+    let number = of_two_on(delivers, first, second, state);
     Reply {
         end: script_numbers::number(out, at, number),
         formed,
@@ -209,7 +212,7 @@ fn of_two_on(delivers: bool, first: u32, second: u32, state: &mut [u32; WORDS]) 
     ensures { Performed (pair_call delivers first second) state.old state.new result 0 no_stamp [] }
 {
     if delivers {
-        return network_deliver::deliver_on(state, first, second);
+        return causes::number_of(network_deliver::deliver_on(state, first, second));
     }
-    network_epoch::epoch_on(state, first, second)
+    causes::number_of(network_epoch::epoch_on(state, first, second))
 }

@@ -1,7 +1,8 @@
 // Where the fields of a line end, and whether a letter stands in front of them.
 #![tactic(auto)]
 
-ghost use Rattle.std.specs.Prelude.{◌≡◌, ◌&&◌, ◌+◌, eqb, leb, length, drop};
+ghost use Rattle.std.specs.Prelude.{◌≡◌, ◌&&◌, ◌+◌, not, eqb, leb, length, drop};
+ghost use Rattle.std.specs.List.{prefix_len};
 ghost use Rattle.script_notation.specs.Fields.{space, position};
 ghost use Rattle.script_notation.specs.Parse.{longest};
 
@@ -9,25 +10,23 @@ ghost use Rattle.script_notation.specs.Parse.{longest};
 pub fn find(text: &[u8], from: usize, byte: u8) -> usize
     ensures { result ≡ from + position byte (drop from text.now) }
 {
-    let mut i = from;
-    while i < text.len() {
-        if text[i] == byte {
-            return i;
-        }
-        i += 1;
-    }
-    i
+    from + first(&text[from.min(text.len())..], byte)
 }
 
 // The bytes of the longest line.
 const LINE_BYTES: usize = 512;
 
 // A line that is not too long, whose first field is one byte.
+#[tactic(auto, using(script_notation::proofs::Places::place_is))]
 pub fn lettered(text: &[u8]) -> bool
     ensures { result ≡ (leb (length text.now) longest && eqb (position space text.now) 1) }
 {
-    if LINE_BYTES < text.len() {
-        return false;
-    }
-    find(text, 0, 32) == 1
+    text.len() <= LINE_BYTES && first(text, b' ') == 1
+}
+
+// Where a byte first stands, or the end.
+fn first(text: &[u8], byte: u8) -> usize
+    ensures { result ≡ prefix_len (λ x. not (eqb x byte)) text.now }
+{
+    text.iter().take_while(|b| **b != byte).count()
 }

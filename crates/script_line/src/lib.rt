@@ -42,12 +42,12 @@ fn called(text: &[u8], state: &mut [u32; WORDS], formed: bool, out: &mut [u8], a
     ensures { Answered (calledBy (get_or text.now 0 0) (fields_from text.now 2)) state.old state.new out.old out.new at result }
 {
     match text[0] {
-        112 => script_calls::set_up(text, state, formed, out, at),
-        99 => script_calls::commit(text, state, formed, out, at),
-        100 => script_calls::at_site(false, text, state, formed, out, at),
-        101 => script_calls::of_two(false, text, state, formed, out, at),
-        108 => script_calls::of_two(true, text, state, formed, out, at),
-        115 => script_calls::at_site(true, text, state, formed, out, at),
+        b'p' => script_calls::set_up(text, state, formed, out, at),
+        b'c' => script_calls::commit(text, state, formed, out, at),
+        b'd' => script_calls::at_site(false, text, state, formed, out, at),
+        b'e' => script_calls::of_two(false, text, state, formed, out, at),
+        b'l' => script_calls::of_two(true, text, state, formed, out, at),
+        b's' => script_calls::at_site(true, text, state, formed, out, at),
         _ => script_replies::question(formed, out, at),
     }
 }

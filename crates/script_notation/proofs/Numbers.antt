@@ -9,7 +9,10 @@ use lib.ListN.{length, take, drop}
 use lib.Seq.{take_all}
 use lib.Dec.{eqb, ltb, leb}
 use borrow.Author.Tests.{le-leb, leb-true, leb-false, eqb-true, ltb-true, ltb-false}
+use Rattle.std.specs.Prelude.{None, Some}
+use Rattle.std.specs.declared.option.Option.{Option as Answer}
 use Rattle.lists.specs.Lists.{every}
+use Rattle.lists.specs.Answers.{given, given_as}
 use Rattle.decimal.specs.Decimal.{is_digit, extra_zero, value_from, greatest, natural}
 use Rattle.protocol.specs.Calls.{Call}
 use Rattle.script_notation.specs.Fields.{space, position, fields, fields_from}
@@ -41,9 +44,9 @@ natural_space l h = rw (with_space l h) (go (ltb 0 (length l)) (not (extra_zero 
 
 -- ---- one number
 -- the call of a number that was parsed
-pub of_number : {o : Option ℕ} (ok : Bool) (v : ℕ) (f : ℕ → Call) → cond ok (some v) none ≡ o → cond ok (some (f v)) none ≡ on o (λ a. some (f a))
-of_number {o} true v f e = ap (λ (z : Option ℕ). on z (λ a. some (f a))) e
-of_number {o} false v f e = ap (λ (z : Option ℕ). on z (λ a. some (f a))) e
+pub of_number : {o : Option ℕ} (r : Answer ℕ) (f : ℕ → Call) → given r ≡ o → given_as f r ≡ on o (λ a. some (f a))
+of_number None f e = ap (λ (z : Option ℕ). on z (λ a. some (f a))) e
+of_number (Some v) f e = ap (λ (z : Option ℕ). on z (λ a. some (f a))) e
 
 module _ (f : ℕ → Call) where
   one_of : (o : Option ℕ) → on (cons_both o (some [])) (one f) ≡ on o (λ a. some (f a))

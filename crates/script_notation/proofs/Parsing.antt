@@ -3,19 +3,19 @@ use mathlib.Core.Path.{◌≡◌, refl, sym, ap, ◌∙◌}
 use mathlib.Core.Bool.{Bool, cond}
 use mathlib.Core.List.{List, [], ◌∷◌, ◌++◌, map, append-nil}
 use mathlib.Core.Option.{Option, none, some}
-use Prim.Native.Nat.{ℕ, suc, ◌+◌, ◌-◌, ◌≤◌, ◌<◌, min}
+use Prim.Native.Nat.{ℕ, suc, ◌+◌, ◌≤◌, ◌<◌, min}
 use native.Mathlib.Omega.{arith}
 use native.Mathlib.Numerals.{add-one}
 use lib.IntN.{ℤ, pos}
 use lib.ListN.{length, get_or, take, drop, set, drop_of_length-le, length-append, length-map}
 use lib.Seq.{drop-cons, length-take-le, take_all, take_at}
-use borrow.Author.Tests.{eq-eqb, ne_eqb, le-leb, lt-leb}
+use borrow.Author.Tests.{le-leb, lt-leb}
 use Rattle.decimal.specs.Decimal.{natural, signed}
 use Rattle.site_operations.specs.Operations.{Op}
 use Rattle.placement.specs.Placement.{Item}
 use Rattle.protocol.specs.Steps.{ops_of, items_of}
 use Rattle.script_notation.specs.Fields.{position}
-use Rattle.script_notation.specs.Parse.{cons_both, reading, writing, assigned, operation, placed, first_operations, first_items}
+use Rattle.script_notation.specs.Parse.{cons_both, writing, assigned, placed, first_operations, first_items}
 use Rattle.script_notation.proofs.Walks.{ahead, ahead_more, take_more, take_next, take_least}
 
 -- ---- an operation by its letter
@@ -29,26 +29,6 @@ unfolding signed
 assigned_none l h =
     write_none (natural (take (position 61 l) l))
     ∙ ap (λ (z : List ℕ). writing (natural (take (position 61 l) l)) (signed z)) (sym (drop_of_length-le l {i = suc (position 61 l)} (omega arith)))
-
-pub op_empty : (l : List ℕ) → length l ≡ 0 → none ≡ operation l
-unfolding operation
-op_empty [] e = refl
-op_empty (x ∷ xs) e = absurd (omega arith)
-
-pub op_read_lem : (l : List ℕ) → (length l ≡ 0 → ⊥) → get_or l 0 0 ≡ 114 → reading (natural (drop 1 l)) ≡ operation l
-unfolding operation
-op_read_lem [] n e = absurd (n refl)
-op_read_lem (x ∷ xs) n e = rw (eq-eqb x 114 e)
-
-pub op_write : (l : List ℕ) → (length l ≡ 0 → ⊥) → (get_or l 0 0 ≡ 114 → ⊥) → get_or l 0 0 ≡ 119 → assigned (drop 1 l) ≡ operation l
-unfolding operation
-op_write [] n m e = absurd (n refl)
-op_write (x ∷ xs) n m e = rw (ne_eqb x 114 m, eq-eqb x 119 e)
-
-pub op_other : (l : List ℕ) → (length l ≡ 0 → ⊥) → (get_or l 0 0 ≡ 114 → ⊥) → (get_or l 0 0 ≡ 119 → ⊥) → none ≡ operation l
-unfolding operation
-op_other [] n m k = absurd (n refl)
-op_other (x ∷ xs) n m k = rw (ne_eqb x 114 m, ne_eqb x 119 k)
 
 -- ---- operations and items from the lists of their fields
 ops_snoc : (ks is : List ℕ) (vs : List ℤ) (k i : ℕ) (v : ℤ) → length is ≡ length ks → length vs ≡ length ks

@@ -1,14 +1,15 @@
 -- Laws of the fields of a line: the position of a byte by a walk, and the fields one after another by places.
 use mathlib.Core.Path.{◌≡◌, refl, sym, ap, ◌∙◌}
-use mathlib.Core.Bool.{Bool, true, false, cond}
+use mathlib.Core.Bool.{Bool, true, false, cond, not}
 use mathlib.Core.List.{List, [], ◌∷◌}
 use Prim.Native.Nat.{ℕ, suc, ◌+◌, ◌-◌, ◌≤◌, ◌<◌}
 use native.Mathlib.Omega.{arith}
-use native.Mathlib.Numerals.{add-one}
-use lib.ListN.{length, get_or, take, drop, drop_of_length-le, length-drop}
-use lib.Seq.{drop-cons, drop-drop}
+use lib.ListN.{length, take, drop, length-drop}
+use lib.Seq.{drop-drop}
 use lib.Dec.{eqb, leb, leb-suc-suc}
-use borrow.Author.Tests.{le-leb, lt-leb, leb-true, leb-false, eq-eqb, ne_eqb}
+use borrow.Author.Tests.{le-leb, lt-leb, leb-true, leb-false}
+use Rattle.std.specs.List.{prefix_len}
+use Rattle.std.proofs.lemmas.List.Recursion.{is_position_or_len}
 use Rattle.script_notation.specs.Fields.{space, position, in_front, fields, fields_from}
 
 pub place_within : (b : ℕ) (l : List ℕ) → position b l ≤ length l
@@ -20,24 +21,10 @@ place_within b (x ∷ xs) = go (eqb x b) (place_within b xs)
     go true h = omega arith
     go false h = omega arith
 
--- ---- a walk to a byte, i places on
-module _ (b : ℕ) (l : List ℕ) (i whole : ℕ) (e : i + position b (drop i l) ≡ whole) where
-  pub found_here : i < length l → get_or l i 0 ≡ b → i ≡ whole
-  unfolding position
-  found_here h f =
-      let z : position b (drop i l) ≡ 0 = ap (position b) (drop-cons l i 0 h) ∙ (rw (eq-eqb (get_or l i 0) b f)) in
-      omega arith
-
-  pub found_later : i < length l → (get_or l i 0 ≡ b → ⊥) → i + 1 + position b (drop (i + 1) l) ≡ whole
-  unfolding position
-  found_later h f =
-      let s : position b (drop i l) ≡ suc (position b (drop (suc i) l)) = ap (position b) (drop-cons l i 0 h) ∙ (rw (ne_eqb (get_or l i 0) b f)) in
-      let t : position b (drop (i + 1) l) ≡ position b (drop (suc i) l) = ap (λ (k : ℕ). position b (drop k l)) (add-one i) in
-      omega arith
-
-  pub found_end : length l ≤ i → i ≡ whole
-  unfolding position
-  found_end h = let z : position b (drop i l) ≡ 0 = ap (position b) (drop_of_length-le l {i = i} h) in omega arith
+-- as many bytes as stand before it
+pub place_is : (b : ℕ) (l : List ℕ) → position b l ≡ prefix_len (λ x. not (eqb x b)) l
+unfolding position
+place_is b l = is_position_or_len (position b) (λ x. eqb x b) refl (λ x xs. ap (λ (k : ℕ). cond (eqb x b) 0 k) (omega arith)) l
 
 -- ---- the first field, and those behind it
 -- with one byte more, which is a space or not

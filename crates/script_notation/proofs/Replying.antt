@@ -22,7 +22,7 @@ use Rattle.network_layout.specs.Promises.{Performed}
 use Rattle.network_layout.proofs.OnNetwork.{unshaped}
 use Rattle.script_notation.specs.declared.Reply.{Reply}
 use Rattle.script_notation.specs.Fields.{space, position, fields, fields_from}
-use Rattle.script_notation.specs.Parse.{on, set_up_with, set_up_of, commit_with, commit_of, called, by_letter, longest, parse, all, operation, placed, listed, first_operations, first_items}
+use Rattle.script_notation.specs.Parse.{on, set_up_with, set_up_of, commit_with, commit_of, called, by_letter, longest, parse, all, operation, placed, first_operations, first_items}
 use Rattle.script_notation.specs.Print.{print, fields_of, answer_most, Put}
 use Rattle.script_notation.specs.Answers.{replied, RepliedAt, Answered, Said}
 use Rattle.script_notation.proofs.Places.{place_within, field_next, fields_end}
@@ -95,12 +95,12 @@ answered_set_up {number = number} sites items ps ms f g p q =
     }
 
 -- ---- the call that a list of numbers stands for
-module _ {A B : Type 0} (ok : Bool) (xs : List A) (o : Option (List A)) (g : List A → Option B) (e : listed ok xs ≡ o) where
-  pub on_none : not ok ≡ true → none ≡ on o g
-  on_none h = ap (λ (b : Bool). on (listed b xs) g) (sym (not-true ok h)) ∙ ap (λ (z : Option (List A)). on z g) e
+module _ {A B : Type 0} {o : Option A} (g : A → Option B) where
+  pub on_none : none ≡ o → none ≡ on o g
+  on_none e = ap (λ (z : Option A). on z g) e
 
-  pub on_is : not ok ≡ false → g xs ≡ on o g
-  on_is h = ap (λ (b : Bool). on (listed b xs) g) (sym (not-false ok h)) ∙ ap (λ (z : Option (List A)). on z g) e
+  pub on_is : (x : A) → some x ≡ o → g x ≡ on o g
+  on_is x e = ap (λ (z : Option A). on z g) e
 
 -- ---- set-up
 pub few_numbers : (l : List ℕ) → length l < 2 → none ≡ set_up_of l

@@ -2,14 +2,12 @@
 use mathlib.Core.Path.{◌≡◌, refl, sym, ap, ◌∙◌}
 use mathlib.Core.List.{List, [], ◌∷◌, ◌++◌, append-nil, append_assoc}
 use mathlib.Core.Option.{Option, none, some}
-use mathlib.Core.Bool.{Bool, true, false, cond, not}
 use Prim.Native.Nat.{ℕ, zero, suc, ◌+◌, ◌-◌, ◌≤◌, ◌<◌, min}
 use native.Mathlib.Omega.{arith}
 use native.Mathlib.Numerals.{add-one}
 use lib.ListN.{length, get_or, take, drop, set, length-drop}
 use lib.Seq.{length-take-le, take-suc, take-suc-set}
 use Rattle.lists.proofs.Lists.{take_min}
-use borrow.Author.Tests.{not-true, not-false}
 use Rattle.script_notation.specs.Fields.{space, position, fields_from}
 use Rattle.script_notation.proofs.Places.{field_within, field_next, fields_end}
 use Rattle.script_notation.specs.Parse.{on, cons_both, all}
@@ -39,17 +37,6 @@ module _ {A B : Type 0} (f : A → Option B) where
   pub all_end : (ys : List B) → ahead ys (all f []) ≡ some ys
   unfolding all
   all_end ys = ap (λ (l : List B). some l) (append-nil ys)
-
--- ---- a struct that says whether it holds something
-module _ {A : Type 0} (ok : Bool) (y : A) where
-  pub is_some : not ok ≡ false → some y ≡ cond ok (some y) none
-  is_some h = rw (not-false ok h)
-
-  pub is_none : not ok ≡ true → none ≡ cond ok (some y) none
-  is_none h = rw (not-true ok h)
-
-  pub is_false : ok ≡ false → none ≡ cond ok (some y) none
-  is_false h = rw h
 
 -- ---- a walk over the fields of a line, up to a position
 module _ {B : Type 0} (f : List ℕ → Option B) (text : List ℕ) (at : ℕ) (ys : List B) (o : Option (List B)) (e : o ≡ ahead ys (all f (fields_from text at))) where

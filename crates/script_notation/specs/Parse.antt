@@ -1,5 +1,5 @@
 -- The call that a line stands for, if it does.
-use Rattle.std.specs.Prelude.{Bool, cond, List, [], ◌∷◌, map, ℕ, suc, ℤ, pos, length, take, drop, eqb, leb}
+use Rattle.std.specs.Prelude.{cond, List, [], ◌∷◌, map, ℕ, suc, ℤ, pos, length, take, drop, eqb, leb}
 use Rattle.std.proofs.Math.Option.{Option, none, some}
 use Rattle.decimal.specs.Decimal.{natural, signed}
 use Rattle.site_operations.specs.Operations.{Op}
@@ -102,9 +102,6 @@ unfoldable pub parse : List ℕ → Option Call
 parse text = cond (leb (length text) longest) (by_letter (fields text)) none
 
 -- ---- what lists of which the first n are used mean
-abbrev pub listed : {A : Type 0} → Bool → List A → Option (List A)
-listed ok xs = cond ok (some xs) none
-
 abbrev pub first_operations : ℕ → List ℕ → List ℕ → List ℤ → List Op
 first_operations n ks is vs = ops_of (take n ks) (take n is) (take n vs)
 

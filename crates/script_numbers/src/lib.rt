@@ -11,7 +11,7 @@ pub fn question(out: &mut [u8], at: usize) -> usize
     requires { at < length out.old }
     ensures { Put answer_most out.old out.new at result (63 ∷ []) }
 {
-    out[at] = 63;
+    out[at] = b'?';
     at + 1
 }
 
@@ -32,7 +32,7 @@ pub fn with_parent(out: &mut [u8], at: usize, n: u32, parent: u32) -> usize
     if n != 0 {
         return end;
     }
-    behind_byte(out, end, 32, parent)
+    behind_byte(out, end, b' ', parent)
 }
 
 // A byte and a value behind it.

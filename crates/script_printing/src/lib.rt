@@ -2,14 +2,17 @@
 #![tactic(auto)]
 
 ghost use Rattle.std.specs.Prelude.{◌≡◌, ◌∷◌, [], ◌+◌, ◌≤◌, min, length, take, cond, eqb};
+ghost use Rattle.causes.specs.Refusals.{number_of};
 ghost use Rattle.timestamp.specs.Value.{stamp_of, pair_of};
+ghost use Rattle.network_layout.specs.Promises.{answered_stamp, scheduled_parent, scheduled_stamp, committed_stamp, committed_values};
 ghost use Rattle.script_notation.specs.Fields.{space};
 ghost use Rattle.script_notation.specs.Parse.{first_operations};
 ghost use Rattle.script_notation.specs.Print.{letter as letterOf, op_text, ops_text, record_text, record_most, Put, tuple_text, tuples_text, stamp_text, values_text, print, fields_of, answer_most};
 ghost use Rattle.protocol.specs.Calls.{commit as commitCall, dummy as dummyCall, schedule as scheduleCall};
 ghost use Rattle.script_printing.specs.Asked.{RoomForOperations, RoomForValues};
 
-use network_layout::{Committed, Dummied, Scheduled};
+use causes::Refusal;
+use network_layout::{Committed, Scheduled};
 use script_notation::ANSWER;
 use timestamp::{Timestamp, Tuple};
 
@@ -71,47 +74,37 @@ fn letter(kind: u8) -> u8
     119
 }
 
-pub fn dummied(out: &mut [u8], at: usize, answer: Dummied) -> usize
+// A dummy's number and, of one that is accepted, its timestamp.
+pub fn dummied(out: &mut [u8], at: usize, answer: Result<Timestamp, Refusal>) -> usize
     requires { at + answer_most ≤ length out.old }
-    ensures { Put answer_most out.old out.new at result (print (dummyCall 0) (fields_of answer.number 0 (stamp_of answer.stamp) [])) }
+    ensures { Put answer_most out.old out.new at result (print (dummyCall 0) (fields_of (number_of answer) 0 (answered_stamp answer) [])) }
 {
-    let n = answer.number;
-    let t = answer.stamp;
-    let end = script_numbers::number(out, at, n);
-    if n != 0 {
-        return end;
-    }
+    let end = script_numbers::number(out, at, causes::number_of(answer));
+    let Ok(t) = answer else { return end };
     stamp(out, end, t)
 }
 
-pub fn scheduled(out: &mut [u8], at: usize, answer: Scheduled) -> usize
+// A schedule's number and, of one that is accepted, the parent and the timestamp.
+pub fn scheduled(out: &mut [u8], at: usize, answer: Result<Scheduled, Refusal>) -> usize
     requires { at + answer_most ≤ length out.old }
-    ensures { Put answer_most out.old out.new at result (print (scheduleCall 0) (fields_of answer.number answer.parent (stamp_of answer.stamp) [])) }
+    ensures { Put answer_most out.old out.new at result (print (scheduleCall 0) (fields_of (number_of answer) (scheduled_parent answer) (scheduled_stamp answer) [])) }
 {
-    let n = answer.number;
-    let parent = answer.parent;
-    let t = answer.stamp;
-    let end = script_numbers::with_parent(out, at, n, parent);
-    if n != 0 {
-        return end;
-    }
-    stamp(out, end, t)
+    let Ok(done) = answer else {
+        return script_numbers::number(out, at, causes::number_of(answer));
+    };
+    let end = script_numbers::with_parent(out, at, 0, done.parent);
+    stamp(out, end, done.stamp)
 }
 
-pub fn committed(out: &mut [u8], at: usize, answer: Committed) -> usize
+// A commit's number and, of one that is accepted, the timestamp and the values read.
+pub fn committed(out: &mut [u8], at: usize, answer: Result<Committed, Refusal>) -> usize
     requires { at + answer_most ≤ length out.old }
-    ensures { Put answer_most out.old out.new at result (print (commitCall 0 [] [] []) (fields_of answer.number 0 (stamp_of answer.stamp) (take answer.count answer.values))) }
+    ensures { Put answer_most out.old out.new at result (print (commitCall 0 [] [] []) (fields_of (number_of answer) 0 (committed_stamp answer) (committed_values answer))) }
 {
-    let n = answer.number;
-    let t = answer.stamp;
-    let count = answer.count;
-    let read = answer.values;
-    let end = script_numbers::number(out, at, n);
-    if n != 0 {
-        return end;
-    }
-    let behind = stamp(out, end, t);
-    values(out, behind, count, &read)
+    let end = script_numbers::number(out, at, causes::number_of(answer));
+    let Ok(done) = answer else { return end };
+    let behind = stamp(out, end, done.stamp);
+    values(out, behind, done.count, &done.values)
 }
 
 // A timestamp: a space, the epoch, a space and the tuples.

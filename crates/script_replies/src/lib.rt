@@ -1,11 +1,13 @@
-// Replies that need no step: a question mark, and the number of a call on no network; and what a set-up's number says of the words.
+// Replies that need no step: a question mark, and the number of a call on no network; and what a set-up's answer says of the words.
 #![tactic(auto)]
 
 ghost use Rattle.std.specs.Prelude.{◌≡◌, true, cond, ◌∷◌, [], ◌+◌, ◌≤◌, eqb, length};
+ghost use Rattle.causes.specs.Refusals.{number_of};
 ghost use Rattle.decimal.specs.Decimal.{digits};
 ghost use Rattle.script_notation.specs.Print.{answer_most};
 ghost use Rattle.script_notation.specs.Answers.{Said};
 
+use causes::Refusal;
 use script_notation::Reply;
 
 // A question mark, for what is no call.
@@ -31,11 +33,9 @@ pub fn no_network(formed: bool, out: &mut [u8], at: usize) -> Reply
 }
 
 // An accepted set-up makes the words those of a network.
-pub fn formed_then(number: u32, formed: bool) -> bool
-    ensures { result ≡ cond (eqb number 0) true formed }
+#[tactic(auto, using(causes::proofs::Refusals::accepted))]
+pub fn formed_then(answer: Result<(), Refusal>, formed: bool) -> bool
+    ensures { result ≡ cond (eqb (number_of answer) 0) true formed }
 {
-    if number == 0 {
-        return true;
-    }
-    formed
+    answer.is_ok() || formed
 }

@@ -9,18 +9,12 @@ ghost use Rattle.std.specs.Int.{w32};
 pub fn bits(v: i32) -> u32
     ensures { result ≡ of_z w32 v }
 {
-    if 0 <= v {
-        return v as u32;
-    }
-    4294967295u32 - ((-1 - v) as u32)
+    v.cast_unsigned()
 }
 
 // The signed value of a word.
 pub fn value(w: u32) -> i32
     ensures { result ≡ to_z w32 w }
 {
-    if w < 2147483648u32 {
-        return w as i32;
-    }
-    -1 - ((4294967295u32 - w) as i32)
+    w.cast_signed()
 }

@@ -18,6 +18,7 @@ const TABLE: usize = timestamp_words::WORDS;
 pub const WORDS: usize = TABLE + ITEMS_WIDE;
 
 // The timestamp of a site.
+#[tactic(auto, using(timestamp::proofs::Plain::plain_as, crate::proofs::Laws::stamp_law))]
 pub fn stamp(part: &[u32]) -> Timestamp
     ensures { PlainValue (site_in part.now).stamp result }
 {
@@ -37,6 +38,7 @@ pub fn commit(part: &mut [u32], ops: &[u32], n: usize) -> [u32; OPERATIONS]
 }
 
 // A dummy: the own count one higher.
+#[tactic(auto, using(crate::proofs::Laws::unchanged))]
 pub fn dummy(part: &mut [u32])
     ensures { Changed part.old part.new dummied }
 {
@@ -46,6 +48,7 @@ pub fn dummy(part: &mut [u32])
 }
 
 // Another epoch.
+#[tactic(auto, using(crate::proofs::Laws::unchanged))]
 pub fn epoch(part: &mut [u32], number: u32)
     ensures { Changed part.old part.new (at_epoch number) }
 {
@@ -55,14 +58,14 @@ pub fn epoch(part: &mut [u32], number: u32)
 }
 
 // An arriving message: its writes, and its timestamp with the site's own tuple added.
+#[tactic(auto, using(crate::proofs::Laws::unchanged))]
 pub fn receive(part: &mut [u32], ops: &[u32], n: usize, t: Timestamp)
     ensures { Changed part.old part.new (received (ops_in (min n ops_most) ops.now) (stamp_of t)) }
 {
     if part.len() == WORDS {
         table_work::write(&mut part[TABLE..WORDS], ops, n);
         let own = stamp(part).own();
-        let count = own.count;
-        put_stamp(part, t.append(own.site, count));
+        put_stamp(part, t.append(own.site, own.count));
     }
 }
 
@@ -71,5 +74,5 @@ fn put_stamp(part: &mut [u32], t: Timestamp)
     requires { length part.old ≡ site_size }
     ensures { (site_in part.new ≡ record { table = (site_in part.old).table; stamp = stamp_of t }) × (site_range part.new ≡ true) }
 {
-    timestamp_words::write_to(t, &mut part[0..TABLE]);
+    timestamp_words::write_to(t, &mut part[..TABLE]);
 }

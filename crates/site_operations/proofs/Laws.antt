@@ -25,9 +25,6 @@ use Rattle.limits.specs.Limits.{ops_most}
 pub op_word : (ops : List ℕ) (i p n : ℕ) → p ≡ op_size * i + n → n < op_size → get_or ops p 0 ≡ get_or (op_words ops i) n 0
 op_word ops i p n e h = let f : p ≡ i * op_size + n = omega arith in ap (λ (q : ℕ). get_or ops q 0) f ∙ sym (part_get_d ops (i * op_size) op_size n h)
 
-pub op_past : (ops : List ℕ) (i n : ℕ) → length ops ≤ i → n < op_size → 0 ≡ get_or (op_words ops i) n 0
-op_past ops i n past h = sym (part_get_d ops (i * op_size) op_size n h ∙ get_or-eq_default ops 0 {n = i * op_size + n} (omega arith))
-
 module _ (o : Op) where
   -- what is not a write leaves the table
   pub write_none : (table : List ℤ) (kind : ℕ) → kind ≡ o.kind → (kind ≡ 1 → ⊥) → table ≡ written table o

@@ -58,7 +58,7 @@ fn field(ops: &[u32], i: usize, j: usize) -> u32
     ensures { result ≡ get_or (op_words ops.now i) j 0 }
 {
     if i < ops.len() {
-        return words::word(ops, OPERATION * i + j);
+        return words::word(ops, i * OPERATION + j);
     }
     0
 }

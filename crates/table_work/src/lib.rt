@@ -16,11 +16,8 @@ pub fn work(table: &mut [u32], ops: &[u32], n: usize) -> [u32; OPERATIONS]
     ensures { TableWorked table.old table.new (min n ops_most) (ops_in (min n ops_most) ops.now) result }
 {
     let mut out = [0u32; OPERATIONS];
-    let m = few(n);
-    let mut i = 0;
-    while i < m {
+    for i in 0..n.min(OPERATIONS_WIDE) {
         work_one(&mut out, table, ops, i);
-        i += 1;
     }
     out
 }
@@ -29,11 +26,8 @@ pub fn work(table: &mut [u32], ops: &[u32], n: usize) -> [u32; OPERATIONS]
 pub fn write(table: &mut [u32], ops: &[u32], n: usize)
     ensures { table_in table.new ≡ (worked (table_in table.old) (ops_in (min n ops_most) ops.now)).table }
 {
-    let m = few(n);
-    let mut i = 0;
-    while i < m {
+    for i in 0..n.min(OPERATIONS_WIDE) {
         write_one(table, ops, i);
-        i += 1;
     }
 }
 
@@ -47,6 +41,7 @@ fn work_one(out: &mut [u32; OPERATIONS], table: &mut [u32], ops: &[u32], i: usiz
 }
 
 // Operation i, as the history keeps it, after the i before it.
+#[tactic(auto, using(site_operations::proofs::Laws::kept_op, site_operations::proofs::Laws::put_as))]
 fn record_one(out: &mut [u32; OPERATIONS], table: &[u32], ops: &[u32], i: usize)
     requires { i < ops_most }
     ensures { Put out.old out.new i (recorded (table_in table.now) (op_at ops.now i)) }
@@ -58,14 +53,4 @@ fn record_one(out: &mut [u32; OPERATIONS], table: &[u32], ops: &[u32], i: usize)
         item(ops, i),
         kept_value(table, ops, i),
     );
-}
-
-// A number of operations: eight at most.
-fn few(n: usize) -> usize
-    ensures { result ≡ min n ops_most }
-{
-    if n < OPERATIONS_WIDE {
-        return n;
-    }
-    OPERATIONS_WIDE
 }

@@ -1,7 +1,7 @@
 // Timestamps as values: an epoch and up to eight tuples of site and count. Each method takes one and gives a new one, which is plain.
 #![tactic(auto)]
 
-ghost use Rattle.std.specs.Prelude.{◌≡◌, map, min, ◌≤◌, length, get_or};
+ghost use Rattle.std.specs.Prelude.{◌≡◌, map, ◌≤◌, length, get_or};
 ghost use Rattle.timestamp.specs.Value.{stamp_of, pair_of, PlainValue};
 ghost use Rattle.lists.specs.Lists.{spell};
 ghost use Rattle.timestamp_order.specs.Timestamp.{no_pair, no_stamp, with_epoch, appended_or_same, raised_or_same, last_pair, room};
@@ -9,24 +9,25 @@ ghost use Rattle.timestamp_order.specs.Timestamp.{no_pair, no_stamp, with_epoch,
 use limits::SITES_WIDE;
 
 // An epoch number. It is a type of its own, so that no count is compared with it.
-#[derive(Clone, Copy)]
+#[derive(Clone, Copy, PartialEq, Eq, Default)]
 pub struct Epoch(pub u32);
 
 // A count of commits and dummies of one site.
-#[derive(Clone, Copy)]
+#[derive(Clone, Copy, PartialEq, Eq, Default)]
 pub struct Count(pub u32);
 
 // The largest count.
-pub const GREATEST: u32 = 4294967295;
+pub const GREATEST: u32 = u32::MAX;
 
-#[derive(Clone, Copy)]
+#[derive(Clone, Copy, PartialEq, Eq, Default)]
 pub struct Tuple {
     pub site: u32,
     pub count: Count,
 }
 
 // The first `len` of eight places are tuples; where `len` is above eight, all of them. The rest means nothing, and is 0 in every value answered.
-#[derive(Clone, Copy)]
+// No `PartialEq`: values that mean the same may differ in it.
+#[derive(Clone, Copy, Default)]
 pub struct Timestamp {
     pub epoch: Epoch,
     pub len: usize,
@@ -38,32 +39,26 @@ impl Timestamp {
     pub fn size(self) -> usize
         ensures { (result ≡ length (stamp_of self).tuples) × (result ≤ room) }
     {
-        used(self.len)
+        self.len.min(SITES_WIDE)
     }
 
     // The tuple at a place, and zeros where there is none.
     pub fn tuple(self, i: usize) -> Tuple
         ensures { pair_of result ≡ get_or (stamp_of self).tuples i no_pair }
     {
-        if i < used(self.len) {
+        if i < self.size() {
             return self.tuples[i];
         }
-        Tuple {
-            site: 0,
-            count: Count(0),
-        }
+        Tuple::default()
     }
 
     // The last tuple, which is that of the site itself; zeros where there is none.
     pub fn own(self) -> Tuple
         ensures { pair_of result ≡ last_pair (stamp_of self).tuples }
     {
-        let n = used(self.len);
+        let n = self.size();
         if n == 0 {
-            return Tuple {
-                site: 0,
-                count: Count(0),
-            };
+            return Tuple::default();
         }
         self.tuples[n - 1]
     }
@@ -72,9 +67,8 @@ impl Timestamp {
     pub fn plain(self) -> Timestamp
         ensures { PlainValue (stamp_of self) result }
     {
-        let epoch = self.epoch;
         Timestamp {
-            epoch,
+            epoch: self.epoch,
             len: self.size(),
             tuples: self.places(),
         }
@@ -84,9 +78,10 @@ impl Timestamp {
     pub fn at_epoch(self, epoch: Epoch) -> Timestamp
         ensures { PlainValue (with_epoch (stamp_of self) epoch.0) result }
     {
-        let mut t = self.plain();
-        t.epoch = epoch;
-        t
+        Timestamp {
+            epoch,
+            ..self.plain()
+        }
     }
 
     // A tuple added at the end; where there are eight, the timestamp as it was.
@@ -94,12 +89,10 @@ impl Timestamp {
         ensures { PlainValue (appended_or_same (stamp_of self) site count.0) result }
     {
         let mut t = self.plain();
-        let n = t.len;
-        if SITES_WIDE <= n {
-            return t;
+        if t.len < SITES_WIDE {
+            t.tuples[t.len] = Tuple { site, count };
+            t.len += 1;
         }
-        t.tuples[n] = Tuple { site, count };
-        t.len = n + 1;
         t
     }
 
@@ -112,15 +105,11 @@ impl Timestamp {
         if n == 0 {
             return t;
         }
-        let last = t.tuples[n - 1];
-        let c = last.count.0;
+        let c = t.tuples[n - 1].count.0;
         if GREATEST <= c {
             return t;
         }
-        t.tuples[n - 1] = Tuple {
-            site: last.site,
-            count: Count(c + 1),
-        };
+        t.tuples[n - 1].count = Count(c + 1);
         t
     }
 
@@ -128,16 +117,7 @@ impl Timestamp {
     fn places(self) -> [Tuple; SITES_WIDE]
         ensures { map pair_of result ≡ spell no_pair 0 room (stamp_of self).tuples }
     {
-        [
-            self.tuple(0),
-            self.tuple(1),
-            self.tuple(2),
-            self.tuple(3),
-            self.tuple(4),
-            self.tuple(5),
-            self.tuple(6),
-            self.tuple(7),
-        ]
+        std::array::from_fn(|i| self.tuple(i))
     }
 }
 
@@ -145,23 +125,5 @@ impl Timestamp {
 pub fn zero() -> Timestamp
     ensures { PlainValue no_stamp result }
 {
-    let none = Tuple {
-        site: 0,
-        count: Count(0),
-    };
-    Timestamp {
-        epoch: Epoch(0),
-        len: 0,
-        tuples: [none; SITES_WIDE],
-    }
-}
-
-// How many of the eight places are used.
-fn used(len: usize) -> usize
-    ensures { result ≡ min len room }
-{
-    if len < SITES_WIDE {
-        return len;
-    }
-    SITES_WIDE
+    Timestamp::default()
 }

@@ -28,7 +28,7 @@ pub fn compare_words(a: &[u32], b: &[u32], places: [u8; SITES_WIDE]) -> Compared
 {
     let e = timestamp_words::epoch_in(a);
     let f = timestamp_words::epoch_in(b);
-    if e.0 != f.0 {
+    if e != f {
         return Compared {
             order: compare_epochs(e, f),
             parting: Parting::Epochs,
@@ -44,8 +44,7 @@ fn compare_lists(a: &[u32], b: &[u32], places: [u8; SITES_WIDE]) -> Compared
 {
     let n = timestamp_words::size_in(a);
     let m = timestamp_words::size_in(b);
-    let mut i = 0;
-    while i < n {
+    for i in 0..n {
         if m <= i {
             return Compared {
                 order: Order::Later, // b is a proper prefix of a
@@ -58,17 +57,16 @@ fn compare_lists(a: &[u32], b: &[u32], places: [u8; SITES_WIDE]) -> Compared
                 parting: Parting::After(i), // where they differ
             };
         }
-        i += 1;
     }
     if n < m {
         return Compared {
             order: Order::Earlier, // a is a proper prefix of b
-            parting: Parting::After(i),
+            parting: Parting::After(n),
         };
     }
     Compared {
         order: Order::Equal,
-        parting: Parting::After(i),
+        parting: Parting::After(n),
     }
 }
 

@@ -4,23 +4,23 @@
 ghost use Rattle.std.specs.Prelude.{◌≡◌};
 ghost use Rattle.timestamp_order.specs.Order.{is_earlier, not_later};
 
-// What a comparison finds of the first of two.
-#[derive(Clone, Copy)]
+// What a comparison finds of the first of two. Not std's `Ordering`: these are the scope's words, and the definitions of specs/ match on them.
+#[derive(Clone, Copy, PartialEq, Eq)]
 pub enum Order {
     Earlier,
     Equal,
     Later,
 }
 
-// Where two timestamps part: at their epochs, or after so many leading tuples that both have.
-#[derive(Clone, Copy)]
+// Where two timestamps part: at their epochs, or after so many leading tuples that both have. Not an `Option`: `shared_of` of specs/ reads it.
+#[derive(Clone, Copy, PartialEq, Eq)]
 pub enum Parting {
     Epochs,
     After(usize),
 }
 
 // What the comparison of two timestamps answers.
-#[derive(Clone, Copy)]
+#[derive(Clone, Copy, PartialEq, Eq)]
 pub struct Compared {
     pub order: Order,
     pub parting: Parting,
@@ -31,23 +31,13 @@ impl Compared {
     pub fn is_earlier(self) -> bool
         ensures { result ≡ is_earlier self.order }
     {
-        let found = self.order;
-        match found {
-            Order::Earlier => true,
-            Order::Equal => false, // equal is not earlier
-            Order::Later => false,
-        }
+        matches!(self.order, Order::Earlier)
     }
 
     // Whether the first is not later than the second.
     pub fn not_later(self) -> bool
         ensures { result ≡ not_later self.order }
     {
-        let found = self.order;
-        match found {
-            Order::Earlier => true,
-            Order::Equal => true,
-            Order::Later => false,
-        }
+        !matches!(self.order, Order::Later)
     }
 }

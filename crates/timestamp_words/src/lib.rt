@@ -1,7 +1,7 @@
 // A timestamp in words of a lent slice: its epoch, how many tuples it has, and eight places of site and count.
 #![tactic(auto)]
 
-ghost use Rattle.std.specs.Prelude.{◌≡◌, map, ◌<◌, ◌≤◌, length, take};
+ghost use Rattle.std.specs.Prelude.{◌≡◌, map, ◌<◌, ◌≤◌, length, take, get_or};
 ghost use Rattle.words.specs.Words.{overlaid};
 ghost use Rattle.timestamp.specs.Value.{stamp_of, pair_of, PlainValue};
 ghost use Rattle.timestamp_order.specs.Timestamp.{room};
@@ -29,7 +29,7 @@ pub fn from_words(w: &[u32]) -> Timestamp
 {
     let t = Timestamp {
         epoch: epoch_in(w),
-        len: words::wide(words::word(w, COUNT)),
+        len: words::word(w, COUNT) as usize,
         tuples: tuples_in(w),
     };
     t.plain()
@@ -46,11 +46,7 @@ pub fn epoch_in(w: &[u32]) -> Epoch
 pub fn size_in(w: &[u32]) -> usize
     ensures { (result ≡ length (stamp_in w.now).tuples) × (result ≤ room) }
 {
-    let n = words::wide(words::word(w, COUNT));
-    if SITES_WIDE < n {
-        return SITES_WIDE;
-    }
-    n
+    (words::word(w, COUNT) as usize).min(SITES_WIDE)
 }
 
 // What their place i has, whether a tuple of theirs or not; site 0 and count 0 past the eighth.
@@ -58,10 +54,7 @@ pub fn tuple_in(w: &[u32], i: usize) -> Tuple
     ensures { pair_of result ≡ tuple_in w.now i }
 {
     if SITES_WIDE <= i {
-        return Tuple {
-            site: 0,
-            count: Count(0),
-        };
+        return Tuple::default();
     }
     Tuple {
         site: site_in(w, i),
@@ -73,17 +66,11 @@ pub fn tuple_in(w: &[u32], i: usize) -> Tuple
 pub fn made_by(w: &[u32], site: u32, places: [u8; SITES_WIDE]) -> bool
     ensures { result ≡ stamp_shaped (rank places) site w.now }
 {
-    let n = words::wide(words::word(w, COUNT));
-    if SITES_WIDE < n {
+    let n = words::word(w, COUNT) as usize;
+    if n == 0 || SITES_WIDE < n {
         return false;
     }
-    if n == 0 {
-        return false;
-    }
-    if !rising(w, n, places) {
-        return false;
-    }
-    site_in(w, n - 1) == site
+    rising(w, n, places) && site_in(w, n - 1) == site
 }
 
 // Whether the places of the first n tuples' sites rise.
@@ -92,14 +79,12 @@ fn rising(w: &[u32], n: usize, places: [u8; SITES_WIDE]) -> bool
     ensures { result ≡ risingOf (rank places) (take n (pairs_at w.now pairs_start room)) }
 {
     let mut last = place_in(w, 0, places);
-    let mut i = 1;
-    while i < n {
+    for i in 1..n {
         let next = place_in(w, i, places);
         if next <= last {
             return false;
         }
         last = next;
-        i += 1;
     }
     true
 }
@@ -116,34 +101,24 @@ fn place_in(w: &[u32], i: usize, places: [u8; SITES_WIDE]) -> u32
 pub fn to_words(t: Timestamp) -> [u32; WORDS]
     ensures { (result ≡ stamp_words (stamp_of t)) × (length (stamp_of t).tuples ≤ room) }
 {
-    let a = t.tuple(0);
-    let b = t.tuple(1);
-    let c = t.tuple(2);
-    let d = t.tuple(3);
-    let e = t.tuple(4);
-    let f = t.tuple(5);
-    let g = t.tuple(6);
-    let h = t.tuple(7);
-    [
-        t.epoch.0,
-        few(t.size()),
-        a.site,
-        a.count.0,
-        b.site,
-        b.count.0,
-        c.site,
-        c.count.0,
-        d.site,
-        d.count.0,
-        e.site,
-        e.count.0,
-        f.site,
-        f.count.0,
-        g.site,
-        g.count.0,
-        h.site,
-        h.count.0,
-    ]
+    std::array::from_fn(|k| word_of(t, k))
+}
+
+// Word k of a timestamp, 0 past the last.
+fn word_of(t: Timestamp, k: usize) -> u32
+    ensures { result ≡ get_or (stamp_words (stamp_of t)) k 0 }
+{
+    if k == EPOCH {
+        return t.epoch.0;
+    }
+    if k == COUNT {
+        return t.size() as u32;
+    }
+    let x = t.tuple((k - TUPLES) / TUPLE);
+    if k % TUPLE == 0 {
+        return x.site;
+    }
+    x.count.0
 }
 
 // The words of a timestamp over the front of a slice, as far as it reaches.
@@ -158,16 +133,7 @@ pub fn write_to(t: Timestamp, w: &mut [u32])
 fn tuples_in(w: &[u32]) -> [Tuple; SITES_WIDE]
     ensures { map pair_of result ≡ pairs_at w.now pairs_start room }
 {
-    [
-        tuple_in(w, 0),
-        tuple_in(w, 1),
-        tuple_in(w, 2),
-        tuple_in(w, 3),
-        tuple_in(w, 4),
-        tuple_in(w, 5),
-        tuple_in(w, 6),
-        tuple_in(w, 7),
-    ]
+    std::array::from_fn(|i| tuple_in(w, i))
 }
 
 // The site of tuple i.
@@ -176,12 +142,4 @@ fn site_in(w: &[u32], i: usize) -> u32
     ensures { result ≡ (pair_at w.now (pair_place i)).site }
 {
     words::word(w, TUPLES + i * TUPLE)
-}
-
-// A number of tuples as a word.
-fn few(n: usize) -> u32
-    requires { n < 4294967296 }
-    ensures { result ≡ n }
-{
-    n as u32
 }

@@ -7,21 +7,22 @@ ghost use Rattle.timestamp_order.specs.Order.{then_by, number_order, place_order
 ghost use Rattle.timestamp_order.specs.Parting.{same_pair};
 
 use limits::SITES_WIDE;
+use std::cmp::Ordering;
 use timestamp::{Count, Tuple};
 use timestamp_order::Order;
 
 // The site of the higher place is earlier; for the same site the lower count.
+#[tactic(auto, unfolding(timestamp_order::specs::Order::pair_order))]
 pub fn compare_tuples(a: Tuple, b: Tuple, places: [u8; SITES_WIDE]) -> Order
     ensures { result ≡ pair_order (rank places) (pair_of a) (pair_of b) }
 {
     let by_site = compare_sites(a.site, b.site, places);
-    let x = a.count;
-    let y = b.count;
-    let by_count = compare_counts(x, y);
+    let by_count = compare_counts(a.count, b.count);
     then_by(by_site, by_count)
 }
 
 // The higher place is earlier; of two sites at one place the higher number.
+#[tactic(auto, unfolding(timestamp_order::specs::Order::place_order))]
 fn compare_sites(i: u32, j: u32, places: [u8; SITES_WIDE]) -> Order
     ensures { result ≡ place_order (rank places) i j }
 {
@@ -36,9 +37,7 @@ fn compare_sites(i: u32, j: u32, places: [u8; SITES_WIDE]) -> Order
 pub fn same_tuple(a: Tuple, b: Tuple) -> bool
     ensures { result ≡ same_pair (pair_of a) (pair_of b) }
 {
-    let first = a.count;
-    let second = b.count;
-    a.site == b.site && first.0 == second.0
+    a == b
 }
 
 // The lower count is earlier.
@@ -53,21 +52,19 @@ fn then_by(first: Order, second: Order) -> Order
     ensures { result ≡ then_by first second }
 {
     match first {
-        Order::Earlier => Order::Earlier,
         Order::Equal => second,
-        Order::Later => Order::Later,
+        Order::Earlier | Order::Later => first,
     }
 }
 
 // The lower number is earlier.
+#[tactic(auto, unfolding(timestamp_order::specs::Order::number_order))]
 pub fn number_order(m: u32, n: u32) -> Order
     ensures { result ≡ number_order m n }
 {
-    if m < n {
-        return Order::Earlier;
+    match m.cmp(&n) {
+        Ordering::Less => Order::Earlier,
+        Ordering::Equal => Order::Equal,
+        Ordering::Greater => Order::Later,
     }
-    if n < m {
-        return Order::Later;
-    }
-    Order::Equal
 }

@@ -14,10 +14,7 @@ pub fn wide(x: u32) -> usize
 pub fn word(w: &[u32], i: usize) -> u32
     ensures { result ≡ get_or w.now i 0 }
 {
-    if i < w.len() {
-        return w[i];
-    }
-    0
+    w.get(i).copied().unwrap_or(0)
 }
 
 // One word at a place; past the end nothing.
@@ -33,10 +30,5 @@ pub fn store(w: &mut [u32], i: usize, v: u32)
 pub fn fill(w: &mut [u32], v: u32)
     ensures { w.new ≡ replicate (length w.old) v }
 {
-    let n = w.len();
-    let mut i = 0;
-    while i < n {
-        w[i] = v;
-        i += 1;
-    }
+    w.fill(v);
 }

@@ -9,12 +9,8 @@ pub fn insert(w: &mut [u32], at: usize, v: u32)
     ensures { w.new ≡ inserted w.old at v }
 {
     let n = w.len();
-    let mut carry = v;
-    let mut i = at;
-    while i < n {
-        let next = w[i];
-        w[i] = carry;
-        carry = next;
-        i += 1;
+    if at < n {
+        w.copy_within(at..n - 1, at + 1);
+        w[at] = v;
     }
 }

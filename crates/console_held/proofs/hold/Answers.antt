@@ -2,19 +2,16 @@
 use mathlib.Core.Path.{◌≡◌}
 use native.Mathlib.Omega.{arith}
 use lib.ListN.{length}
-use borrow.Author.Rules.{rules}
+use Rattle.std.proofs.Common.{rules}
 use Rattle.console_notation.specs.Lines.{clip_most}
-use Rattle.console_held.proofs.Holding.{held_there}
+use Rattle.console_held.proofs.Holding.{laid_there, held_there}
 use Rattle.console_held.proofs.hold.Goals as goal
-
-pub append-count-requires : goal.append-count-requires
-append-count-requires c =
-    let full : length c.args.held.bytes ≡ clip_most = search rules in
-    record { there = omega (arith, c.least-n.ensures); room = omega (arith, full, c.least-n.ensures, c.least-at.ensures) }
 
 pub returns : goal.returns
 returns c =
-    let full : length c.args.held.bytes ≡ clip_most = search rules in
-    let first = c.least-at in
-    let more = c.least-n in
-    held_there c.args.held.bytes c.args.from.now c.append-count.new.out c.args.held.count first.result more.result c.append-count.result full first.ensures more.ensures c.append-count.ensures
+    let A = c.args in
+    let at = c.min-at in
+    let n = c.min-n in
+    let full : length A.held.bytes ≡ clip_most = search rules in
+    let laid = laid_there A.held.bytes A.from.now c.copy_from_slice.new.self at.result n.result (omega (arith, n.ensures)) (omega (arith, full, n.ensures, at.ensures)) c.copy_from_slice.ensures.after in
+    held_there A.held.bytes A.from.now _ A.held.count at.result n.result _ full at.ensures (omega (arith, n.ensures)) laid

@@ -7,6 +7,7 @@ use lib.IntN.{ℤ}
 use Rattle.limits.specs.Limits.{items_most}
 use Rattle.network_base.specs.Base.{base_answer}
 use Rattle.c_answers.specs.Answers.{value_words, flag_word}
+use Rattle.c_answers.specs.Asked.{base_count}
 use Rattle.c_answers.proofs.Words.{listed_words}
 use borrow.Author.Rules.{rules}
 use Rattle.gevrolen_c.proofs.gevrolen_base.Goals as goal
@@ -22,5 +23,5 @@ returns c =
     let g = c.base.result in
     let e = c.base.ensures in
     let said = c.put_base.ensures in
-    let values = ap (λ (vs : List ℤ). g.count ∷ value_words vs) e.values_are ∙ listed_words items_most g.count (base_answer w) e.count_is in
+    let values = ap (λ (vs : List ℤ). base_count g ∷ value_words vs) e.values_are ∙ listed_words items_most (base_count g) (base_answer w) e.count_is in
     (rw said.0 e.performed, said.1 ∙ ap₂ {C = List ℕ} (λ (b : Bool) (l : List ℕ). flag_word b ∷ l) e.folded_is values)

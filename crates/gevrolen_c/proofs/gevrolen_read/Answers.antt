@@ -21,7 +21,7 @@ pub put_base-requires : goal.put_base-requires
 put_base-requires c =
     let b = c.args.buffer.now in
     let e = c.check-given.ensures in
-    record { sized = search rules; values = (history_read b).base; count_is = c.wide.ensures ∙ e.items_are ∙ sym (base_count b); values_are = e.beside.base_is }
+    record { sized = search rules; values = (history_read b).base; count_is = e.items_are ∙ sym (base_count b); values_are = e.beside.base_is }
 
 pub part_start-start-requires : goal.part_start-start-requires
 part_start-start-requires c =
@@ -36,7 +36,7 @@ returns c =
     let e = c.check-given.ensures in
     let start = c.part_start-start.ensures ∙ ap₂ {C = ℕ} (λ (n s : ℕ). cond (eqb n 0) (length b - trailer_size - s) 0) e.number_is e.length_is in
     let fields = c.file_fields.ensures ∙ (λ t. start t ∷ (e.length_is t ∷ (e.records_are t ∷ (e.sites_are t ∷ (e.items_are t ∷ []))))) in
-    let count = c.wide.ensures ∙ e.items_are ∙ sym (base_count b) in
-    let values = ap (λ (vs : List ℤ). c.wide.result ∷ value_words vs) e.beside.base_is ∙ listed_words items_most c.wide.result (history_read b).base count in
+    let count = e.items_are ∙ sym (base_count b) in
+    let values = ap (λ (vs : List ℤ). g.items ∷ value_words vs) e.beside.base_is ∙ listed_words items_most g.items (history_read b).base count in
     file_read_lem b g.number c.file_fields.result g.places c.put_base.new.w e.number_is fields e.beside.places_are
     (c.put_base.ensures.1 ∙ ap₂ {C = List ℕ} (λ (f : Bool) (l : List ℕ). flag_word f ∷ l) e.beside.folded_is values)

@@ -6,6 +6,7 @@ use lib.IntN.{ℤ}
 use Rattle.limits.specs.Limits.{items_most}
 use Rattle.network_readers.specs.Readers.{table_answer}
 use Rattle.c_answers.specs.Answers.{value_words}
+use Rattle.c_answers.specs.Asked.{table_count}
 use Rattle.c_answers.proofs.Words.{listed_words}
 use borrow.Author.Rules.{rules}
 use Rattle.gevrolen_c.proofs.gevrolen_table.Goals as goal
@@ -21,4 +22,4 @@ returns c =
     let g = c.table.result in
     let e = c.table.ensures in
     let said = c.put_table.ensures in
-    (rw said.0 e.performed, said.1 ∙ ap (λ (vs : List ℤ). g.count ∷ value_words vs) e.values_are ∙ listed_words items_most g.count (table_answer A.site A.state.now) e.count_is)
+    (rw said.0 e.performed, said.1 ∙ ap (λ (vs : List ℤ). table_count g ∷ value_words vs) e.values_are ∙ listed_words items_most (table_count g) (table_answer A.site A.state.now) e.count_is)

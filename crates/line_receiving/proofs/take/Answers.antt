@@ -13,4 +13,4 @@ returns-then-n-eq0 c = empty_step c.args.l.now c.held_word-n.result c.held_word-
 
 pub returns : goal.returns
 returns c =
-    taken_by c.args.l.now c.if-l-ne-WORDS.false c.held_word-n.result c.held_word-n.ensures c.if-n-eq0.false c.store.new.w c.store.ensures c.less.result c.less.ensures c.word.ensures c.store-2.new.w c.store-2.ensures c.shift.new.w c.shift.auto.w c.shift.ensures
+    taken_by c.args.l.now c.if-l-ne-WORDS.false c.held_word-n.result c.held_word-n.ensures c.if-n-eq0.false c.store.new.w c.store.ensures c.saturating_sub.result c.saturating_sub.ensures c.word.ensures c.store-2.new.w c.store-2.ensures c.shift.new.w c.shift.auto.w c.shift.ensures

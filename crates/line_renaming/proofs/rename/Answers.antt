@@ -1,7 +1,7 @@
 -- `rename` goes over the messages: those before i have their new names.
 use mathlib.Core.Path.{◌≡◌, sym, subst, ◌∙◌}
 use mathlib.Core.List.{List}
-use Prim.Native.Nat.{ℕ, ◌+◌, ◌-◌, min}
+use Prim.Native.Nat.{ℕ, ◌+◌, min}
 use native.Mathlib.Omega.{arith}
 use lib.ListN.{get_or}
 use Rattle.limits.specs.Limits.{held_most}
@@ -20,24 +20,24 @@ returns-then-l-ne-WORDS c =
 pub loop-i-init : goal.loop-i-init
 loop-i-init c =
     let A = c.args in
-    (omega arith, renamed_none A.names.now A.l.now c.if-l-ne-WORDS.false)
+    renamed_none A.names.now A.l.now c.if-l-ne-WORDS.false
 
 pub rename_message-requires : goal.rename_message-requires
 rename_message-requires c =
-    record { sized = c.loop-i.invariant.1.sized; few = omega (arith, c.loop-i-test.true, c.held-held.ensures.1) }
+    record { sized = c.loop-i.invariant.sized; few = omega (arith, c.loop-i-test.true, c.held-i-end.ensures.1) }
 
 pub loop-i-preserved : goal.loop-i-preserved
 loop-i-preserved c =
     let A = c.args in
-    let next = renamed_next A.names.now A.l.now c.loop-i.l c.loop-i.i c.loop-i.invariant.1 (omega (arith, c.loop-i-test.true, c.held-held.ensures.1)) in
-    (omega arith, subst (λ (v : List ℕ). RenamedBelow A.names.now A.l.now v (c.loop-i.i + 1)) (sym c.rename_message.ensures) next)
+    let next = renamed_next A.names.now A.l.now c.loop-i.l c.loop-i.i c.loop-i.invariant (omega (arith, c.loop-i-test.true, c.held-i-end.ensures.1)) in
+    subst (λ (v : List ℕ). RenamedBelow A.names.now A.l.now v (c.loop-i.i + 1)) (sym c.rename_message.ensures) next
 
 pub shape_of-l : goal.shape_of-l
 shape_of-l c =
-    c.loop-i.invariant.1.sized ∙ sym c.if-l-ne-WORDS.false
+    c.loop-i.invariant.sized ∙ sym c.if-l-ne-WORDS.false
 
 pub returns : goal.returns
 returns c =
     let w = c.args.l.now in
-    let all : c.loop-i.i ≡ min (get_or w 0 0) held_most = omega (arith, messages_length w, c.held-held.ensures.0, c.loop-i.invariant.0, c.loop-i-test.false) in
-    renamed_all c.args.names.now w c.loop-i.l c.loop-i.i c.loop-i.invariant.1 all c.requires.none c.if-l-ne-WORDS.false
+    let all : c.loop-i.i ≡ min (get_or w 0 0) held_most = omega (arith, messages_length w, c.held-i-end.ensures.0) in
+    renamed_all c.args.names.now w c.loop-i.l c.loop-i.i c.loop-i.invariant all c.requires.none c.if-l-ne-WORDS.false

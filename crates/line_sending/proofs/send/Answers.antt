@@ -1,4 +1,5 @@
 -- `send` puts a message behind those held and counts it.
+use mathlib.Core.Path.{refl}
 use native.Mathlib.Omega.{arith}
 use Rattle.words.proofs.Steps.{not_stepped}
 use Rattle.lines.specs.Lines.{sent_or_same}
@@ -16,4 +17,4 @@ returns-then-n-ge-MESSAGES c = full_step c.args.l.now c.held_word-n.result c.hel
 pub returns : goal.returns
 returns c =
     let A = c.args in
-    sent_by A.l.now c.if-l-ne-WORDS.false c.held_word-n.result c.held_word-n.ensures c.if-n-ge-MESSAGES.false c.wide.result c.wide.ensures c.put_message.new.w c.put_message.auto.w (message_of A.m) c.put_message.ensures.0 c.put_message.ensures.1 c.store.new.w c.store.ensures
+    sent_by A.l.now c.if-l-ne-WORDS.false c.held_word-n.result c.held_word-n.ensures c.if-n-ge-MESSAGES.false c.held_word-n.result refl c.put_message.new.w c.put_message.auto.w (message_of A.m) c.put_message.ensures.0 c.put_message.ensures.1 c.store.new.w c.store.ensures

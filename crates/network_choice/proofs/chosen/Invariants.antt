@@ -6,6 +6,3 @@ use Rattle.network_choice.proofs.chosen.Given as goal
 
 abbrev pub invariant-loop-p : goal.invariant-loop-p
 invariant-loop-p l = (l.p ≤ sites_most) × Leading (network_in l.state) l.j l.p l.best
-
-abbrev pub decreases-loop-p : goal.decreases-loop-p
-decreases-loop-p l = sites_most - l.p

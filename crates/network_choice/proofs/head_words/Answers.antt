@@ -1,4 +1,5 @@
 -- `head_words` reads the name of the line's oldest message: the record that it names has its timestamp, or it has one of its own.
+use mathlib.Core.Path.{refl}
 use Rattle.network_layout.specs.At.{AtLine, HasRecord}
 use Rattle.network_layout.proofs.OnNetwork.{at_record}
 use Rattle.network_choice.proofs.ChoiceLaws.{parent_line, head_recorded, first_dummy, stamp_commit, stamp_dummy}
@@ -13,14 +14,14 @@ stamp_at-requires c =
     let k = c.line_number-k in
     let m = c.line_first_name-name in
     let held = head_recorded c.args.state.now c.args.j c.requires.free c.args.p c.requires.line k.result k.ensures m.result m.ensures c.if-name-lt-RECORDS.true in
-    let at : HasRecord c.args.state.now c.wide.result = at_record c.args.state.now c.requires.free.net m.result c.wide.result c.wide.ensures held in
+    let at : HasRecord c.args.state.now m.result = at_record c.args.state.now c.requires.free.net m.result m.result refl held in
     search rules
 
 pub returns-then-name-lt-RECORDS : goal.returns-then-name-lt-RECORDS
 returns-then-name-lt-RECORDS c =
     let k = c.line_number-k in
     let m = c.line_first_name-name in
-    stamp_commit c.args.state.now c.args.j c.requires.free c.args.p c.requires.line k.result k.ensures m.result m.ensures c.if-name-lt-RECORDS.true _ c.wide.result c.wide.ensures c.stamp_at.ensures.meant
+    stamp_commit c.args.state.now c.args.j c.requires.free c.args.p c.requires.line k.result k.ensures m.result m.ensures c.if-name-lt-RECORDS.true _ m.result refl c.stamp_at.ensures.meant
 
 pub line_first_stamp-requires : goal.line_first_stamp-requires
 line_first_stamp-requires c =

@@ -6,7 +6,7 @@ use Rattle.network_collect.proofs.collect_in.Goals as goal
 
 pub returns-then-not-shaped : goal.returns-then-not-shaped
 returns-then-not-shaped c =
-    collect_unshaped c.args.state.now c.refused.result (sym c.shaped.ensures ∙ not-true c.shaped.result c.if-not-shaped.true-raw) c.refused.ensures.0 c.refused.ensures.1
+    collect_unshaped c.args.state.now (sym c.shaped.ensures ∙ not-true c.shaped.result c.if-not-shaped.true-raw)
 
 pub collect_on-requires : goal.collect_on-requires
 collect_on-requires c = record { sized = c.requires; formed = sym c.shaped.ensures ∙ not-false c.shaped.result c.if-not-shaped.false-raw }

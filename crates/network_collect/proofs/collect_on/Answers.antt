@@ -32,7 +32,7 @@ pub returns-then-some_gone : goal.returns-then-some_gone
 returns-then-some_gone c =
     let w = c.args.state.now in
     let six = number w c.requires c.names-names.result c.names-names.ensures c.some_gone.result true c.some_gone.ensures c.if-some_gone.true in
-    collect_refused w c.refused.result c.requires six c.refused.ensures.0 c.refused.ensures.1
+    collect_refused w c.requires six
 
 pub fold_away-requires : goal.fold_away-requires
 fold_away-requires c =
@@ -42,4 +42,4 @@ pub returns : goal.returns
 returns c =
     let w = c.args.state.now in
     let none = number w c.requires c.names-names.result c.names-names.ensures c.some_gone.result false c.some_gone.ensures c.if-some_gone.false in
-    collect_done w (record { number = 0; removed = c.fold_away.result }) c.requires none c.fold_away.new.state refl c.fold_away.ensures
+    collect_done w c.requires none c.fold_away.new.state c.fold_away.result c.fold_away.ensures

@@ -4,6 +4,7 @@ use mathlib.Core.List.{map}
 use Prim.Native.Nat.{ℕ, ◌<◌}
 use native.Mathlib.Omega.{arith}
 use lib.ListN.{length}
+use Rattle.causes.proofs.Refusals.{passed_on, refusal_some}
 use Rattle.limits.specs.Limits.{records_most}
 use Rattle.site_operations.specs.InWords.{ops_in}
 use Rattle.lists.specs.Numbers.{first_number}
@@ -16,14 +17,14 @@ use Rattle.network_sending.proofs.SendLaws.{full_by_mask}
 use Rattle.network_commit.proofs.CommitLaws.{commit_op, commit_booked, commit_full, commit_largest, commit_free}
 use borrow.Author.Rules.{rules}
 use Rattle.network_commit.proofs.commit_cause.Goals as goal
-use Rattle.network_commit.proofs.commit_cause.Goals.{After-count_at_most, After-some_line_full, Else-cause-ne0, Else-state-ge-RECORDS, Start}
+use Rattle.network_commit.proofs.commit_cause.Goals.{After-count_at_most, After-some_line_full, In_ok-ops_number, Else-state-ge-RECORDS, Start}
 
 at : (c : Start) (k : ℕ) → k ≡ c.args.site → AtSite c.args.state.now k
 at c k same = at_site c.args.state.now c.requires.at.net c.args.site k same c.requires.at.there
 
 -- none of the operations is refused
-pass : (c : Else-cause-ne0) → first_number (map (op_number (network_in c.args.state.now).items c.args.site) (ops_in c.args.n c.args.ops.now)) ≡ 0
-pass c = sym c.ops_number-cause.ensures ∙ c.if-cause-ne0.false
+pass : (c : In_ok-ops_number) → first_number (map (op_number (network_in c.args.state.now).items c.args.site) (ops_in c.args.n c.args.ops.now)) ≡ 0
+pass c = sym c.in_ok-ops_number.ensures
 
 -- the history has room
 room : (c : Else-state-ge-RECORDS) → length (network_in c.args.state.now).history < records_most
@@ -40,16 +41,18 @@ asked c =
 largest : (c : After-count_at_most) → c.count_at_most.result ≡ count_at_most (network_in c.args.state.now) c.args.site
 largest c = c.count_at_most.ensures ∙ ap (count_at_most (network_in c.args.state.now)) c.wide.ensures
 
-pub returns-then-cause-ne0 : goal.returns-then-cause-ne0
-returns-then-cause-ne0 c =
+pub returns-in_err-ops_number : goal.returns-in_err-ops_number
+returns-in_err-ops_number c =
     let A = c.args in
-    let n = network_in A.state.now in
-    c.ops_number-cause.ensures ∙ commit_op n A.site (ops_in A.n A.ops.now) (λ z. c.if-cause-ne0.true (c.ops_number-cause.ensures ∙ z))
+    let x = c.in_err-ops_number.field-0.0 in
+    passed_on c.from_residual.result x c.from_residual.ensures.1
+    ∙ c.in_err-ops_number.ensures
+    ∙ commit_op (network_in A.state.now) A.site (ops_in A.n A.ops.now) (λ z. refusal_some x (c.in_err-ops_number.ensures ∙ z))
 
 pub returns-then-state-ge-RECORDS : goal.returns-then-state-ge-RECORDS
 returns-then-state-ge-RECORDS c =
     let A = c.args in
-    sym (commit_booked (network_in A.state.now) A.site (ops_in A.n A.ops.now) (pass (goal.at.returns-then-state-ge-RECORDS c).Else-cause-ne0) (omega (arith, c.if-state-ge-RECORDS.true, records_count A.state.now)))
+    sym (commit_booked (network_in A.state.now) A.site (ops_in A.n A.ops.now) (pass (goal.at.returns-then-state-ge-RECORDS c).In_ok-ops_number) (omega (arith, c.if-state-ge-RECORDS.true, records_count A.state.now)))
 
 pub some_line_full-requires : goal.some_line_full-requires
 some_line_full-requires c = let site = at (goal.at.some_line_full-requires c).Start c.args.site refl in record { sized = site.sized; ranged = site.ranged; from = site.few }
@@ -57,7 +60,7 @@ some_line_full-requires c = let site = at (goal.at.some_line_full-requires c).St
 pub returns-then-some_line_full : goal.returns-then-some_line_full
 returns-then-some_line_full c =
     let A = c.args in
-    sym (commit_full (network_in A.state.now) A.site (ops_in A.n A.ops.now) (pass (goal.at.returns-then-some_line_full c).Else-cause-ne0) (room (goal.at.returns-then-some_line_full c).Else-state-ge-RECORDS) (sym (asked (goal.at.returns-then-some_line_full c).After-some_line_full) ∙ c.if-some_line_full.true))
+    sym (commit_full (network_in A.state.now) A.site (ops_in A.n A.ops.now) (pass (goal.at.returns-then-some_line_full c).In_ok-ops_number) (room (goal.at.returns-then-some_line_full c).Else-state-ge-RECORDS) (sym (asked (goal.at.returns-then-some_line_full c).After-some_line_full) ∙ c.if-some_line_full.true))
 
 pub count_at_most-requires : goal.count_at_most-requires
 count_at_most-requires c =
@@ -67,9 +70,9 @@ count_at_most-requires c =
 pub returns-then-count_at_most : goal.returns-then-count_at_most
 returns-then-count_at_most c =
     let A = c.args in
-    sym (commit_largest (network_in A.state.now) A.site (ops_in A.n A.ops.now) (pass (goal.at.returns-then-count_at_most c).Else-cause-ne0) (room (goal.at.returns-then-count_at_most c).Else-state-ge-RECORDS) (sym (asked (goal.at.returns-then-count_at_most c).After-some_line_full) ∙ c.if-some_line_full.false) (sym (largest (goal.at.returns-then-count_at_most c).After-count_at_most) ∙ c.if-count_at_most.true))
+    sym (commit_largest (network_in A.state.now) A.site (ops_in A.n A.ops.now) (pass (goal.at.returns-then-count_at_most c).In_ok-ops_number) (room (goal.at.returns-then-count_at_most c).Else-state-ge-RECORDS) (sym (asked (goal.at.returns-then-count_at_most c).After-some_line_full) ∙ c.if-some_line_full.false) (sym (largest (goal.at.returns-then-count_at_most c).After-count_at_most) ∙ c.if-count_at_most.true))
 
 pub returns : goal.returns
 returns c =
     let A = c.args in
-    sym (commit_free (network_in A.state.now) A.site (ops_in A.n A.ops.now) (pass (goal.at.returns c).Else-cause-ne0) (room (goal.at.returns c).Else-state-ge-RECORDS) (sym (asked (goal.at.returns c).After-some_line_full) ∙ c.if-some_line_full.false) (sym (largest (goal.at.returns c).After-count_at_most) ∙ c.if-count_at_most.false))
+    sym (commit_free (network_in A.state.now) A.site (ops_in A.n A.ops.now) (pass (goal.at.returns c).In_ok-ops_number) (room (goal.at.returns c).Else-state-ge-RECORDS) (sym (asked (goal.at.returns c).After-some_line_full) ∙ c.if-some_line_full.false) (sym (largest (goal.at.returns c).After-count_at_most) ∙ c.if-count_at_most.false))

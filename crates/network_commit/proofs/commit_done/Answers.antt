@@ -63,7 +63,6 @@ returns c =
     let named : cond (ltb name records_most) (commitMessage name) (dummy t) ≡ commitMessage name
     = ap (λ (b : Bool). cond b (commitMessage name) (dummy t)) (lt-ltb name records_most (omega (arith, records_count w, c.requires.allowed.room))) in
     record {
-      number_is = refl;
       stamp_is = done.ensures.stamp_is;
       values_are = c.values_read-given.ensures.values_value ∙ ap values_read done.ensures.ops_are;
       filled = c.values_read-given.ensures.filled;

@@ -7,7 +7,7 @@ use Rattle.network_commit.proofs.commit_in.Goals as goal
 pub returns-then-not-shaped : goal.returns-then-not-shaped
 returns-then-not-shaped c =
     let A = c.args in
-    commit_unshaped A.state.now A.site A.kinds.now A.items.now A.values.now c.refused.result c.refused.ensures (sym c.shaped.ensures ∙ not-true c.shaped.result c.if-not-shaped.true-raw)
+    commit_unshaped A.state.now A.site A.kinds.now A.items.now A.values.now (sym c.shaped.ensures ∙ not-true c.shaped.result c.if-not-shaped.true-raw)
 
 pub commit_on-requires : goal.commit_on-requires
 commit_on-requires c =

@@ -5,6 +5,7 @@ use mathlib.Core.List.{List}
 use native.Mathlib.Omega.{arith}
 use lib.ListN.{length}
 use borrow.Author.Tests.{leb-false, not-true, not-false}
+use Rattle.causes.specs.declared.Refusal.TheVariants.{NoSuchSite, WrongOperations}
 use Rattle.site_operations.specs.Operations.{Op}
 use Rattle.lists.proofs.Numbers.{flip_false, flip_true}
 use Rattle.protocol.specs.Steps.{no_such_site, wrong_lists}
@@ -33,14 +34,14 @@ returns-then-not-is_site c =
     let A = c.args in
     let n = network_in A.state.now in
     let none = flip_false c.is_site.result (no_such_site n A.site) c.is_site.ensures (not-true c.is_site.result c.if-not-is_site.true-raw) in
-    commit_refused A.state.now A.site A.kinds.now A.items.now A.values.now c.requires 7 c.refused.result c.refused.ensures (sym (commit_nowhere n A.site A.kinds.now A.items.now A.values.now none)) (λ z. omega arith)
+    commit_refused A.state.now A.site A.kinds.now A.items.now A.values.now c.requires NoSuchSite (sym (commit_nowhere n A.site A.kinds.now A.items.now A.values.now none))
 
 pub returns-then-wrong_lists : goal.returns-then-wrong_lists
 returns-then-wrong_lists c =
     let A = c.args in
     let n = network_in A.state.now in
     let wrong = sym c.wrong_lists.ensures ∙ c.if-wrong_lists.true in
-    commit_refused A.state.now A.site A.kinds.now A.items.now A.values.now c.requires 8 c.refused-then-wrong_lists.result c.refused-then-wrong_lists.ensures (sym (commit_lists n A.site A.kinds.now A.items.now A.values.now (there (goal.at.returns-then-wrong_lists c).Else-not-is_site) wrong)) (λ z. omega arith)
+    commit_refused A.state.now A.site A.kinds.now A.items.now A.values.now c.requires WrongOperations (sym (commit_lists n A.site A.kinds.now A.items.now A.values.now (there (goal.at.returns-then-wrong_lists c).Else-not-is_site) wrong))
 
 pub op_words-ops-requires : goal.op_words-ops-requires
 op_words-ops-requires c = lists (goal.at.op_words-ops-requires c).Else-wrong_lists

@@ -7,7 +7,7 @@ use Rattle.network_dummy.proofs.dummy_in.Goals as goal
 pub returns-then-not-shaped : goal.returns-then-not-shaped
 returns-then-not-shaped c =
     let A = c.args in
-    dummy_unshaped A.state.now A.site c.refused.result c.refused.ensures (sym c.shaped.ensures ∙ not-true c.shaped.result c.if-not-shaped.true-raw)
+    dummy_unshaped A.state.now A.site (sym c.shaped.ensures ∙ not-true c.shaped.result c.if-not-shaped.true-raw)
 
 pub dummy_on-requires : goal.dummy_on-requires
 dummy_on-requires c =

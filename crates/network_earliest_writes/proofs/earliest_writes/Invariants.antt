@@ -14,6 +14,3 @@ noted_below state site p = note_messages (network_in state) (replicate items_mos
 
 abbrev pub invariant-loop-p : goal.invariant-loop-p
 invariant-loop-p l = (l.p ≤ sites_most) × (length l.writers ≡ items_most) × (l.writers ≡ noted_below l.state l.site l.p)
-
-abbrev pub decreases-loop-p : goal.decreases-loop-p
-decreases-loop-p l = sites_most - l.p

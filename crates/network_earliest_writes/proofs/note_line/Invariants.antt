@@ -10,6 +10,3 @@ invariant-loop-i l =
     (l.i ≤ l.n)
     × (length l.writers ≡ length l.initial.writers)
     × (note_messages (network_in l.state) l.initial.writers (messages_on l.state l.k) ≡ note_messages (network_in l.state) l.writers (drop l.i (messages_on l.state l.k)))
-
-abbrev pub decreases-loop-i : goal.decreases-loop-i
-decreases-loop-i l = l.n - l.i

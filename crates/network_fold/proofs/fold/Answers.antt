@@ -29,8 +29,8 @@ item_count-items-requires c = c.requires.at.sized
 pub loop-x-init : goal.loop-x-init
 loop-x-init c = (omega arith, c.requires.at, refl)
 
-pub bounds-table-wide : goal.bounds-table-wide
-bounds-table-wide c = omega (arith, in_table (goal.at.bounds-table-wide c).At-loop-x c.loop-x-test.true, c.wide.ensures)
+pub bounds-table-x : goal.bounds-table-x
+bounds-table-x c = omega (arith, in_table (goal.at.bounds-table-x c).At-loop-x c.loop-x-test.true)
 
 pub fold_item-requires : goal.fold_item-requires
 fold_item-requires c =
@@ -42,7 +42,7 @@ fold_item-requires c =
     record {
       at = c.loop-x.invariant.1;
       item = record { sized = c.loop-x.invariant.1.sized; there = omega (arith, same_items w v x same, c.item_count-items.ensures, c.loop-x-test.true) };
-      last = rw c.wide.ensures (still_last w v x same x (get_or table x 0) (c.last_writes-table.ensures.each x (in_table (goal.at.fold_item-requires c).At-loop-x c.loop-x-test.true)));
+      last = (still_last w v x same x (get_or table x 0) (c.last_writes-table.ensures.each x (in_table (goal.at.fold_item-requires c).At-loop-x c.loop-x-test.true)));
     }
 
 pub loop-x-preserved : goal.loop-x-preserved

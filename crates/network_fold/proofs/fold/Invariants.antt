@@ -7,6 +7,3 @@ use Rattle.network_fold.proofs.fold.Given as goal
 
 abbrev pub invariant-loop-x : goal.invariant-loop-x
 invariant-loop-x l = (l.x ≤ l.items) × AtState l.state × (network_in l.state ≡ partly (network_in l.initial.state) l.x)
-
-abbrev pub decreases-loop-x : goal.decreases-loop-x
-decreases-loop-x l = l.items - l.x

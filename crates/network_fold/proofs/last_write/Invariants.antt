@@ -10,6 +10,3 @@ use Rattle.network_fold.proofs.last_write.Given as goal
 
 abbrev pub invariant-loop-i : goal.invariant-loop-i
 invariant-loop-i l = (l.i ≤ l.n) × (to_z w32 l.value ≡ last_or l.item (take l.i (record_in l.w).ops) (pos 0))
-
-abbrev pub decreases-loop-i : goal.decreases-loop-i
-decreases-loop-i l = l.n - l.i

@@ -9,15 +9,15 @@ use Rattle.network_last_writes.specs.LastWrites.{LastWrites}
 use Rattle.network_last_writes.proofs.LastWriteLaws.{none_noted}
 use Rattle.network_last_writes.proofs.last_writes.Goals as goal
 
-pub record_count-requires : goal.record_count-requires
-record_count-requires c = c.requires.at.sized
+pub record_count-made-requires : goal.record_count-made-requires
+record_count-made-requires c = c.requires.at.sized
 
 pub loop-j-init : goal.loop-j-init
 loop-j-init c = (omega arith, none_noted (network_in c.args.state.now))
 
 pub note_next-requires : goal.note_next-requires
 note_next-requires c =
-    let made_is : c.wide-made.result ≡ length (network_in c.args.state.now).history = omega (arith, records_count c.args.state.now, c.wide-made.ensures, c.record_count.ensures) in
+    let made_is : c.record_count-made.result ≡ length (network_in c.args.state.now).history = omega (arith, records_count c.args.state.now, c.record_count-made.ensures) in
     record {
       folding = c.requires;
       next = record {
@@ -33,7 +33,7 @@ loop-j-preserved c = (omega arith, c.note_next.ensures)
 
 pub returns : goal.returns
 returns c =
-    let made_is : c.wide-made.result ≡ length (network_in c.args.state.now).history = omega (arith, records_count c.args.state.now, c.wide-made.ensures, c.record_count.ensures) in
+    let made_is : c.record_count-made.result ≡ length (network_in c.args.state.now).history = omega (arith, records_count c.args.state.now, c.record_count-made.ensures) in
     let n = network_in c.args.state.now in
     let all : c.loop-j.j ≡ length n.history = omega (arith, made_is, c.loop-j-test.false, c.loop-j.invariant.0) in
     subst (λ (j : ℕ). LastWrites n j c.loop-j.table) all c.loop-j.invariant.1

@@ -5,6 +5,3 @@ use Rattle.network_last_writes.proofs.last_writes.Given as goal
 
 abbrev pub invariant-loop-j : goal.invariant-loop-j
 invariant-loop-j l = (l.j ≤ l.made) × LastWrites (network_in l.state) l.j l.table
-
-abbrev pub decreases-loop-j : goal.decreases-loop-j
-decreases-loop-j l = l.made - l.j

@@ -1,14 +1,12 @@
 -- `made_at` asks for the record's site.
 use mathlib.Core.Path.{ap, ◌∙◌}
 use mathlib.Core.List.{List}
-use Prim.Native.Nat.{ℕ, ◌*◌}
-use Rattle.words.specs.Words.{part}
-use Rattle.records.specs.InWords.{record_in, record_size}
+use Prim.Native.Nat.{ℕ}
+use Rattle.records.specs.InWords.{record_in}
 use Rattle.network_line_shape.proofs.LineLaws.{commit_by}
 use Rattle.network_line_shape.proofs.made_at.Goals as goal
 
 pub returns : goal.returns
 returns c =
     let A = c.args in
-    let at = ap (λ (j : ℕ). part A.kept.now (j * record_size) record_size) c.wide.ensures in
-    commit_by A.kept.now A.made A.p A.k c.requires.there c.site.result (c.site.ensures ∙ ap (λ (x : List ℕ). (record_in x).site) (c.chunk.ensures ∙ at))
+    commit_by A.kept.now A.made A.p A.k c.requires.there c.site.result (c.site.ensures ∙ ap (λ (x : List ℕ). (record_in x).site) c.chunk.ensures)

@@ -1,7 +1,7 @@
 -- `values` lays one value after another.
 use mathlib.Core.Path.{◌≡◌, refl, sym, ap, ap₂, ◌∙◌}
 use mathlib.Core.List.{List}
-use Prim.Native.Nat.{ℕ, ◌<◌, ◌-◌}
+use Prim.Native.Nat.{ℕ, ◌<◌}
 use lib.IntN.{ℤ, pos}
 use lib.ListN.{length, get_or, set, take, length-map, length-set, get_or-map}
 use mir.Val.{to_z, of_z}

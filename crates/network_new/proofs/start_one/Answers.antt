@@ -1,6 +1,6 @@
 -- `start_one` lays the words of a site at its start after those before it.
-use mathlib.Core.Path.{ap}
-use Prim.Native.Nat.{ℕ, ◌*◌}
+use mathlib.Core.Path.{refl}
+use Prim.Native.Nat.{◌*◌}
 use Rattle.site.specs.InWords.{site_size}
 use Rattle.network_new.proofs.StartWords.{one_started}
 use Rattle.network_new.proofs.start_one.Goals as goal
@@ -8,4 +8,4 @@ use Rattle.network_new.proofs.start_one.Goals as goal
 pub returns : goal.returns
 returns c =
     let A = c.args in
-    one_started A.w.now c.lay.new.w A.i (c.wide.result * site_size) c.requires (ap (λ (n : ℕ). n * site_size) c.wide.ensures) c.lay.ensures
+    one_started A.w.now c.lay.new.w A.i (A.i * site_size) c.requires refl c.lay.ensures

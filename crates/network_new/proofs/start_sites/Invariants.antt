@@ -6,7 +6,4 @@ use Rattle.network_new.specs.New.{Started}
 use Rattle.network_new.proofs.start_sites.Given as goal
 
 abbrev pub invariant-loop-i : goal.invariant-loop-i
-invariant-loop-i l = (l.i ≤ l.n) × (length l.w ≡ sites_size) × Started l.w l.i
-
-abbrev pub decreases-loop-i : goal.decreases-loop-i
-decreases-loop-i l = l.n - l.i
+invariant-loop-i l = Started l.w l.i

@@ -8,17 +8,17 @@ use Rattle.network_new_lines.proofs.ClearWords.{none_cleared}
 use Rattle.network_new_lines.proofs.clear_lines.Goals as goal
 
 pub loop-k-init : goal.loop-k-init
-loop-k-init c = (omega arith, c.requires, none_cleared c.args.w.now)
+loop-k-init c = none_cleared c.args.w.now
 
 pub clear_one-requires : goal.clear_one-requires
 clear_one-requires c =
-    record { sized = c.loop-k.invariant.1; room = omega arith; so_far = c.loop-k.invariant.2 }
+    record { sized = c.loop-k.auto.w ∙ c.requires; room = omega arith; so_far = c.loop-k.invariant }
 
 pub loop-k-preserved : goal.loop-k-preserved
 loop-k-preserved c =
-    (omega arith, c.clear_one.auto.w ∙ c.loop-k.invariant.1, c.clear_one.ensures)
+    c.clear_one.ensures
 
 pub returns : goal.returns
 returns c =
     let all : c.loop-k.k ≡ lines_most = omega arith in
-    subst (λ (k : ℕ). Cleared c.loop-k.w k) all c.loop-k.invariant.2
+    subst (λ (k : ℕ). Cleared c.loop-k.w k) all c.loop-k.invariant

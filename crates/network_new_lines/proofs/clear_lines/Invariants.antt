@@ -7,7 +7,4 @@ use Rattle.network_new_lines.specs.Cleared.{Cleared}
 use Rattle.network_new_lines.proofs.clear_lines.Given as goal
 
 abbrev pub invariant-loop-k : goal.invariant-loop-k
-invariant-loop-k l = (l.k ≤ lines_most) × (length l.w ≡ lines_size) × Cleared l.w l.k
-
-abbrev pub decreases-loop-k : goal.decreases-loop-k
-decreases-loop-k l = lines_most - l.k
+invariant-loop-k l = Cleared l.w l.k

@@ -14,5 +14,5 @@ returns c =
     let told : c.is_earlier.result ≡ is_sooner n c.args.r c.args.noted
     = c.is_earlier.ensures
     ∙ ap is_earlier (compared c.args.state.now c.args.places c.requires.places_are c.compare_records-found.ensures)
-    ∙ ap₂ {C = Bool} (is_sooner n) c.wide.ensures c.wide-2.ensures in
+    ∙ ap₂ {C = Bool} (is_sooner n) refl refl in
     (refl, differs c.is_earlier.result c.args.latest ∙ ap (λ (b : Bool). cond c.args.latest (not b) b) told)

@@ -19,7 +19,7 @@ meant_ops : (n : Network) (k r : ℕ) (q : Record) → q ≡ nth_record n k → 
 meant_ops n k r q e f = ap (λ (s : Record). s.ops) e ∙ ap (λ (m : ℕ). (nth_record n m).ops) f
 
 pub record_at-w-requires : goal.record_at-w-requires
-record_at-w-requires c = rw c.wide.ensures c.requires.has
+record_at-w-requires c = c.requires.has
 
 pub loop-a-init : goal.loop-a-init
 loop-a-init c =
@@ -38,12 +38,12 @@ loop-a-preserved c =
     let n = network_in A.state.now in
     let i = c.loop-a.a in
     let ops = (nth_record n A.r).ops in
-    let same = meant_ops n c.wide.result A.r _ c.record_at-w.ensures.meant c.wide.ensures in
+    let same = meant_ops n A.r A.r _ c.record_at-w.ensures.meant refl in
     let there : i < length ops = omega (arith, c.count-n.ensures.0 ∙ ap length same, c.loop-a-test.true) in
     let written : c.written_item.result ≡ written_item (get_or ops i no_op)
     = c.written_item.ensures
     ∙ ap written_item (op_there _ _ c.record_at-w.ensures.meant i (omega (arith, c.count-n.ensures.0, c.loop-a-test.true)))
-    ∙ ap (λ (os : List Op). written_item (get_or os i no_op)) (ap (λ (k : ℕ). (nth_record n k).ops) c.wide.ensures) in
+    ∙ ap (λ (os : List Op). written_item (get_or os i no_op)) (ap (λ (k : ℕ). (nth_record n k).ops) refl) in
     let told : c.note_write-met.new.table ≡ note_item A.latest n A.r c.loop-a.table (written_item (get_or ops i no_op))
     = c.note_write-met.ensures.0 ∙ ap (note_item A.latest n A.r c.loop-a.table) written in (
       omega arith,
@@ -59,5 +59,5 @@ pub returns : goal.returns
 returns c =
     let n = network_in c.args.state.now in
     let ops = (nth_record n c.args.r).ops in
-    let same = meant_ops n c.wide.result c.args.r _ c.record_at-w.ensures.meant c.wide.ensures in
+    let same = meant_ops n c.args.r c.args.r _ c.record_at-w.ensures.meant refl in
     fold_done _ _ _ ops c.loop-a.a c.loop-a.invariant.2 (omega (arith, c.count-n.ensures.0 ∙ ap length same, c.loop-a-test.false))

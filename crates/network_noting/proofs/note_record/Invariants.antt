@@ -17,6 +17,3 @@ invariant-loop-a l =
     × (length l.table ≡ length l.initial.table)
     × (note_ops l.latest (network_in l.state) l.r l.initial.table (ops_of l.state l.r) ≡ note_ops l.latest (network_in l.state) l.r l.table (drop l.a (ops_of l.state l.r)))
     × IsMet l.state l.r l.latest l.met.other l.met.replaces
-
-abbrev pub decreases-loop-a : goal.decreases-loop-a
-decreases-loop-a l = l.n - l.a

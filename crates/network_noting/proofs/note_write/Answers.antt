@@ -1,5 +1,5 @@
 -- `note_write` notes the record where it replaces the one noted, or none is.
-use mathlib.Core.Path.{◌≡◌, sym, ap, ◌∙◌}
+use mathlib.Core.Path.{◌≡◌, sym, ap, ◌∙◌, refl}
 use Prim.Native.Nat.{◌<◌}
 use native.Mathlib.Omega.{arith}
 use lib.ListN.{length, get_or}
@@ -12,16 +12,14 @@ use Rattle.network_noting.proofs.note_write.Goals as goal
 
 pub returns-then-table-x : goal.returns-then-table-x
 returns-then-table-x c =
-    let read = c.wide-x in
     let A = c.args in
-    (none_there A.latest (network_in A.state.now) A.r A.table.now A.item read.result read.ensures c.if-table-x.true, c.requires.met)
+    (none_there A.latest (network_in A.state.now) A.r A.table.now A.item A.item refl c.if-table-x.true, c.requires.met)
 
 pub returns-then-record_count-noted : goal.returns-then-record_count-noted
 returns-then-record_count-noted c =
-    let read = c.wide-x in
     let A = c.args in
     let w = A.state.now in
-    (first_there A.latest (network_in w) A.r A.table.now A.item read.result read.ensures (omega (arith, records_count w, c.record_count.ensures, c.if-record_count-noted.true)), c.requires.met)
+    (first_there A.latest (network_in w) A.r A.table.now A.item A.item refl (omega (arith, records_count w, c.record_count.ensures, c.if-record_count-noted.true)), c.requires.met)
 
 pub meet-next-requires : goal.meet-next-requires
 meet-next-requires c =
@@ -38,16 +36,16 @@ pub returns-then-next : goal.returns-then-next
 returns-then-next c =
     let A = c.args in
     let n = network_in A.state.now in
-    let x = c.wide-x.result in
+    let x = A.item in
     let there : get_or A.table.now x 0 < length n.history = omega (arith, records_count A.state.now, c.record_count.ensures, c.if-record_count-noted.false) in
     let told : c.meet-next.result.replaces ≡ replaces A.latest n A.r (get_or A.table.now x 0) = c.meet-next.ensures.1 ∙ ap (replaces A.latest n A.r) c.meet-next.ensures.0 in
-    (replaced_there A.latest n A.r A.table.now A.item x c.wide-x.ensures there (sym told ∙ c.if-next.true), c.meet-next.ensures.1)
+    (replaced_there A.latest n A.r A.table.now A.item x refl there (sym told ∙ c.if-next.true), c.meet-next.ensures.1)
 
 pub returns-else-next : goal.returns-else-next
 returns-else-next c =
     let A = c.args in
     let n = network_in A.state.now in
-    let x = c.wide-x.result in
+    let x = A.item in
     let there : get_or A.table.now x 0 < length n.history = omega (arith, records_count A.state.now, c.record_count.ensures, c.if-record_count-noted.false) in
     let told : c.meet-next.result.replaces ≡ replaces A.latest n A.r (get_or A.table.now x 0) = c.meet-next.ensures.1 ∙ ap (replaces A.latest n A.r) c.meet-next.ensures.0 in
-    (other_stays A.latest n A.r A.table.now A.item x c.wide-x.ensures there (sym told ∙ c.if-next.false), c.meet-next.ensures.1)
+    (other_stays A.latest n A.r A.table.now A.item x refl there (sym told ∙ c.if-next.false), c.meet-next.ensures.1)

@@ -15,6 +15,3 @@ wanted w = λ c. wanted_at (network_in w).items c
 
 abbrev pub invariant-loop-k : goal.invariant-loop-k
 invariant-loop-k l = Gathered sites_most (wanted l.state) (ops_in l.n l.ops) l.m l.k
-
-abbrev pub decreases-loop-k : goal.decreases-loop-k
-decreases-loop-k l = l.n - l.k

@@ -1,6 +1,5 @@
 -- `parents` asks the placement's own words.
-use mathlib.Core.Path.{ap, ◌∙◌}
-use mathlib.Core.List.{List}
+use Rattle.std.proofs.Common.{◌∙◌, ap, List}
 use Rattle.limits.specs.Limits.{sites_most}
 use Rattle.placement.specs.Masks.{mask_of}
 use Rattle.placement.specs.Placement.{Item, is_line}
@@ -9,7 +8,5 @@ use Rattle.network_placement.proofs.parents.Goals as goal
 
 pub returns : goal.returns
 returns c =
-    let counted = c.item_count in
-    let asked = c.wide in
-    let lent = c.placed in
-    c.parents.ensures ∙ ap (λ (xs : List Item). mask_of (λ p. is_line xs p c.args.c) sites_most) (items_lent c.args.state.now c.requires lent.result.now lent.ensures counted.result asked.result counted.ensures asked.ensures)
+    c.parents.ensures
+    ∙ ap (λ (xs : List Item). mask_of (λ p. is_line xs p c.args.c) sites_most) (items_lent c.args.state.now c.requires c.placed.result.now c.placed.ensures c.item_count.result c.item_count.ensures)

@@ -24,12 +24,12 @@ some_sites w net = (range_parts w (ranged_on w net)).some_sites
 pub loop-i-init : goal.loop-i-init
 loop-i-init c =
     let w = c.args.state.now in
-    (omega (arith, some_sites w c.requires.net, c.wide-sites.ensures), first_site (network_in w) (omega (arith, some_sites w c.requires.net, sites_count w)))
+    (omega (arith, some_sites w c.requires.net), first_site (network_in w) (omega (arith, some_sites w c.requires.net, sites_count w)))
 
 pub earlier_of-best-requires : goal.earlier_of-best-requires
 earlier_of-best-requires c =
     record {
-      next = at_site c.args.state.now c.requires.net c.loop-i.i c.loop-i.i refl (omega (arith, sites_count c.args.state.now, c.wide-sites.ensures, c.loop-i-test.true));
+      next = at_site c.args.state.now c.requires.net c.loop-i.i c.loop-i.i refl (omega (arith, sites_count c.args.state.now, c.loop-i-test.true));
       so_far = c.loop-i.invariant.1;
       places_are = c.requires.places_are;
     }
@@ -41,6 +41,6 @@ pub returns : goal.returns
 returns c =
     let w = c.args.state.now in
     let n = network_in w in
-    let all : c.loop-i.i ≡ length n.sites = omega (arith, sites_count c.args.state.now, c.wide-sites.ensures, c.loop-i-test.false, c.loop-i.invariant.0) in
+    let all : c.loop-i.i ≡ length n.sites = omega (arith, sites_count c.args.state.now, c.loop-i-test.false, c.loop-i.invariant.0) in
     let low : c.loop-i.best < c.loop-i.i = c.loop-i.invariant.1.low in
     record { site = at_site w c.requires.net c.loop-i.best c.loop-i.best refl (omega arith); is = last_site n c.loop-i.i c.loop-i.best c.loop-i.invariant.1 (omega arith) }

@@ -5,6 +5,3 @@ use Rattle.network_point.proofs.earliest.Given as goal
 
 abbrev pub invariant-loop-i : goal.invariant-loop-i
 invariant-loop-i l = (l.i ≤ l.sites) × EarliestSoFar (network_in l.state) l.i l.best
-
-abbrev pub decreases-loop-i : goal.decreases-loop-i
-decreases-loop-i l = l.sites - l.i

@@ -6,6 +6,3 @@ use Rattle.network_point.proofs.names.Given as goal
 
 abbrev pub invariant-loop-k : goal.invariant-loop-k
 invariant-loop-k l = (l.k ≤ l.made) × NamedBelow (is_past (network_in l.state)) l.k l.kept l.names
-
-abbrev pub decreases-loop-k : goal.decreases-loop-k
-decreases-loop-k l = l.made - l.k

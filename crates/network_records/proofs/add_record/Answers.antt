@@ -1,5 +1,5 @@
 -- `add_record` writes the record behind the others, and counts it.
-use mathlib.Core.Path.{◌≡◌, ◌∙◌}
+use mathlib.Core.Path.{◌≡◌}
 use native.Mathlib.Omega.{arith}
 use lib.ListN.{length}
 use Rattle.timestamp.specs.Value.{stamp_of}
@@ -10,7 +10,6 @@ use Rattle.network_records.proofs.add_record.Goals as goal
 pub returns : goal.returns
 returns c =
     let stored = c.store in
-    let at = c.wide in
     let made = c.record_count-made in
     let long : length c.args.ops.now ≡ ops_size = omega (arith, c.well_formed) in
-    record_added c.args.state.now at.result c.args.site c.args.n (stamp_of c.args.t) c.args.ops.now c.requires (at.ensures ∙ made.ensures) long c.write.new.w c.write.auto.w c.write.ensures stored.new.w made.result made.ensures stored.ensures
+    record_added c.args.state.now made.result c.args.site c.args.n (stamp_of c.args.t) c.args.ops.now c.requires made.ensures long c.write.new.w c.write.auto.w c.write.ensures stored.new.w made.result made.ensures stored.ensures

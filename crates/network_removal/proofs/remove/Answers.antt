@@ -8,13 +8,9 @@ use Rattle.network_layout.specs.Layout.{history_at, history_size}
 use Rattle.network_removal.proofs.RemovedLaws.{bank, kept_few, counted_state, removed_by_lem}
 use Rattle.network_removal.proofs.remove.Goals as goal
 
--- the records that stay, by their number
-stay : (names w ys : List ℕ) (wide made kept : ℕ) → wide ≡ made → Removal names wide (part w history_at history_size) ys kept → Removal names made (part w history_at history_size) ys kept
-stay names w ys wide made kept is by = subst (λ (k : ℕ). Removal names k (part w history_at history_size) ys kept) is by
-
 pub remove-kept-requires : goal.remove-kept-requires
 remove-kept-requires c =
-    bank c.args.state.now c.requires c.wide.result (c.wide.ensures ∙ c.record_count-made.ensures)
+    bank c.args.state.now c.requires c.record_count-made.result c.record_count-made.ensures
 
 pub fold_flag-requires : goal.fold_flag-requires
 fold_flag-requires c =
@@ -23,7 +19,7 @@ fold_flag-requires c =
     let made = c.record_count-made in
     let kept = c.remove-kept in
     let ys = kept.new.history in
-    counted_state w c.requires made.result made.ensures names ys kept.result (stay names w ys c.wide.result made.result kept.result c.wide.ensures kept.ensures) c.store.new.w c.store.ensures
+    counted_state w c.requires made.result made.ensures names ys kept.result kept.ensures c.store.new.w c.store.ensures
 
 pub overflow_sub-result : goal.overflow_sub-result
 overflow_sub-result c =
@@ -32,7 +28,7 @@ overflow_sub-result c =
     let made = c.record_count-made in
     let kept = c.remove-kept in
     let ys = kept.new.history in
-    kept_few w c.requires made.result made.ensures names ys kept.result (stay names w ys c.wide.result made.result kept.result c.wide.ensures kept.ensures)
+    kept_few w c.requires made.result made.ensures names ys kept.result kept.ensures
 
 pub shape_of-state : goal.shape_of-state
 shape_of-state c =
@@ -41,7 +37,7 @@ shape_of-state c =
     let made = c.record_count-made in
     let kept = c.remove-kept in
     let ys = kept.new.history in
-    let state = counted_state w c.requires made.result made.ensures names ys kept.result (stay names w ys c.wide.result made.result kept.result c.wide.ensures kept.ensures) c.store.new.w c.store.ensures in
+    let state = counted_state w c.requires made.result made.ensures names ys kept.result kept.ensures c.store.new.w c.store.ensures in
     c.fold_flag.auto.state ∙ state.sized ∙ sym c.requires.sized
 
 pub returns : goal.returns
@@ -51,4 +47,4 @@ returns c =
     let made = c.record_count-made in
     let kept = c.remove-kept in
     let ys = kept.new.history in
-    removed_by_lem w c.requires made.result made.ensures names ys kept.result (stay names w ys c.wide.result made.result kept.result c.wide.ensures kept.ensures) c.store.new.w c.store.ensures c.fold_flag.new.state c.fold_flag.ensures
+    removed_by_lem w c.requires made.result made.ensures names ys kept.result kept.ensures c.store.new.w c.store.ensures c.fold_flag.new.state c.fold_flag.ensures

@@ -5,6 +5,3 @@ use Rattle.network_renaming.proofs.rename.Given as goal
 
 abbrev pub invariant-loop-k : goal.invariant-loop-k
 invariant-loop-k l = RenamedBelow l.names l.initial.state l.state l.k
-
-abbrev pub decreases-loop-k : goal.decreases-loop-k
-decreases-loop-k l = lines_most - l.k

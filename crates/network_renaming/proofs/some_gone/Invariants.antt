@@ -9,6 +9,3 @@ use Rattle.network_renaming.proofs.some_gone.Given as goal
 
 abbrev pub invariant-loop-k : goal.invariant-loop-k
 invariant-loop-k l = any (line_gone l.names) (network_in l.state).lines ≡ any (line_gone l.names) (drop l.k (network_in l.state).lines)
-
-abbrev pub decreases-loop-k : goal.decreases-loop-k
-decreases-loop-k l = lines_most - l.k

@@ -1,13 +1,13 @@
 -- `schedule_in` tests the shape, and goes on where it is that of a network.
 use mathlib.Core.Path.{sym, ◌∙◌}
 use borrow.Author.Tests.{not-true, not-false}
-use Rattle.network_schedule.proofs.ScheduleLaws.{schedule_unshaped, answered}
+use Rattle.network_schedule.proofs.ScheduleLaws.{schedule_unshaped}
 use Rattle.network_schedule.proofs.schedule_in.Goals as goal
 
 pub returns-then-not-shaped : goal.returns-then-not-shaped
 returns-then-not-shaped c =
     let A = c.args in
-    answered A.state.now A.site 6 c.refused.result c.refused.ensures (schedule_unshaped A.state.now A.site (sym c.shaped.ensures ∙ not-true c.shaped.result c.if-not-shaped.true-raw))
+    schedule_unshaped A.state.now A.site (sym c.shaped.ensures ∙ not-true c.shaped.result c.if-not-shaped.true-raw)
 
 pub schedule_on-requires : goal.schedule_on-requires
 schedule_on-requires c =

@@ -1,10 +1,8 @@
--- `schedule_on` refuses with its number, or takes the chosen message.
-use Rattle.network_schedule.proofs.ScheduleLaws.{schedule_refused, answered}
+-- `schedule_on` is refused, or takes the chosen message.
+use Rattle.network_schedule.proofs.ScheduleLaws.{schedule_refused}
 use Rattle.network_schedule.proofs.schedule_on.Goals as goal
 
-pub returns-then-number-ne0 : goal.returns-then-number-ne0
-returns-then-number-ne0 c =
+pub returns-in_err-schedule_number : goal.returns-in_err-schedule_number
+returns-in_err-schedule_number c =
     let A = c.args in
-    let r = c.refused.result in
-    let number = c.schedule_number-number.result in
-    answered A.state.now A.site number r c.refused.ensures (schedule_refused A.state.now c.requires A.site number c.schedule_number-number.ensures c.if-number-ne0.true)
+    schedule_refused A.state.now c.requires A.site c.from_residual.result c.in_err-schedule_number.field-0.0 c.from_residual.ensures.1 c.in_err-schedule_number.ensures

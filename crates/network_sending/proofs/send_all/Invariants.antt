@@ -11,7 +11,4 @@ use Rattle.network_layout.specs.InWords.{network_in, in_range}
 use Rattle.network_sending.proofs.send_all.Given as goal
 
 abbrev pub invariant-loop-c : goal.invariant-loop-c
-invariant-loop-c l = (l.c ≤ 8) × (length l.state ≡ state_size) × (network_in l.state ≡ with_lines (network_in l.initial.state) (sent_to (bit l.mask) l.i (message_of l.m) l.c (network_in l.initial.state).lines)) × (in_range l.state ≡ true)
-
-abbrev pub decreases-loop-c : goal.decreases-loop-c
-decreases-loop-c l = 8 - l.c
+invariant-loop-c l = (network_in l.state ≡ with_lines (network_in l.initial.state) (sent_to (bit l.mask) l.i (message_of l.m) l.c (network_in l.initial.state).lines)) × (in_range l.state ≡ true)

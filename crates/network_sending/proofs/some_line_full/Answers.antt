@@ -13,7 +13,7 @@ use Rattle.lists.proofs.Some.{some_below_at, some_below_next, some_below_all}
 use Rattle.network_sending.proofs.some_line_full.Goals as goal
 
 pub loop-c-init : goal.loop-c-init
-loop-c-init c = (omega arith, refl)
+loop-c-init c = refl
 
 pub returns-then-line_full : goal.returns-then-line_full
 returns-then-line_full c =
@@ -23,9 +23,9 @@ returns-then-line_full c =
 pub loop-c-preserved : goal.loop-c-preserved
 loop-c-preserved c =
     let A = c.args in
-    (omega arith, some_below_next (λ k. bit A.mask k && leb held_most (length (line_at (network_in A.state.now) A.i k).messages)) c.loop-c.c c.loop-c.invariant.1 (sym c.line_full.ensures ∙ c.if-line_full.false))
+    some_below_next (λ k. bit A.mask k && leb held_most (length (line_at (network_in A.state.now) A.i k).messages)) c.loop-c.c c.loop-c.invariant (sym c.line_full.ensures ∙ c.if-line_full.false)
 
 pub returns : goal.returns
 returns c =
     let A = c.args in
-    some_below_all (λ k. bit A.mask k && leb held_most (length (line_at (network_in A.state.now) A.i k).messages)) c.loop-c.c sites_most c.loop-c-test.false c.loop-c.invariant.0 c.loop-c.invariant.1
+    some_below_all (λ k. bit A.mask k && leb held_most (length (line_at (network_in A.state.now) A.i k).messages)) c.loop-c.c sites_most (omega arith) (omega arith) c.loop-c.invariant

@@ -11,7 +11,4 @@ use Rattle.network_layout.specs.InWords.{network_in}
 use Rattle.network_sending.proofs.some_line_full.Given as goal
 
 abbrev pub invariant-loop-c : goal.invariant-loop-c
-invariant-loop-c l = (l.c ≤ 8) × (some_below (λ k. bit l.mask k && leb held_most (length (line_at (network_in l.state) l.i k).messages)) l.c ≡ false)
-
-abbrev pub decreases-loop-c : goal.decreases-loop-c
-decreases-loop-c l = 8 - l.c
+invariant-loop-c l = some_below (λ k. bit l.mask k && leb held_most (length (line_at (network_in l.state) l.i k).messages)) l.c ≡ false

@@ -5,15 +5,16 @@ use Rattle.site_operations.specs.Operations.{worked}
 use Rattle.site.specs.Site.{Site, committed}
 use Rattle.site_operations.specs.InWords.{ops_in, OpsLaid}
 use Rattle.limits.specs.Limits.{ops_most}
-use Rattle.network_layout.proofs.AccessLaws.{site_stepped, site_lent}
+use Rattle.network_sites.proofs.SiteLaws.{lent_at, stepped_at}
 use Rattle.network_sites.proofs.site_commit.Goals as goal
 
 pub returns : goal.returns
 returns c =
     let done = c.commit in
     let os = ops_in (min c.args.n ops_most) c.args.ops.now in
-    let lent = site_lent c.args.state.now c.args.i c.requires in
+    let lent = lent_at c.args.state.now c.args.i c.requires c.words_of.result c.words_of.ensures in
     record {
-      site_step = site_stepped c.args.state.now c.args.i c.requires (committed os) done.new.part done.auto.part done.ensures.changed;
+      site_step = stepped_at c.args.state.now c.args.i c.requires c.words_of.result c.words_of.ensures
+          (committed os) done.new.part done.auto.part done.ensures.changed;
       ops_laid = subst (λ (x : Site). OpsLaid (min c.args.n ops_most) (worked x.table os).ops done.result) lent.meant (done.ensures.sized lent.sized);
     }

@@ -1,5 +1,4 @@
 -- `place_in` halves the places until one is left.
-use Prim.Native.Nat.{◌-◌}
 use native.Mathlib.Omega.{arith}
 use Rattle.network_waiting.proofs.ReportLaws.{place_left}
 use Rattle.network_waiting.proofs.place_in.Goals as goal

@@ -83,7 +83,6 @@ returns c =
     ∙ ap (λ (k : ℕ). in_place (w (goal.at.returns c).At-loop-k) (writers (goal.at.returns c).At-loop-k) site k (placed (goal.at.returns c).At-loop-k - k)) last
     ∙ all_in_place (w (goal.at.returns c).At-loop-k) (writers (goal.at.returns c).At-loop-k) site (at (goal.at.returns c).At-loop-k) (are (goal.at.returns c).At-loop-k) (placed (goal.at.returns c).At-loop-k - 0) (omega (arith, c.item_count-k.ensures, items_count (w (goal.at.returns c).At-loop-k) 0)) (omega (arith, few (goal.at.returns c).At-loop-k)) in
     record {
-      accepted = refl;
       count_is = sym (length-take-le l.count l.items (omega (arith, l.invariant.3.fits, l.invariant.3.sized))) ∙ ap length all;
       items_are = filled_padded 0 items_most l.count l.items l.invariant.3 ∙ ap (padded items_most 0) all;
       few = l.invariant.3.fits;

@@ -1,5 +1,5 @@
 -- `work` has the site work the operations, reads its timestamp and adds the record.
-use mathlib.Core.Path.{◌≡◌, ap, subst₂, ◌∙◌}
+use mathlib.Core.Path.{◌≡◌, ap, subst₂, ◌∙◌, refl}
 use mathlib.Core.List.{List}
 use Prim.Native.Nat.{ℕ, min, ◌≤◌, ◌<◌}
 use native.Mathlib.Omega.{arith}
@@ -46,15 +46,14 @@ stamped w v site n i os t ready is s = plain_as (ap (λ (k : ℕ). (site_at (net
 pub site_stamp-t-requires : goal.site_stamp-t-requires
 site_stamp-t-requires c =
     let A = c.args in
-    let stepped_now = stepped A.state.now A.ops.now A.site A.n c.wide-i.result c.wide-i.ensures c.requires.few_ops c.site_commit-done.new.state c.site_commit-done.ensures.site_step in
-    let i = c.wide-i in
+    let stepped_now = stepped A.state.now A.ops.now A.site A.n A.site refl c.requires.few_ops c.site_commit-done.new.state c.site_commit-done.ensures.site_step in
     let below = site_step_below A.state.now c.site_commit-done.new.state A.site (committed (ops_in A.n A.ops.now)) stepped_now in
-    let at : AtSite c.site_commit-done.new.state i.result
+    let at : AtSite c.site_commit-done.new.state A.site
     = record {
       sized = c.site_commit-done.auto.state ∙ c.requires.sized;
       ranged = stepped_now.ranged;
-      there = omega (arith, i.ensures, c.requires.there, below);
-      few = omega (arith, i.ensures, c.requires.few);
+      there = omega (arith, c.requires.there, below);
+      few = c.requires.few;
     } in
     search rules
 
@@ -65,8 +64,8 @@ add_record-requires c =
     let n = c.short in
     let table = (site_at (network_in A.state.now) A.site).table in
     let os = ops_in A.n A.ops.now in
-    let stepped_now = stepped A.state.now A.ops.now A.site A.n c.wide-i.result c.wide-i.ensures c.requires.few_ops c.site_commit-done.new.state c.site_commit-done.ensures.site_step in
-    let recorded_now = recorded A.state.now A.ops.now A.site A.n c.wide-i.result c.wide-i.ensures c.requires.few_ops c.site_commit-done.result c.site_commit-done.ensures.ops_laid.ops_are in
+    let stepped_now = stepped A.state.now A.ops.now A.site A.n A.site refl c.requires.few_ops c.site_commit-done.new.state c.site_commit-done.ensures.site_step in
+    let recorded_now = recorded A.state.now A.ops.now A.site A.n A.site refl c.requires.few_ops c.site_commit-done.result c.site_commit-done.ensures.ops_laid.ops_are in
     let same = ap (λ (h : List Record). length h) (history_now A.state.now A.site os (there A.state.now A.site A.n os c.requires) v stepped_now) in
     let count : min n.result ops_most ≡ A.n = omega (arith, n.ensures, c.requires.few_ops) in
     record {
@@ -83,9 +82,9 @@ returns c =
     let A = c.args in
     let os = ops_in A.n A.ops.now in
     let n = network_in A.state.now in
-    let stepped_now = stepped A.state.now A.ops.now A.site A.n c.wide-i.result c.wide-i.ensures c.requires.few_ops c.site_commit-done.new.state c.site_commit-done.ensures.site_step in
-    let recorded_now = recorded A.state.now A.ops.now A.site A.n c.wide-i.result c.wide-i.ensures c.requires.few_ops c.site_commit-done.result c.site_commit-done.ensures.ops_laid.ops_are in
-    let stamped_now = stamped A.state.now c.site_commit-done.new.state A.site A.n c.wide-i.result os c.site_stamp-t.result c.requires c.wide-i.ensures stepped_now c.site_stamp-t.ensures in
+    let stepped_now = stepped A.state.now A.ops.now A.site A.n A.site refl c.requires.few_ops c.site_commit-done.new.state c.site_commit-done.ensures.site_step in
+    let recorded_now = recorded A.state.now A.ops.now A.site A.n A.site refl c.requires.few_ops c.site_commit-done.result c.site_commit-done.ensures.ops_laid.ops_are in
+    let stamped_now = stamped A.state.now c.site_commit-done.new.state A.site A.n A.site os c.site_stamp-t.result c.requires refl stepped_now c.site_stamp-t.ensures in
     let count : min c.short.result ops_most ≡ A.n = omega (arith, c.short.ensures, c.requires.few_ops) in
     let ops = ap (λ (m : ℕ). ops_in m c.site_commit-done.result) count ∙ recorded_now in
     let added-record : Record = record { site = A.site; stamp = stamp_of c.site_stamp-t.result; ops = ops_in (min c.short.result ops_most) c.site_commit-done.result } in

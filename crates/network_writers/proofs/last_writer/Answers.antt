@@ -1,6 +1,6 @@
 -- `last_writer` goes over the records: `best` is the last writer of those below j.
 use mathlib.Core.Path.{◌≡◌, refl, subst}
-use Prim.Native.Nat.{ℕ, ◌-◌}
+use Prim.Native.Nat.{ℕ}
 use native.Mathlib.Omega.{arith}
 use lib.ListN.{length}
 use Rattle.network_layout.specs.InWords.{network_in}

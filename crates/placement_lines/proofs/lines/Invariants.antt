@@ -15,6 +15,3 @@ given k = gives_line (k / sites_most) (k % sites_most)
 
 abbrev pub invariant-loop-k : goal.invariant-loop-k
 invariant-loop-k l = Gathered most given (items_in (min l.items items_most) l.w) l.m l.k
-
-abbrev pub decreases-loop-k : goal.decreases-loop-k
-decreases-loop-k l = l.n - l.k

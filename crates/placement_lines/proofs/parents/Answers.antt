@@ -1,27 +1,18 @@
 -- `parents` gathers what each item gives: m has the bits of the items before k.
-use mathlib.Core.Path.{◌∙◌}
-use Prim.Native.Nat.{◌-◌, min}
-use native.Mathlib.Omega.{arith}
+use Rattle.std.proofs.Common.{◌∙◌, min, arith}
 use Rattle.placement.specs.Placement.{is_line}
-use Rattle.placement.specs.InWords.{items_in}
 use Rattle.limits.specs.Limits.{items_most, sites_most}
-use Rattle.placement_lines.proofs.Gathered.{gather_none, items_next, items_mask}
+use Rattle.placement_lines.proofs.Gathered.{items_next, items_mask}
 use Rattle.placement_lines.proofs.parents.Invariants.{given}
 use Rattle.placement_lines.proofs.parents.Goals as goal
-
-pub loop-k-init : goal.loop-k-init
-loop-k-init c =
-    let A = c.args in
-    gather_none sites_most (given A.c) (items_in (min A.items items_most) A.w.now)
 
 pub loop-k-preserved : goal.loop-k-preserved
 loop-k-preserved c =
     let A = c.args in
-    items_next sites_most (given A.c) (min A.items items_most) A.w.now c.loop-k.m c.loop-k.k c.loop-k.invariant (omega (arith, c.few-n.ensures)) c.parents_by-m.result c.parents_by-m.ensures
+    items_next sites_most (given A.c) (min A.items items_most) A.w.now c.loop-k.m c.loop-k.k c.loop-k.invariant (omega arith) c.parents_by-m.result c.parents_by-m.ensures
 
 pub returns : goal.returns
 unfolding is_line
 returns c =
     let A = c.args in
-    c.below.ensures
-    ∙ items_mask sites_most (given A.c) (min A.items items_most) A.w.now c.loop-k.m c.loop-k.k c.loop-k.invariant (omega (arith, c.few-n.ensures))
+    c.below.ensures ∙ items_mask sites_most (given A.c) (min A.items items_most) A.w.now c.loop-k.m c.loop-k.k c.loop-k.invariant (omega arith)

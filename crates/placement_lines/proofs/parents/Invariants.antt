@@ -12,6 +12,3 @@ given c = λ p. gives_line p c
 
 abbrev pub invariant-loop-k : goal.invariant-loop-k
 invariant-loop-k l = Gathered sites_most (given l.c) (items_in (min l.items items_most) l.w) l.m l.k
-
-abbrev pub decreases-loop-k : goal.decreases-loop-k
-decreases-loop-k l = l.n - l.k

@@ -8,6 +8,3 @@ use Rattle.placement_order.proofs.by_number.Given as goal
 
 abbrev pub invariant-loop-k : goal.invariant-loop-k
 invariant-loop-k l = (l.k ≤ sites_most) × (length l.table ≡ sites_most) × (l.count ≤ l.from + l.k) × (filled l.from l.initial.table ≡ filled_from l.k l.table l.count)
-
-abbrev pub decreases-loop-k : goal.decreases-loop-k
-decreases-loop-k l = sites_most - l.k

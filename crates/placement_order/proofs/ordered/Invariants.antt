@@ -6,6 +6,3 @@ use Rattle.placement_order.proofs.ordered.Given as goal
 
 abbrev pub invariant-loop-count : goal.invariant-loop-count
 invariant-loop-count l = Going (line_in l.lines) l.table l.count × Left l.lines l.table l.left
-
-abbrev pub decreases-loop-count : goal.decreases-loop-count
-decreases-loop-count l = sites_most - l.count

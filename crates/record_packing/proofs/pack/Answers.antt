@@ -1,6 +1,5 @@
 -- `pack` stores the values one by one, and then the two words of codes.
 use mathlib.Core.Path.{◌≡◌, subst}
-use Prim.Native.Nat.{◌-◌}
 use native.Mathlib.Omega.{arith}
 use lib.ListN.{length-set}
 use Rattle.limits.specs.Limits.{ops_most}
@@ -10,23 +9,11 @@ use Rattle.record_packing.proofs.pack.Goals as goal
 pub loop-i-init : goal.loop-i-init
 loop-i-init c = (omega arith, c.requires.sized, λ j h. absurd (omega arith))
 
-pub bounds-w-i : goal.bounds-w-i
-bounds-w-i c = omega arith
-
 pub loop-i-preserved : goal.loop-i-preserved
 loop-i-preserved c =
     let l = c.loop-i in
     let A = c.args in
     (omega arith, simp length-set l.invariant.1, valued_next A.ops.now l.w l.invariant.1 l.i c.value.result _ (omega arith) c.loop-i-test.true l.invariant.2 c.value.ensures)
-
-pub bounds-w-0 : goal.bounds-w-0
-bounds-w-0 c = omega arith
-
-pub bounds-w-1 : goal.bounds-w-1
-bounds-w-1 c = simp length-set (omega arith)
-
-pub shape_of-w : goal.shape_of-w
-shape_of-w c = simp length-set (omega arith)
 
 pub returns : goal.returns
 returns c =

@@ -1,5 +1,5 @@
 use mathlib.Core.Path.{◌≡◌}
-use Prim.Native.Nat.{◌≤◌, ◌-◌}
+use Prim.Native.Nat.{◌≤◌}
 use lib.ListN.{length}
 use Rattle.limits.specs.Limits.{ops_most}
 use Rattle.record_codes.specs.Codes.{packed_size}
@@ -8,6 +8,3 @@ use Rattle.record_packing.proofs.pack.Given as goal
 
 abbrev pub invariant-loop-i : goal.invariant-loop-i
 invariant-loop-i l = (l.i ≤ ops_most) × (length l.w ≡ packed_size) × Valued l.ops l.w l.i
-
-abbrev pub decreases-loop-i : goal.decreases-loop-i
-decreases-loop-i l = ops_most - l.i

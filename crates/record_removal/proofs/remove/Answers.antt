@@ -1,6 +1,6 @@
 -- `remove` goes over the records: of those below k those that stay stand first.
 use mathlib.Core.Path.{refl, ◌∙◌}
-use Prim.Native.Nat.{◌<◌, ◌-◌}
+use Prim.Native.Nat.{◌<◌}
 use native.Mathlib.Omega.{arith}
 use Rattle.words.specs.Words.{chunks}
 use Rattle.lists.proofs.Renumber.{kept_none, count_most}

@@ -1,22 +1,7 @@
 -- `write` stores the site and the number of operations, and then the words of the timestamp and of the packed operations.
-use lib.ListN.{length-set}
-use native.Mathlib.Omega.{arith}
 use Rattle.timestamp.specs.Value.{stamp_of}
-use Rattle.records.proofs.Laws.{not_written, filled_size, written}
+use Rattle.records.proofs.Laws.{filled_size, written}
 use Rattle.records.proofs.write.Goals as goal
-
-pub returns-then-w-ne-WORDS : goal.returns-then-w-ne-WORDS
-returns-then-w-ne-WORDS c =
-    let A = c.args in
-    not_written A.w.now A.site A.n (stamp_of A.t) A.ops.now (λ a b. c.if-w-ne-WORDS.true a)
-
-pub returns-then-ops-ne-OPERATIONS : goal.returns-then-ops-ne-OPERATIONS
-returns-then-ops-ne-OPERATIONS c =
-    let A = c.args in
-    not_written A.w.now A.site A.n (stamp_of A.t) A.ops.now (λ a b. c.if-ops-ne-OPERATIONS.true b)
-
-pub bounds-w-1 : goal.bounds-w-1
-bounds-w-1 c = simp length-set (omega arith)
 
 pub shape_of-w : goal.shape_of-w
 shape_of-w c =

@@ -1,35 +1,25 @@
 -- `writes_before` leaves at the first operation that writes the item.
-use mathlib.Core.Path.{refl, sym, ap, ◌∙◌}
-use Prim.Native.Nat.{◌<◌, ◌-◌}
+use mathlib.Core.Path.{◌≡◌, refl, sym, ap, ◌∙◌}
 use native.Mathlib.Omega.{arith}
-use lib.ListN.{length, take}
-use Rattle.lists.proofs.Some.{some_true, some_next, some_done}
+use Prim.Native.Nat.{ℕ, ◌+◌}
+use lib.ListN.{get_or, take}
+use Rattle.std.proofs.Common.{rules, tests}
+use Rattle.std.specs.List.{list_any, range_with_len}
+use Rattle.std.proofs.lemmas.Iterator.{YieldsList-from_range}
+use Rattle.std.proofs.lemmas.Iterator.Search.{any_from_yields_List}
 use Rattle.site_operations.specs.Operations.{writes_item, no_op}
+use Rattle.record_codes.specs.Codes.{places_in}
 use Rattle.records.specs.InWords.{record_in}
-use Rattle.records.proofs.Laws.{op_before}
+use Rattle.records.proofs.Laws.{op_before, any_by_place}
 use Rattle.records.proofs.writes_before.Goals as goal
-
-pub loop-i-init : goal.loop-i-init
-loop-i-init c = (omega arith, refl)
-
-pub is_write_of-requires : goal.is_write_of-requires
-is_write_of-requires c = record { there = omega (arith, c.count_before-n.ensures.1) }
-
-pub returns-then-is_write_of : goal.returns-then-is_write_of
-returns-then-is_write_of c =
-    let A = c.args in
-    let os = take A.a (record_in A.w.now).ops in
-    let in-it : c.loop-i.i < length os = omega (arith, c.count_before-n.ensures.0, c.loop-i-test.true) in
-    sym (some_true (writes_item A.item) os c.loop-i.i no_op c.loop-i.invariant.1 in-it (ap (writes_item A.item) (op_before A.w.now A.a c.loop-i.i in-it) ∙ sym c.is_write_of.ensures ∙ c.if-is_write_of.true))
-
-pub loop-i-preserved : goal.loop-i-preserved
-loop-i-preserved c =
-    let A = c.args in
-    let os = take A.a (record_in A.w.now).ops in
-    let in-it : c.loop-i.i < length os = omega (arith, c.count_before-n.ensures.0, c.loop-i-test.true) in
-    (omega arith, some_next (writes_item A.item) os c.loop-i.i no_op c.loop-i.invariant.1 in-it (ap (writes_item A.item) (op_before A.w.now A.a c.loop-i.i in-it) ∙ sym c.is_write_of.ensures ∙ c.if-is_write_of.false))
 
 pub returns : goal.returns
 returns c =
     let A = c.args in
-    sym (some_done (writes_item A.item) (take A.a (record_in A.w.now).ops) c.loop-i.i no_op c.loop-i.invariant.1 (omega (arith, c.count_before-n.ensures.0, c.loop-i-test.false)))
+    let os = take A.a (record_in A.w.now).ops in
+    let n = c.count_before.result in
+    let test = writes_item A.item in
+    let at = λ (i : ℕ). test (get_or (places_in A.w.now) i no_op) in
+    any_from_yields_List at _ _ c.any.result c.any.ensures.ran (YieldsList-from_range 0 n n refl (omega arith)) (λ x b q k. search (rules, tests))
+    ∙ ap (λ (m : ℕ). list_any at (range_with_len 0 m)) c.count_before.ensures.0
+    ∙ any_by_place test at os 0 (λ i h. let first : 0 + i ≡ i = omega arith in ap at first ∙ ap test (sym (op_before A.w.now A.a i h)))

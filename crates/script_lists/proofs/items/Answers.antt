@@ -1,67 +1,77 @@
 -- `items` takes the numbers two by two: the items done, in front of those still to come, are all.
-use mathlib.Core.Path.{refl, sym, ap, ◌∙◌}
+use mathlib.Core.Path.{◌≡◌, refl, sym, ap, ◌∙◌}
+use mathlib.Core.Bool.{Bool, true, false}
 use mathlib.Core.List.{List}
-use Prim.Native.Nat.{◌+◌, ◌-◌}
+use mathlib.Core.Option.{none}
+use Prim.Native.Nat.{ℕ, ◌+◌, ◌*◌, ◌/◌, ◌<◌, ◌≤◌}
 use native.Mathlib.Omega.{arith}
-use lib.ListN.{get_or, drop, length-set}
+use lib.Dec.{eqb}
+use lib.ListN.{length, get_or, drop, set, length-set}
+use borrow.Author.Tests.{eqb-true, eqb-false}
+use Rattle.std.proofs.Common.{Some, None, Result, Ok, Err}
+use Rattle.std.specs.Bool.{then_some}
+use Rattle.std.specs.Result.{OkIff, result_ok}
+use Rattle.lists.specs.Answers.{given_as}
 use Rattle.placement.specs.Placement.{Item}
 use Rattle.script_notation.specs.Parse.{placed, first_items}
-use Rattle.script_notation.proofs.Walks.{ahead, ahead_none, is_false}
+use Rattle.script_notation.proofs.Walks.{ahead}
 use Rattle.script_notation.proofs.Parsing.{items_more, items_end, items_odd, items_large, items_next}
 use Rattle.script_lists.proofs.items.Goals as goal
 
-pub loop-at-init : goal.loop-at-init
-loop-at-init c = (refl, omega arith, omega arith, omega arith, sym (ahead_none (placed c.args.list.now)))
+-- what `try_from` says, where its error is dropped
+module _ {E : Type 0} (m : ℕ) where
+  refused : (r : Result ℕ E) → OkIff r (m < 256) m → None ≡ result_ok r → 256 ≤ m
+  refused (Ok x) h e = cc
+  refused (Err e) h f = omega (arith, h)
 
-pub overflow_add-next : goal.overflow_add-next
-overflow_add-next c = omega arith
+  taken : (r : Result ℕ E) → OkIff r (m < 256) m → (x : ℕ) → Some x ≡ result_ok r → (m < 256) × (x ≡ m)
+  taken (Ok y) h x e = let same : x ≡ y = cc in (h.0, same ∙ h.1)
+  taken (Err e) h x f = cc
 
-pub returns-then-list-next : goal.returns-then-list-next
-returns-then-list-next c = let l = c.loop-at in (sym (is_false c.no_list.result.ok _ c.no_list.ensures.0) ∙ sym (items_odd c.args.list.now l.at (first_items l.count l.primaries l.masks) _ l.invariant.4 c.loop-at-test.true c.if-list-next.true), omega (arith, c.no_list.ensures.1))
+-- a walk over the numbers, i items done
+module _ (l ps ms : List ℕ) (i : ℕ) (e : placed l ≡ ahead (first_items i ps ms) (placed (drop (2 * i) l))) where
+  more : (h : 2 * i + 1 < length l) → i < length ps → i < length ms → (x : ℕ) → x ≡ get_or l (2 * i + 1) 0 → x < 256
+      → placed l ≡ ahead (first_items (i + 1) (set ps i (get_or l (2 * i) 0)) (set ms i x)) (placed (drop (2 * (i + 1)) l))
+  more h hp hm x f g =
+      let next : 2 * i + 1 + 1 ≡ 2 * (i + 1) = omega arith in
+      items_next l (2 * i) (first_items i ps ms) _ e (omega arith) h (omega arith)
+      ∙ ap (λ (ys : List Item). ahead ys (placed (drop (2 * i + 1 + 1) l))) (sym (items_more ps ms i hp hm (get_or l (2 * i) 0) (get_or l (2 * i + 1) 0)))
+      ∙ (λ j. ahead (first_items (i + 1) (set ps i (get_or l (2 * i) 0)) (set ms i (sym f j))) (placed (drop (next j) l)))
 
-pub offset_bounds-list-next : goal.offset_bounds-list-next
-offset_bounds-list-next c = omega arith
+  none_more : 2 * i + 1 < length l → 256 ≤ get_or l (2 * i + 1) 0 → none ≡ placed l
+  none_more h g = sym (items_large l (2 * i) (first_items i ps ms) _ e (omega arith) h (omega arith))
 
-pub bounds-list-next : goal.bounds-list-next
-bounds-list-next c = omega arith
+  -- all of them where none is left over
+  all_done : length l < 2 * i + 2 → 2 * i ≤ length l → given_as (λ n. first_items n ps ms) (then_some (eqb (length l) (2 * i)) i) ≡ placed l
+  all_done f g = go (eqb (length l) (2 * i)) refl
+    where
+      go : (b : Bool) → eqb (length l) (2 * i) ≡ b → given_as (λ n. first_items n ps ms) (then_some b i) ≡ placed l
+      go true h = let z : length l ≡ 2 * i = eqb-true (length l) (2 * i) h in sym (items_end l (2 * i) (first_items i ps ms) _ e (omega arith))
+      go false h =
+          let z : length l ≡ 2 * i → ⊥ = eqb-false (length l) (2 * i) h in
+          sym (items_odd l (2 * i) (first_items i ps ms) _ e (omega arith) (omega arith))
 
-pub returns-then-mask-gt255 : goal.returns-then-mask-gt255
-returns-then-mask-gt255 c = let l = c.loop-at in (sym (is_false c.no_list-then-mask-gt255.result.ok _ c.no_list-then-mask-gt255.ensures.0) ∙ sym (items_large c.args.list.now l.at (first_items l.count l.primaries l.masks) _ l.invariant.4 c.loop-at-test.true c.if-list-next.false (omega (arith, c.if-mask-gt255.true))), omega (arith, c.no_list-then-mask-gt255.ensures.1))
-
-pub offset_bounds-list-at : goal.offset_bounds-list-at
-offset_bounds-list-at c = omega arith
-
-pub bounds-list-at : goal.bounds-list-at
-bounds-list-at c = omega arith
-
-pub offset_bounds-primaries-count : goal.offset_bounds-primaries-count
-offset_bounds-primaries-count c = omega arith
-
-pub overflow_cast-masks : goal.overflow_cast-masks
-overflow_cast-masks c = omega arith
-
-pub overflow_add-count : goal.overflow_add-count
-overflow_add-count c = omega arith
-
-pub overflow_add-at : goal.overflow_add-at
-overflow_add-at c = omega arith
-
-pub loop-at-smaller : goal.loop-at-smaller
-loop-at-smaller c = omega arith
-
-pub loop-at-preserved : goal.loop-at-preserved
-loop-at-preserved c =
+pub returns-in_err-masks-clause-placed : goal.returns-in_err-masks-clause-placed
+returns-in_err-masks-clause-placed c =
     let L = c.args.list.now in
-    let l = c.loop-at in
-    let p = get_or L l.at 0 in
-    let m = get_or L (l.at + 1) 0 in (
-      omega arith,
-      omega arith,
-      length-set l.primaries l.count p ∙ l.invariant.2,
-      length-set l.masks l.count m ∙ l.invariant.3,
-      items_next L l.at (first_items l.count l.primaries l.masks) _ l.invariant.4 c.loop-at-test.true c.if-list-next.false c.if-mask-gt255.false
-          ∙ ap (λ (ys : List Item). ahead ys (placed (drop (l.at + 1 + 1) L))) (sym (items_more l.primaries l.masks l.count (omega arith) (omega arith) p m)),
+    let l = c.loop-i in
+    let large = refused _ c.try_from.result c.try_from.ensures c.in_err-masks.ensures.value in
+    rw c.from_residual.ensures (none_more L l.primaries l.masks l.i l.invariant.2 (omega arith) large)
+
+pub loop-i-preserved : goal.loop-i-preserved
+loop-i-preserved c =
+    let L = c.args.list.now in
+    let l = c.loop-i in
+    let mask = taken _ c.try_from.result c.try_from.ensures c.in_ok-masks.field-0 c.in_ok-masks.ensures.value in (
+      length-set l.primaries l.i (get_or L (2 * l.i) 0) ∙ l.invariant.0,
+      length-set l.masks l.i c.in_ok-masks.field-0 ∙ l.invariant.1,
+      more L l.primaries l.masks l.i l.invariant.2 (omega arith) (omega arith) (omega arith) c.in_ok-masks.field-0 mask.1 (omega arith),
     )
 
-pub returns : goal.returns
-returns c = let l = c.loop-at in (sym (items_end c.args.list.now l.at (first_items l.count l.primaries l.masks) _ l.invariant.4 c.loop-at-test.false), l.invariant.1)
+pub returns-clause-placed : goal.returns-clause-placed
+returns-clause-placed c =
+    let L = c.args.list.now in
+    let l = c.loop-i in
+    let k : length L / 2 ≡ l.i = omega arith in
+    let a = c.then_some.ensures ∙ ap (λ (n : ℕ). then_some (eqb (length L) (2 * n)) n) k in
+    ap (given_as (λ n. first_items n l.primaries l.masks)) a ∙ all_done L l.primaries l.masks l.i l.invariant.2 (omega arith) (omega arith)

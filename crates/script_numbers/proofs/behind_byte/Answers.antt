@@ -1,13 +1,9 @@
 -- `behind_byte` prints a number behind a byte.
-use mathlib.Core.Path.{◌∙◌}
 use native.Mathlib.Omega.{arith}
 use lib.ListN.{length-set}
 use Rattle.decimal.proofs.Digits.{digits_short}
 use Rattle.script_notation.proofs.Putting.{put_byte, put_then}
 use Rattle.script_numbers.proofs.behind_byte.Goals as goal
-
-pub shape_of-out : goal.shape_of-out
-shape_of-out c = let A = c.args in c.put.auto.out ∙ length-set A.out.now A.at A.byte
 
 pub returns : goal.returns
 returns c =

@@ -1,5 +1,5 @@
 -- `value` prints a value behind a byte.
-use mathlib.Core.Path.{ap, ◌∙◌}
+use mathlib.Core.Path.{ap}
 use native.Mathlib.Omega.{arith}
 use mir.Syntax.{w32}
 use mir.ValLaws.{to_z-of_z}
@@ -9,9 +9,6 @@ use Rattle.decimal.proofs.Printing.{printed_as}
 use Rattle.decimal.proofs.Signs.{signed_short}
 use Rattle.script_notation.proofs.Putting.{put_byte, put_then}
 use Rattle.script_numbers.proofs.value.Goals as goal
-
-pub shape_of-out : goal.shape_of-out
-shape_of-out c = let A = c.args in c.put_signed.auto.out ∙ length-set A.out.now A.at A.byte
 
 pub returns : goal.returns
 returns c =

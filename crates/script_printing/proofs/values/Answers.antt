@@ -1,6 +1,6 @@
 -- `values` prints value after value: the first i are printed.
 use mathlib.Core.Path.{◌≡◌, refl, ap, ◌∙◌}
-use Prim.Native.Nat.{ℕ, ◌+◌, ◌-◌, min}
+use Prim.Native.Nat.{ℕ, ◌+◌, min}
 use native.Mathlib.Omega.{arith}
 use lib.IntN.{pos}
 use Rattle.decimal.specs.Decimal.{signed_digits}

@@ -13,6 +13,3 @@ returns-then-part-eq-WORDS c =
     changed w dummied c.put_stamp.new.part c.if-part-eq-WORDS.true
     (stepped (site_in w) (site_in w) (site_in c.put_stamp.new.part) (site_in w).table raised_or_same (stamp_of c.stamp.result) (stamp_of c.raise.result)
     refl c.stamp.ensures.means c.raise.ensures.means c.put_stamp.ensures.0) c.put_stamp.ensures.1
-
-pub returns-else-part-eq-WORDS : goal.returns-else-part-eq-WORDS
-returns-else-part-eq-WORDS c = unchanged c.args.part.now dummied c.if-part-eq-WORDS.false

@@ -14,6 +14,3 @@ returns-then-part-eq-WORDS c =
     changed w (at_epoch A.number) c.put_stamp.new.part c.if-part-eq-WORDS.true
     (stepped (site_in w) (site_in w) (site_in c.put_stamp.new.part) (site_in w).table (λ (s : Stamp). with_epoch s A.number) (stamp_of c.stamp.result) (stamp_of c.at_epoch.result)
     refl c.stamp.ensures.means c.at_epoch.ensures.means c.put_stamp.ensures.0) c.put_stamp.ensures.1
-
-pub returns-else-part-eq-WORDS : goal.returns-else-part-eq-WORDS
-returns-else-part-eq-WORDS c = unchanged c.args.part.now (at_epoch c.args.number) c.if-part-eq-WORDS.false

@@ -30,8 +30,3 @@ returns-then-part-eq-WORDS c =
     (λ (s : Stamp). appended_or_same t (own_site s) (own_count s)) (stamp_of c.stamp.result) (stamp_of c.append.result)
     (table_put w size ys os (c.write.auto.table ∙ part_length w stamp_size table_size (omega arith)) c.write.ensures)
     c.stamp.ensures.means (added ∙ ap (λ (x : Pair). appended_or_same t x.site x.count) c.own-own.ensures) c.put_stamp.ensures.0) c.put_stamp.ensures.1
-
-pub returns-else-part-eq-WORDS : goal.returns-else-part-eq-WORDS
-returns-else-part-eq-WORDS c =
-    let A = c.args in
-    unchanged A.part.now (received (ops_in (min A.n ops_most) A.ops.now) (stamp_of A.t)) c.if-part-eq-WORDS.false

@@ -16,6 +16,3 @@ returns-then-i-lt-OPERATIONS_WIDE c =
       kept = λ h. absurd (omega arith);
       size = laid_size A.out.now c.lay.new.w (A.kind ∷ (A.item ∷ (A.value ∷ []))) A.i refl (omega (arith, c.well_formed)) there c.lay.ensures;
     }
-
-pub returns-else-i-lt-OPERATIONS_WIDE : goal.returns-else-i-lt-OPERATIONS_WIDE
-returns-else-i-lt-OPERATIONS_WIDE c = record { laid = λ h. absurd (omega (arith, c.if-i-lt-OPERATIONS_WIDE.false)); behind = λ h. refl; kept = λ h. refl; size = refl }

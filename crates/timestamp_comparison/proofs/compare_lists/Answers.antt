@@ -1,5 +1,5 @@
 -- `compare_lists` walks to the first tuples that differ, or to an end: those before i are shared.
-use mathlib.Core.Path.{◌≡◌, sym, ap₂, ◌∙◌}
+use mathlib.Core.Path.{◌≡◌, sym, ap₂, subst, ◌∙◌}
 use mathlib.Core.Bool.{Bool}
 use mathlib.Core.List.{List}
 use Prim.Native.Nat.{ℕ, ◌<◌}
@@ -7,9 +7,11 @@ use native.Mathlib.Omega.{arith}
 use native.Mathlib.Numerals.{add-one}
 use lib.ListN.{length, get_or}
 use Rattle.timestamp_order.specs.declared.Order.{Order}
+use Rattle.timestamp_order.specs.declared.Order.TheVariants.{Earlier, Equal}
+use Rattle.timestamp_order.specs.declared.Parting.TheVariants.{After}
 use Rattle.timestamp_order.specs.Timestamp.{no_pair}
 use Rattle.timestamp_order.specs.Order.{rank, pair_order}
-use Rattle.timestamp_order.specs.Parting.{same_pair}
+use Rattle.timestamp_order.specs.Parting.{same_pair, Compares}
 use Rattle.timestamp_order.proofs.PartingLaws.{goes_on, they_differ, first_ends, second_ends, both_end}
 use Rattle.timestamp_words.specs.InWords.{stamp_in, tuple_in}
 use Rattle.timestamp_words.proofs.Shaped.{tuple_law}
@@ -51,9 +53,13 @@ loop-i-preserved c =
 pub returns-then-n-m : goal.returns-then-n-m
 returns-then-n-m c =
     let A = c.args in
-    first_ends (rank A.places) (stamp_in A.a.now) (stamp_in A.b.now) c.requires c.loop-i.i c.loop-i.invariant.1 (omega (arith, c.size_in-n.ensures.0, c.loop-i-test.false)) (omega (arith, c.size_in-m.ensures.0, c.loop-i.invariant.0, c.if-n-m.true))
+    let all : c.loop-i.i ≡ c.size_in-n.result = omega (arith, c.loop-i.invariant.0, c.loop-i-test.false) in
+    subst (λ (k : ℕ). Compares (rank A.places) (stamp_in A.a.now) (stamp_in A.b.now) (record { order = Earlier; parting = After k })) all
+    (first_ends (rank A.places) (stamp_in A.a.now) (stamp_in A.b.now) c.requires c.loop-i.i c.loop-i.invariant.1 (omega (arith, c.size_in-n.ensures.0, c.loop-i-test.false)) (omega (arith, c.size_in-m.ensures.0, all, c.if-n-m.true)))
 
 pub returns : goal.returns
 returns c =
     let A = c.args in
-    both_end (rank A.places) (stamp_in A.a.now) (stamp_in A.b.now) c.requires c.loop-i.i c.loop-i.invariant.1 (omega (arith, c.size_in-n.ensures.0, c.loop-i-test.false)) (omega (arith, c.size_in-m.ensures.0, c.loop-i-test.false, c.if-n-m.false))
+    let all : c.loop-i.i ≡ c.size_in-n.result = omega (arith, c.loop-i.invariant.0, c.loop-i-test.false) in
+    subst (λ (k : ℕ). Compares (rank A.places) (stamp_in A.a.now) (stamp_in A.b.now) (record { order = Equal; parting = After k })) all
+    (both_end (rank A.places) (stamp_in A.a.now) (stamp_in A.b.now) c.requires c.loop-i.i c.loop-i.invariant.1 (omega (arith, c.size_in-n.ensures.0, c.loop-i-test.false)) (omega (arith, c.size_in-m.ensures.0, all, c.if-n-m.false)))

@@ -1,5 +1,4 @@
 -- `from_words` reads the epoch, the number of tuples and the eight places.
-use mathlib.Core.Path.{◌∙◌}
 use Rattle.timestamp.proofs.Plain.{plain_as}
 use Rattle.timestamp_words.proofs.Words.{in_law}
 use Rattle.timestamp_words.proofs.from_words.Goals as goal
@@ -8,6 +7,6 @@ pub returns : goal.returns
 returns c =
     let e = c.epoch_in in
     plain_as
-    (in_law c.args.w.now e.result c.wide.result c.tuples_in.result
-    e.ensures (c.wide.ensures ∙ c.word.ensures) c.tuples_in.ensures)
+    (in_law c.args.w.now e.result c.word.result c.tuples_in.result
+    e.ensures c.word.ensures c.tuples_in.ensures)
     c.plain.ensures
