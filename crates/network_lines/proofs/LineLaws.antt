@@ -13,11 +13,12 @@ use Rattle.network_layout.specs.Lent.{Lent}
 use Rattle.network_layout.proofs.AccessLaws.{line_start, line_lent, line_stepped}
 
 module _ (w : List ℕ) (k : ℕ) (r : Range ℕ) (is : r ≡ record { start = line_start k; end = line_start k + line_size }) where
+  -- by the start and the size
   abbrev Lends : Range ℕ → Type 0
-  Lends q = Lent line_size line_in (get_or (network_in w).lines k no_line) (part w q.start (q.end - q.start))
+  Lends q = Lent line_size line_in (get_or (network_in w).lines k no_line) (part w q.start (q.start + line_size - q.start))
 
-  pub lent_at : HasLine w k → Lends r
-  lent_at h = subst Lends (sym is) (line_lent w k h)
+  pub lent_from : HasLine w k → Lends r
+  lent_from h = subst Lends (sym is) (line_lent w k h)
 
   module _ (h : AtLine w k) (step : Line → Line) (ys : List ℕ) where
     abbrev Steps : Range ℕ → Type 0

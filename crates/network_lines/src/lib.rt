@@ -41,12 +41,13 @@ fn words_of(k: usize) -> Range<usize>
     a..a + LINE
 }
 
-// The words of line k.
+// The words of line k. It is seen here that they are `LINE`, as in `network_sites`.
 pub fn line_at(state: &[u32], k: usize) -> &[u32]
     requires { HasLine state.now k }
     ensures { Lent line_size line_in (get_or (network_in state.now).lines k no_line) result.now }
 {
-    &state[words_of(k)]
+    let a = words_of(k).start;
+    &state[a..a + LINE]
 }
 
 pub fn line_held(state: &[u32], k: usize) -> usize

@@ -6,11 +6,10 @@ use Prim.Native.Nat.{ℕ, zero, suc, ◌+◌, ◌*◌, ◌≤◌, ◌<◌}
 use native.Mathlib.Omega.{arith}
 use native.Mathlib.Numerals.{add-one}
 use lib.ListN.{length, get_or, replicate}
-use Rattle.words.specs.Words.{part, put, chunks, laid}
+use Rattle.words.specs.Words.{part, put, chunks}
 use Rattle.lists.specs.Lists.{every}
 use Rattle.words.proofs.Parts.{part_get_d, put_here}
 use Rattle.words.proofs.Chunks.{mul_room, chunks_last, chunks_below}
-use Rattle.words.proofs.Walks.{laid_in}
 use Rattle.lists.proofs.Every.{every_snoc}
 use Rattle.lines.specs.Lines.{Line, no_line}
 use Rattle.lines.specs.InWords.{line_in, line_range, line_size}
@@ -35,32 +34,35 @@ pub none_cleared : (w : List ℕ) → Cleared w 0
 unfolding chunks
 none_cleared w = record { are = refl; ranged = refl }
 
--- the counts of line k laid behind those before it
-module _ (w v : List ℕ) (k : ℕ) (s : ClearingNext w k) (e : v ≡ laid w (k * line_size) (0 ∷ (0 ∷ []))) where
+-- line k behind those before it
+module _ (w : List ℕ) (k : ℕ) (s : ClearingNext w k) where
+  pub inside : k * line_size + 2 ≤ length w
+  inside = omega (arith, s.sized, mul_room k lines_most line_size s.room)
+
+-- its counts put there
+module _ (w v : List ℕ) (k : ℕ) (s : ClearingNext w k) (new : v ≡ put w (k * line_size) 2 (0 ∷ (0 ∷ []))) where
   abbrev at : ℕ
   at = k * line_size
 
   abbrev counts : List ℕ
   counts = 0 ∷ (0 ∷ [])
 
-  inside : at + 2 ≤ length w
-  inside = omega (arith, s.sized, mul_room k lines_most line_size s.room)
-
-  new : v ≡ put w at 2 counts
-  new = e ∙ laid_in w at counts inside
-
   abbrev line : List ℕ
   line = part v at line_size
 
   count : (i : ℕ) → i < 2 → get_or line i 0 ≡ get_or counts i 0
   count i h =
-      part_get_d v at line_size i (omega arith) ∙ ap (λ (x : List ℕ). get_or x (at + i) 0) new ∙ sym (part_get_d (put w at 2 counts) at 2 i h) ∙ ap (λ (x : List ℕ). get_or x i 0) (put_here w at 2 counts inside refl)
+      part_get_d v at line_size i (omega arith)
+      ∙ ap (λ (x : List ℕ). get_or x (at + i) 0) new
+      ∙ sym (part_get_d (put w at 2 counts) at 2 i h)
+      ∙ ap (λ (x : List ℕ). get_or x i 0) (put_here w at 2 counts (inside w k s) refl)
 
   clear_chunks : chunks line_size (k + 1) v ≡ chunks line_size k w ++ (line ∷ [])
   clear_chunks =
       ap (λ (n : ℕ). chunks line_size n v) (add-one k)
       ∙ chunks_last line_size k v
-      ∙ ap {B = List (List ℕ)} (λ (x : List (List ℕ)). x ++ (line ∷ [])) (ap (chunks line_size k) new ∙ chunks_below line_size k w at 2 counts (omega arith) inside refl)
+      ∙ ap {B = List (List ℕ)} (λ (x : List (List ℕ)). x ++ (line ∷ []))
+      (ap (chunks line_size k) new ∙ chunks_below line_size k w at 2 counts (omega arith) (inside w k s) refl)
 
   pub one_cleared : Cleared v (k + 1)
   one_cleared =

@@ -34,5 +34,6 @@ fn clear_one(w: &mut [u32], k: usize)
     requires { ClearingNext w.old k }
     ensures { Cleared w.new (k + 1) }
 {
-    words::lay(w, k * LINE, &[0, 0]);
+    let a = k * LINE;
+    w[a..a + 2].fill(0);
 }

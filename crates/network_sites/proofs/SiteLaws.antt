@@ -17,6 +17,10 @@ module _ (w : List ℕ) (k : ℕ) (h : AtSite w k) (r : Range ℕ) (is : r ≡ r
   pub lent_at : Lent site_size site_in (site_at (network_in w) k) (part w r.start (r.end - r.start))
   lent_at = subst (λ (q : Range ℕ). Lent site_size site_in (site_at (network_in w) k) (part w q.start (q.end - q.start))) (sym is) (site_lent w k h)
 
+  -- the same by the start and the size
+  pub lent_from : Lent site_size site_in (site_at (network_in w) k) (part w r.start (r.start + site_size - r.start))
+  lent_from = subst (λ (q : Range ℕ). Lent site_size site_in (site_at (network_in w) k) (part w q.start (q.start + site_size - q.start))) (sym is) (site_lent w k h)
+
   module _ (step : Site → Site) (ys : List ℕ) where
     abbrev Steps : Range ℕ → Type 0
     Steps q =

@@ -30,12 +30,14 @@ fn words_of(i: usize) -> Range<usize>
     a..a + SITE
 }
 
-// The words of site i.
+// The words of site i. It is seen here that they are `SITE`; by the end of `words_of` the compiler would not know it, and timestamps compared
+// where they lie would be tested for their length, word by word.
 pub fn site_at(state: &[u32], i: usize) -> &[u32]
     requires { AtSite state.now i }
     ensures { Lent site_size site_in (site_at (network_in state.now) i) result.now }
 {
-    &state[words_of(i)]
+    let a = words_of(i).start;
+    &state[a..a + SITE]
 }
 
 pub fn site_stamp(state: &[u32], i: usize) -> Timestamp
